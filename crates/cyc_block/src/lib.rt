@@ -18,6 +18,7 @@ pub use head::{HeadNumbers, HeadState, head_count, head_image, read_head_image};
 pub use image::{Image, Stamp, block_image, read_image};
 pub use memory::MemoryBlocks;
 pub use store::{BlockStore, DeviceFailed};
+pub use tally::Tally;
 
 /// The octets of a block.
 pub const BLOCK_OCTETS: usize = 512;

@@ -5,7 +5,7 @@ use std::snapshot::Snapshot;
 /// How often something was done, a count without end that contracts alone see. It takes no bytes:
 /// each tally stands on a snapshot of the one before.
 #[derive(Drop)]
-pub(crate) struct Tally {
+pub struct Tally {
     before: Snapshot<Option<Tally>>,
 }
 
@@ -29,7 +29,7 @@ impl Tally {
     ghost use Rattle.std.specs.Prelude.{◌≡◌, ◌+◌};
 
     /// Nothing was done yet.
-    pub(crate) fn new() -> Tally
+    pub fn new() -> Tally
         ensures { result ≡ 0 }
     {
         let none: Option<Tally> = None;
@@ -39,7 +39,7 @@ impl Tally {
     }
 
     /// It was done once more.
-    pub(crate) fn add_one(&mut self)
+    pub fn add_one(&mut self)
         ensures { self.new ≡ self.old + 1 }
     {
         let before = Some(mem::replace(self, Tally::new()));

@@ -1,9 +1,7 @@
 -- What a store of runs keeps over its calls.
-use Rattle.std.proofs.Common.{◌≡◌, ◌∙◌, ◌+◌, ◌<◌, ◌≤◌, ◌++◌, ◌∷◌, [], ℕ, List, length, ap, sym}
+use Rattle.std.proofs.Common.{◌≡◌, ◌∙◌, ◌+◌, ◌<◌, ◌≤◌, ℕ, List, length, ap, sym}
 use Rattle.std.proofs.Common.{subst, Result, Ok, Err, OnErr, OnOk}
-use Rattle.std.proofs.lemmas.List.{length_push}
 use Rattle.std.proofs.lemmas.Result.{on_err_weaker, on_ok_weaker}
-use Rattle.http_server.specs.declared.log.Log.{Log}
 use Rattle.cyc_block.specs.declared.TheConstants.{BLOCK_OCTETS}
 use Rattle.news_terms.specs.HeadBlocks.{head_blocks}
 use Rattle.file_blocks.specs.Blocks.{blocks_of, heads_of, ChangesOnlyAt}
@@ -77,15 +75,6 @@ asks_behind {F} g most old mid new result same asks = record {
   failed = on_err_weaker result (λ is. is ∙ ap (λ (f : F). g.failures f + 1) same) asks.failed;
   no_failure = on_ok_weaker result (λ is. is ∙ ap (λ (f : F). g.failures f) same) asks.no_failure;
 }
-
--- a log with one call more has one call more
-pub asked_once : {A : Type 0} (was now : List A) (one : A) → now ≡ was ++ one ∷ []
-    → length now ≡ length was + 1
-asked_once {A} was now one more = ap (λ (xs : List A). length xs) more ∙ length_push was one
-
--- a log that is the same has as many calls
-pub asked_as : (was now : Log ℕ (Unit {0})) → now ≡ was → length now.items ≡ length was.items
-asked_as was now same = ap (λ (log : Log ℕ (Unit {0})). length log.items) same
 
 -- what is so anyway is so where a call answered Ok
 pub any_ok : {T E P : Type 0} (result : Result T E) → P → OnOk result P

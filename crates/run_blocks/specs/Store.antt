@@ -1,5 +1,5 @@
 -- What a store of runs holds.
-use Rattle.std.specs.Prelude.{◌≡◌, ◌≢◌, ◌⊎◌, ◌+◌, ◌-◌, ◌<◌, ◌≤◌, ℕ, List, length, slice_set, IsTrue}
+use Rattle.std.specs.Prelude.{◌≡◌, ◌≢◌, ◌⊎◌, ◌+◌, ◌-◌, ◌<◌, ◌≤◌, ℕ, List, slice_set, IsTrue}
 use Rattle.std.specs.Prelude.{Result, OnErr, OnOk}
 use Rattle.cyc_block.specs.Store.{block_at, ChangesOnly}
 use Rattle.file_blocks.specs.Blocks.{blocks_of, heads_of}
@@ -20,7 +20,7 @@ count_of store = store.count
 
 -- how often the store was asked
 abbrev pub asked_of : {F : Type 0} → RunBlocks F → ℕ
-asked_of store = length store.asked.items
+asked_of store = store.asked
 
 -- the blocks that were taken and aren't written yet
 abbrev pub gathered_of : {F : Type 0} → RunBlocks F → List (List ℕ)

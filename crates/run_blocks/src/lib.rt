@@ -7,6 +7,7 @@
 //! write of an article's last block none of its blocks is in memory alone.
 #![tactic(auto)]
 
+mod course;
 mod file;
 mod gathering;
 mod host;

@@ -4,11 +4,11 @@ ghost use Rattle.std.specs.Prelude.{IfOk, IsTrue, OnErr, OnOk};
 ghost use Rattle.news_terms.specs.HeadBlocks.{head_blocks};
 ghost use Rattle.cyc_block.specs.Store.{block_at, ChangesOnly};
 
+use crate::course::Course;
 use crate::file::RunFile;
 use crate::run::Run;
-use cyc_block::{BLOCK_OCTETS, BlockStore, DeviceFailed};
+use cyc_block::{BLOCK_OCTETS, BlockStore, DeviceFailed, Tally};
 use file_blocks::{HostFile, head_place_of};
-use http_server::Log;
 use std::alloc::{AllocError, Global};
 
 /// The first blocks of a file: block k has the 512 octets from 512 k on. Its head blocks follow
@@ -20,22 +20,16 @@ pub struct RunBlocks<F = HostFile> {
     pub(crate) file: F,
     /// How many blocks there are.
     pub(crate) count: u32,
-    /// Each call of the store, by the number of its block.
-    pub(crate) asked: Log<u32, ()>,
+    /// The calls of the store.
+    pub(crate) asked: Tally,
     /// What was taken and isn't written yet.
     pub(crate) gathered: Run,
     /// Whether that couldn't be written: it is set aside then, and nothing more is gathered.
     pub(crate) set_aside: bool,
     /// What was read at once, as it is in the file.
     pub(crate) ahead: Run,
-    /// The block that is expected to be read next; the highest number, which no block has, at
-    /// first.
-    pub(crate) expected: u32,
-    /// How many blocks of its article are there from that on, as the block before it says.
-    pub(crate) left: u32,
-    /// How many reads in a row were of the block that was expected, since the last block of an
-    /// article was passed.
-    pub(crate) in_order: u32,
+    /// What is expected to be read next.
+    pub(crate) course: Course,
     ghost few: { count < 2 ^ 32 },
     ghost aside_some: { IsTrue set_aside → 0 < gathered.count },
     ghost gathered_within: { gathered.first + gathered.count ≤ count },
@@ -64,10 +58,8 @@ impl<F: RunFile> RunBlocks<F> {
             set_aside: false,
             file,
             count: n,
-            asked: Log::new(),
-            expected: u32::MAX,
-            left: 0,
-            in_order: 0,
+            asked: Tally::new(),
+            course: Course::new(),
         })
     }
 
@@ -124,18 +116,18 @@ impl<F: RunFile> BlockStore for RunBlocks<F> {
         ensures gathered { gathered_of self.new ≡ gathered_of self.old }
         ensures file { AsksFile F.RunFile 1 self.old self.new result }
     {
-        self.asked = self.asked.and(&k, &());
+        self.asked.add_one();
         if self.gathered.holds(k) {
             self.gathered.get(k, octets);
             return Ok(());
         }
         if self.ahead.holds(k) {
             self.ahead.get(k, octets);
-            self.expect(k, octets);
+            self.course.expect(k, octets);
             return Ok(());
         }
         self.read_there(k, octets)?;
-        self.expect(k, octets);
+        self.course.expect(k, octets);
         Ok(())
     }
 
@@ -172,7 +164,7 @@ impl<F: RunFile> BlockStore for RunBlocks<F> {
         ensures aside { OnErr result ((j : ℕ) → IsInMemory self.new j → IsSetAside self.new) }
         ensures file { AsksFile F.RunFile 2 self.old self.new result }
     {
-        self.asked = self.asked.and(&k, &());
+        self.asked.add_one();
         if self.set_aside {
             return self.write_past(k, octets);
         }
@@ -195,7 +187,7 @@ impl<F: RunFile> BlockStore for RunBlocks<F> {
         ensures gathered { gathered_of self.new ≡ gathered_of self.old }
         ensures file { AsksFile F.RunFile 1 self.old self.new result }
     {
-        self.asked = self.asked.and(&k, &());
+        self.asked.add_one();
         self.file.read(head_place_of(self.count, k), octets)
     }
 
@@ -220,7 +212,7 @@ impl<F: RunFile> BlockStore for RunBlocks<F> {
         ensures aside { OnErr result ((j : ℕ) → IsInMemory self.new j → IsSetAside self.new) }
         ensures file { AsksFile F.RunFile 2 self.old self.new result }
     {
-        self.asked = self.asked.and(&k, &());
+        self.asked.add_one();
         self.clear_way()?;
         self.file.write(head_place_of(self.count, k), octets)
     }

@@ -3,7 +3,7 @@ use Rattle.std.proofs.Common.{◌∙◌, sym, refl}
 use Rattle.std.proofs.lemmas.Bool.{false≢true}
 use Rattle.run_blocks.specs.Run.{blocks_in}
 use Rattle.run_blocks.specs.Store.{blocks_there}
-use Rattle.run_blocks.proofs.CallLemmas.{asked_as, asked_once, honest_as, is_within, same_seen}
+use Rattle.run_blocks.proofs.CallLemmas.{honest_as, is_within, same_seen}
 use Rattle.run_blocks.proofs.SeenLemmas.{copy_read, gathered_seen, there_seen}
 use Rattle.run_blocks.proofs.store.RunBlocksBlockStore.read.Goals as goal
 
@@ -48,21 +48,43 @@ returns-clause-octets g c honest =
 
 pub returns-clause-count : goal.returns-clause-count
 returns-clause-count g c =
-    same_seen g.F.RunFile c.args.self.now c.expect-2.new.self
-    (c.expect-2.ensures.count ∙ c.read_there.ensures.seen.count)
+    same_seen g.F.RunFile c.args.self.now c.read_there.new.self c.read_there.ensures.seen.count
+
+pub get-requires : goal.get-requires
+get-requires g c = c.holds.ensures.0 c.if-holds.true
+
+pub get-requires-then-holds-2 : goal.get-requires-then-holds-2
+get-requires-then-holds-2 g c = c.holds-2.ensures.0 c.if-holds-2.true
+
+pub returns-then-holds-clause-honest : goal.returns-then-holds-clause-honest
+returns-then-holds-clause-honest g c honest =
+    honest_as g.F.RunFile c.args.self.now _ refl refl refl honest
+
+pub returns-then-holds-2-clause-honest : goal.returns-then-holds-2-clause-honest
+returns-then-holds-2-clause-honest g c honest =
+    honest_as g.F.RunFile c.args.self.now _ refl refl refl honest
+
+pub returns-clause-same : goal.returns-clause-same
+returns-clause-same g c honest =
+    c.read_there.ensures.seen.blocks (honest_as g.F.RunFile c.args.self.now _ refl refl refl honest)
+
+pub returns-clause-heads : goal.returns-clause-heads
+returns-clause-heads g c honest =
+    c.read_there.ensures.seen.heads (honest_as g.F.RunFile c.args.self.now _ refl refl refl honest)
+
+pub returns-clause-honest : goal.returns-clause-honest
+returns-clause-honest g c honest =
+    honest_as g.F.RunFile c.read_there.new.self _ refl refl refl
+    (c.read_there.ensures.seen.honest
+    (honest_as g.F.RunFile c.args.self.now _ refl refl refl honest))
+
+pub returns-clause-file : goal.returns-clause-file
+returns-clause-file g c =
+    let asks = c.in_ok-read_there.ensures.file in
+    record { calls = asks.calls; failed = asks.failed; no_failure = asks.no_failure }
 
 pub returns-clause-calls : goal.returns-clause-calls
-returns-clause-calls g c =
-    asked_as _ _ c.expect-2.ensures.asked ∙ c.read_there.ensures.asked
-    ∙ asked_once _ _ _ c.and-self.ensures
+returns-clause-calls g c = c.read_there.ensures.asked ∙ c.add_one.ensures
 
 pub returns-in_err-read_there-clause-calls : goal.returns-in_err-read_there-clause-calls
-returns-in_err-read_there-clause-calls g c =
-    c.read_there.ensures.asked ∙ asked_once _ _ _ c.and-self.ensures
-
-pub returns-then-holds-clause-calls : goal.returns-then-holds-clause-calls
-returns-then-holds-clause-calls g c = asked_once _ _ _ c.and-self.ensures
-
-pub returns-then-holds-2-clause-calls : goal.returns-then-holds-2-clause-calls
-returns-then-holds-2-clause-calls g c =
-    asked_as _ _ c.expect.ensures.asked ∙ asked_once _ _ _ c.and-self.ensures
+returns-in_err-read_there-clause-calls g c = c.read_there.ensures.asked ∙ c.add_one.ensures

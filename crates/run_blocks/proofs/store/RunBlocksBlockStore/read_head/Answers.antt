@@ -3,7 +3,7 @@ use Rattle.std.proofs.Common.{◌∙◌, ℕ, ap, refl}
 use Rattle.std.proofs.lemmas.Result.{on_ok_weaker}
 use Rattle.file_blocks.proofs.HeadLemmas.{read_head_block}
 use Rattle.run_blocks.specs.File.{octets_in}
-use Rattle.run_blocks.proofs.CallLemmas.{asked_once, head_within}
+use Rattle.run_blocks.proofs.CallLemmas.{head_within}
 use Rattle.run_blocks.proofs.SeenLemmas.{two_seen}
 use Rattle.run_blocks.proofs.store.RunBlocksBlockStore.read_head.Goals as goal
 
@@ -28,4 +28,4 @@ returns-clause-count g c =
     run.octets.items refl store.gathered_within store.gathered_within
 
 pub returns-clause-calls : goal.returns-clause-calls
-returns-clause-calls g c = asked_once _ _ _ c.and-self.ensures
+returns-clause-calls g c = c.add_one.ensures

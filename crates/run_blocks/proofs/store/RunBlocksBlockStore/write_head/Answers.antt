@@ -7,7 +7,7 @@ use Rattle.run_blocks.specs.File.{octets_in}
 use Rattle.run_blocks.specs.Overlay.{overlaid}
 use Rattle.run_blocks.specs.Run.{blocks_in}
 use Rattle.run_blocks.specs.Store.{IsCopy}
-use Rattle.run_blocks.proofs.CallLemmas.{any_err, asked_once, block_change, head_within, honest_as}
+use Rattle.run_blocks.proofs.CallLemmas.{any_err, any_ok, block_change, head_within, honest_as}
 use Rattle.run_blocks.proofs.CallLemmas.{same_seen}
 use Rattle.run_blocks.proofs.SeenLemmas.{two_seen}
 use Rattle.run_blocks.proofs.store.RunBlocksBlockStore.write_head.Goals as goal
@@ -94,6 +94,21 @@ returns-clause-count g c =
 pub returns-clause-aside : goal.returns-clause-aside
 returns-clause-aside g c = any_err c.write.result c.in_ok-clear_way.ensures.rest
 
+pub returns-clause-flushed : goal.returns-clause-flushed
+returns-clause-flushed g c free =
+    any_ok c.write.result (c.in_ok-clear_way.ensures.written free)
+
+pub returns-clause-file : goal.returns-clause-file
+returns-clause-file g c =
+    let way = c.in_ok-clear_way.ensures.file in
+    record {
+      calls = omega (arith, way.calls, c.write.ensures.calls);
+      failed = on_err_weaker c.write.result (λ is. is ∙ ap (λ n. n + 1) way.no_failure)
+          c.write.ensures.failed;
+      no_failure = on_ok_weaker c.write.result (λ is. is ∙ way.no_failure)
+          c.write.ensures.no_failure;
+    }
+
 pub returns-clause-once : goal.returns-clause-once
 returns-clause-once g c aside =
     let same = c.clear_way.ensures.unasked aside in
@@ -108,8 +123,8 @@ returns-clause-once g c aside =
 
 pub returns-clause-calls : goal.returns-clause-calls
 returns-clause-calls g c =
-    c.clear_way.ensures.asked ∙ asked_once _ _ _ c.and-self.ensures
+    c.clear_way.ensures.asked ∙ c.add_one.ensures
 
 pub returns-in_err-clear_way-clause-calls : goal.returns-in_err-clear_way-clause-calls
 returns-in_err-clear_way-clause-calls g c =
-    c.clear_way.ensures.asked ∙ asked_once _ _ _ c.and-self.ensures
+    c.clear_way.ensures.asked ∙ c.add_one.ensures
