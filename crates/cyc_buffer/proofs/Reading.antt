@@ -22,6 +22,7 @@ use Rattle.cyc_buffer.specs.Marks.{is_marked}
 use Rattle.cyc_buffer.specs.Progress.{stamp_of}
 use Rattle.cyc_buffer.specs.BufferState.{IsUnpassed, Keeps, buffer_of}
 use Rattle.cyc_buffer.specs.declared.answers.Found.TheVariants as found
+use Rattle.cyc_buffer.specs.declared.answers.Front.{Front}
 use Rattle.cyc_buffer.specs.declared.buffer_state.Look.TheVariants as look
 use Rattle.cyc_buffer.specs.declared.buffer_state.BufferState.{BufferState}
 use Rattle.cyc_buffer.proofs.Places.{chosen, one_cycle}
@@ -176,6 +177,16 @@ look_block (Some (Chunk octets)) m block b e = absurd cc
 look_block (Some (Gone front)) m block b e = absurd cc
 look_block (Some Unknown) m block b e = absurd cc
 
+-- what a look says of a block tells a block, a token that is gone and one that isn't known apart
+unknown_block : {block : ℕ} → look.Unknown ≡ look.Block block → ⊥
+unknown_block e = cc
+
+gone_block : {block : ℕ} → look.Block block ≡ look.Gone → ⊥
+gone_block e = cc
+
+gone_unknown : look.Unknown ≡ look.Gone → ⊥
+gone_unknown e = cc
+
 -- where the register says that nothing is known, that is the answer
 pub unknown_answer : (r : BufferState) (h : History) (token : Token) (k : ℕ) → Keeps r h
     → r.line.used ≤ r.line.blocks
@@ -186,15 +197,34 @@ unknown_answer r h token k keeps room e =
     by_answer : (o : Option Answer) → numbers_of r token k ≡ o → (m : Bool)
         → has_marks r token k ≡ m
         → look.Unknown ≡ look_by o m (token.first + k) → answer h (token_view token) k ≡ Unknown
-    by_answer None is true marks e = absurd cc
+    by_answer None is true marks e = absurd (unknown_block e)
     by_answer None is false marks e = answer_unmarked r h token k keeps room is marks
     by_answer (Some (Chunk octets)) is m marks e =
         absurd (no_chunk (buffer_of r.line) (on_line r.line.blocks r.line.cycle r.line.used)
         (token_view token) k octets is)
-    by_answer (Some (Gone front)) is m marks e = absurd cc
+    by_answer (Some (Gone front)) is m marks e = absurd (gone_unknown e)
     by_answer (Some Unknown) is m marks e =
         ap (λ (o : Option Answer). or_by_text o (by_text k (text_under h (token_view token))))
         (sym (numbers_same r h token k keeps) ∙ is)
+
+-- what a look says to be gone is so by the numbers
+gone_by : (o : Option Answer) (m : Bool) (block : ℕ) → look_by o m block ≡ look.Gone
+    → (front : Front) × (o ≡ Some (Gone front))
+gone_by None true block e = absurd (gone_block e)
+gone_by None false block e = absurd (gone_unknown e)
+gone_by (Some (Chunk octets)) m block e = absurd (gone_unknown e)
+gone_by (Some (Gone front)) m block e = (front, refl)
+gone_by (Some Unknown) m block e = absurd (gone_unknown e)
+
+-- with the register's front
+pub gone_numbers : (r : BufferState) (token : Token) (k : ℕ) → look_of r token k ≡ look.Gone
+    → numbers_of r token k
+    ≡ Some (Gone (front_view (buffer_of r.line) (on_line r.line.blocks r.line.cycle r.line.used)))
+gone_numbers r token k is =
+    let gone = gone_by (numbers_of r token k) (has_marks r token k) (token.first + k) is in
+    gone.1 ∙ ap (λ (front : Front). Some (Gone front))
+    (gone_front (buffer_of r.line) (on_line r.line.blocks r.line.cycle r.line.used)
+    (token_view token) k gone.0 gone.1)
 
 -- where the register says that an article is gone, that is the answer
 pub gone_answer : (r : BufferState) (h : History) (token : Token) (k : ℕ) → Keeps r h
@@ -202,21 +232,8 @@ pub gone_answer : (r : BufferState) (h : History) (token : Token) (k : ℕ) → 
     → answer h (token_view token) k
     ≡ Gone (front_view (buffer_of r.line) (on_line r.line.blocks r.line.cycle r.line.used))
 gone_answer r h token k keeps e =
-    by_answer (numbers_of r token k) refl (has_marks r token k) e
-  where
-    by_answer : (o : Option Answer) → numbers_of r token k ≡ o → (m : Bool)
-        → look.Gone ≡ look_by o m (token.first + k)
-        → answer h (token_view token) k
-        ≡ Gone (front_view (buffer_of r.line) (on_line r.line.blocks r.line.cycle r.line.used))
-    by_answer None is true e = absurd cc
-    by_answer None is false e = absurd cc
-    by_answer (Some (Chunk octets)) is m e = absurd cc
-    by_answer (Some (Gone front)) is m e =
-        ap (λ (o : Option Answer). or_by_text o (by_text k (text_under h (token_view token))))
-        (sym (numbers_same r h token k keeps) ∙ is)
-        ∙ ap Gone (gone_front (buffer_of r.line)
-        (on_line r.line.blocks r.line.cycle r.line.used) (token_view token) k front is)
-    by_answer (Some Unknown) is m e = absurd cc
+    ap (λ (o : Option Answer). or_by_text o (by_text k (text_under h (token_view token))))
+    (sym (numbers_same r h token k keeps) ∙ gone_numbers r token k (sym e))
 
 -- the block of an article that lies in the buffer is one
 pub is_block : (cycle first k : ℕ) (a : Article) → cycle < 2 ^ 32 → first + k < 2 ^ 32

@@ -1,55 +1,20 @@
 -- What a buffer's memory says, whatever its store holds.
-use Rattle.std.proofs.Common.{◌≡◌, ◌∙◌, ℕ, ◌+◌, ◌<◌, ◌++◌, ◌∷◌, [], inl, inr, refl, sym, ap}
-use Rattle.std.proofs.Common.{subst, arith, cond, Bool, true, false, List, Option, None, Some}
-use Rattle.std.proofs.Common.{nat_lt}
+use Rattle.std.proofs.Common.{◌≡◌, ◌∙◌, ℕ, ◌+◌, ◌<◌, ◌++◌, ◌∷◌, [], inl, inr, sym, ap, subst}
+use Rattle.std.proofs.Common.{arith, Bool, true, false, List}
 use Rattle.std.specs.List.{Contains}
 use Rattle.std.proofs.lemmas.Bool.{and_parts, false≢true, cases_order}
 use Rattle.std.proofs.lemmas.List.Elements.{All-push, Contains-push, Contains-append_left}
 use Rattle.cyc_token.specs.Token.{token_view}
 use Rattle.cyc_token.specs.declared.Token.{Token}
-use Rattle.cyc_buffer.specs.Answers.{Answer, Chunk, Gone, Unknown, front_view}
-use Rattle.cyc_buffer.specs.Answers.{is_beyond}
-use Rattle.cyc_buffer.specs.Look.{look_by, look_of, has_marks, numbers_of}
+use Rattle.cyc_buffer.specs.Look.{look_of, has_marks, numbers_of}
 use Rattle.cyc_buffer.specs.Marks.{is_marked}
 use Rattle.cyc_buffer.specs.BufferState.{buffer_of}
 use Rattle.cyc_buffer.specs.Remembered.{ListsStarts, AreWithin}
-use Rattle.cyc_buffer.specs.declared.answers.Front.{Front}
 use Rattle.cyc_buffer.specs.declared.buffer_state.Look.TheVariants as look
 use Rattle.cyc_buffer.specs.declared.buffer_state.BufferState.{BufferState}
-use Rattle.news_terms.specs.Places.{Buffer, on_line}
+use Rattle.news_terms.specs.Places.{on_line}
 use Rattle.cyc_buffer.proofs.Numbers.{undecided}
 use Rattle.cyc_buffer.proofs.Reading.{look_block}
-
--- what is gone is so by the numbers
-pub gone_numbers : (r : BufferState) (token : Token) (k : ℕ) → look_of r token k ≡ look.Gone
-    → numbers_of r token k
-    ≡ Some (Gone (front_view (buffer_of r.line) (on_line r.line.blocks r.line.cycle r.line.used)))
-gone_numbers r token k is =
-    by_look (numbers_of r token k) (has_marks r token k) refl is
-  where
-    buffer : Buffer
-    buffer = buffer_of r.line
-
-    front : ℕ
-    front = on_line r.line.blocks r.line.cycle r.line.used
-
-    gone_only : (beyond passed : Bool) (f : Front)
-        → cond beyond (Some Unknown) (cond passed (Some (Gone (front_view buffer front))) None)
-        ≡ Some (Gone f) → front_view buffer front ≡ f
-    gone_only true passed f e = absurd cc
-    gone_only false true f e = cc
-    gone_only false false f e = absurd cc
-
-    by_look : (o : Option Answer) (m : Bool) → numbers_of r token k ≡ o
-        → look_by o m (token.first + k) ≡ look.Gone
-        → numbers_of r token k ≡ Some (Gone (front_view buffer front))
-    by_look None true is e = absurd cc
-    by_look None false is e = absurd cc
-    by_look (Some (Chunk octets)) m is e = absurd cc
-    by_look (Some Unknown) m is e = absurd cc
-    by_look (Some (Gone f)) m is e = is ∙ ap (λ (x : Front). Some (Gone x))
-        (sym (gone_only (is_beyond buffer front (token_view token) k)
-        (nat_lt (on_line buffer.blocks token.cycle token.first + buffer.blocks) front) f is))
 
 -- a block is read of the buffer's articles alone, where one begins
 pub read_within : (r : BufferState) (token : Token) (k block : ℕ)

@@ -131,3 +131,19 @@ returns-clause-held g c =
 pub returns-clause-no_failure : goal.returns-clause-no_failure
 returns-clause-no_failure g c =
     c.in_ok-read_images.ensures.no_failure ∙ c.in_ok-octets.ensures.no_failure
+
+pub read_images-requires-clause-some : goal.read_images-requires-clause-some
+read_images-requires-clause-some g c = c.begins_with.ensures.some c.if-not-begins_with.false
+
+pub read_images-requires-clause-within : goal.read_images-requires-clause-within
+read_images-requires-clause-within g c =
+    omega (
+      arith,
+      c.begins_with.ensures.ends c.if-not-begins_with.false,
+      c.requires.within,
+      c.in_ok-octets.ensures.held.count,
+    )
+
+pub returns-clause-calls : goal.returns-clause-calls
+returns-clause-calls g c =
+    omega (arith, c.in_ok-octets.ensures.calls, c.in_ok-read_images.ensures.calls)

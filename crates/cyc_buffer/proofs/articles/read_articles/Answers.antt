@@ -168,3 +168,9 @@ returns-clause-listed g c =
     c.loop-first.tokens.items)
     (omega (arith, c.requires.order, c.loop-first-test.false, c.loop-first.auto.first))
     c.loop-first.invariant.listed
+
+pub returns-clause-within : goal.returns-clause-within
+returns-clause-within g c = c.loop-first.invariant.within
+
+pub returns-then-is_err-clause-kept : goal.returns-then-is_err-clause-kept
+returns-then-is_err-clause-kept g c = c.change.ensures.room ∙ c.loop-first.invariant.room

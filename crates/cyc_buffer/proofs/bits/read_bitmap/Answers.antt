@@ -3,9 +3,9 @@ use Rattle.std.proofs.Common.{◌∙◌, ◌+◌, ◌-◌, ◌*◌, inl, inr, sy
 use Rattle.std.proofs.lemmas.Bool.{cases_lt}
 use Rattle.cyc_block.specs.Store.{block_at}
 use Rattle.cyc_buffer.specs.Marks.{is_marked}
-use Rattle.cyc_buffer.specs.Reads.{HasBitPast}
+use Rattle.cyc_buffer.specs.Reads.{HasBitPast, IsBlamed}
 use Rattle.cyc_buffer.proofs.BitLemmas.{bit_of, past_is_beyond}
-use Rattle.cyc_buffer.proofs.Refusals.{held_on}
+use Rattle.cyc_buffer.proofs.Refusals.{blamed_on, held_on, passed_on}
 use Rattle.cyc_buffer.proofs.bits.read_bitmap.Goals as goal
 
 pub returns-then-not-take_bits-clause-refused : goal.returns-then-not-take_bits-clause-refused
@@ -47,3 +47,32 @@ loop-i-preserved g c =
       ],
       omega (arith, c.read_head_octets.ensures.calls, c.loop-i.invariant.5),
     )
+
+pub returns-clause-bits : goal.returns-clause-bits
+returns-clause-bits g c honest j below =
+    c.loop-i.invariant.3 honest j
+    (omega (arith, below, c.loop-i-test.false, c.div_ceil-i-end.ensures)) below
+
+pub returns-then-not-take_bits-clause-held : goal.returns-then-not-take_bits-clause-held
+returns-then-not-take_bits-clause-held g c =
+    held_on g.S.BlockStore c.args.store.now c.loop-i.store c.read_head_octets.new.store
+    c.loop-i.invariant.0 c.in_ok-octets.ensures.held
+
+pub returns-then-not-take_bits-clause-room : goal.returns-then-not-take_bits-clause-room
+returns-then-not-take_bits-clause-room g c = c.take_bits.ensures.room ∙ c.loop-i.invariant.2
+
+pub returns-then-not-take_bits-clause-failed : goal.returns-then-not-take_bits-clause-failed
+returns-then-not-take_bits-clause-failed g c =
+    c.in_ok-octets.ensures.no_failure ∙ c.loop-i.invariant.1
+
+pub returns-in_err-octets-clause-held : goal.returns-in_err-octets-clause-held
+returns-in_err-octets-clause-held g c =
+    held_on g.S.BlockStore c.args.store.now c.loop-i.store c.read_head_octets.new.store
+    c.loop-i.invariant.0 c.in_err-octets.ensures.held
+
+pub returns-in_err-octets-clause-failed : goal.returns-in_err-octets-clause-failed
+returns-in_err-octets-clause-failed g c =
+    passed_on (IsBlamed g.S.BlockStore c.args.store.now c.read_head_octets.new.store)
+    c.in_err-octets.field-0.0 _ c.from_residual.ensures
+    (blamed_on g.S.BlockStore c.args.store.now c.loop-i.store c.read_head_octets.new.store
+    c.in_err-octets.field-0.0 c.loop-i.invariant.1 c.in_err-octets.ensures.failed)

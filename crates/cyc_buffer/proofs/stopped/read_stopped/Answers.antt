@@ -1,5 +1,6 @@
 -- All of the device was read, or something is wrong with it.
-use Rattle.std.proofs.Common.{◌≡◌, ◌∙◌, ℕ, length, refl, sym, ap, subst}
+use Rattle.std.proofs.Common.{◌≡◌, ◌∙◌, ℕ, length, refl, sym, ap, arith, subst}
+use Rattle.news_terms.specs.HeadBlocks.{HeadBlock}
 use Rattle.news_terms.specs.Places.{Buffer}
 use Rattle.cyc_block.specs.Heads.{head_view}
 use Rattle.cyc_buffer.specs.Marks.{is_marked}
@@ -145,3 +146,72 @@ pub returns-clause-no_failure : goal.returns-clause-no_failure
 returns-clause-no_failure g c =
     c.in_ok-tokens.ensures.no_failure ∙ c.in_ok-read_bitmap.ensures.no_failure
     ∙ c.in_ok-numbers.ensures.no_failure
+
+pub read_bitmap-requires-clause-count : goal.read_bitmap-requires-clause-count
+read_bitmap-requires-clause-count g c =
+    c.in_ok-numbers.ensures.held.count ∙ sym c.in_ok-numbers.ensures.blocks
+
+pub read_bitmap-requires-clause-room : goal.read_bitmap-requires-clause-room
+read_bitmap-requires-clause-room g c = c.in_ok-starts.ensures.room
+
+pub read_all-requires-clause-count : goal.read_all-requires-clause-count
+read_all-requires-clause-count g c =
+    c.in_ok-read_bitmap.ensures.held.count ∙ c.in_ok-numbers.ensures.held.count
+    ∙ sym c.in_ok-numbers.ensures.blocks
+
+pub read_all-requires-clause-room : goal.read_all-requires-clause-room
+read_all-requires-clause-room g c =
+    omega (arith, c.in_ok-starts.ensures.room, c.in_ok-read_bitmap.ensures.room)
+
+pub read_all-requires-clause-kept_room : goal.read_all-requires-clause-kept_room
+read_all-requires-clause-kept_room g c = c.in_ok-kept.ensures.room
+
+pub stopped_buffer_state-requires-clause-starts_room :
+    goal.stopped_buffer_state-requires-clause-starts_room
+stopped_buffer_state-requires-clause-starts_room g c =
+    omega (arith, c.in_ok-starts.ensures.room, c.in_ok-read_bitmap.ensures.room)
+
+pub stopped_buffer_state-requires-clause-starts_least :
+    goal.stopped_buffer_state-requires-clause-starts_least
+stopped_buffer_state-requires-clause-starts_least g c =
+    omega (arith, c.in_ok-starts.ensures.least, c.in_ok-read_bitmap.ensures.room)
+
+pub stopped_buffer_state-requires-clause-kept_room :
+    goal.stopped_buffer_state-requires-clause-kept_room
+stopped_buffer_state-requires-clause-kept_room g c =
+    omega (arith, c.in_ok-kept.ensures.room, c.in_ok-tokens.ensures.kept)
+
+pub stopped_buffer_state-requires-clause-kept_least :
+    goal.stopped_buffer_state-requires-clause-kept_least
+stopped_buffer_state-requires-clause-kept_least g c =
+    omega (arith, c.in_ok-kept.ensures.least, c.in_ok-tokens.ensures.kept)
+
+pub returns-clause-count : goal.returns-clause-count
+returns-clause-count g c =
+    ap (λ (b : HeadBlock). b.blocks) c.stopped_buffer_state.ensures.numbers
+    ∙ c.in_ok-numbers.ensures.blocks
+
+pub returns-in_err-read_bitmap-clause-held : goal.returns-in_err-read_bitmap-clause-held
+returns-in_err-read_bitmap-clause-held g c =
+    held_on g.S.BlockStore c.args.store.now c.read_closed.new.store c.read_bitmap.new.store
+    c.in_ok-numbers.ensures.held c.in_err-read_bitmap.ensures.held
+
+pub returns-in_err-read_bitmap-clause-failed : goal.returns-in_err-read_bitmap-clause-failed
+returns-in_err-read_bitmap-clause-failed g c =
+    passed_on (IsBlamed g.S.BlockStore c.args.store.now c.read_bitmap.new.store)
+    c.in_err-read_bitmap.field-0.0 _ c.from_residual-in_err-read_bitmap.ensures
+    (blamed_on g.S.BlockStore c.args.store.now c.read_closed.new.store c.read_bitmap.new.store
+    c.in_err-read_bitmap.field-0.0 c.in_ok-numbers.ensures.no_failure
+    c.in_err-read_bitmap.ensures.failed)
+
+pub returns-in_err-kept-clause-held : goal.returns-in_err-kept-clause-held
+returns-in_err-kept-clause-held g c =
+    held_on g.S.BlockStore c.args.store.now c.read_closed.new.store c.read_bitmap.new.store
+    c.in_ok-numbers.ensures.held c.in_ok-read_bitmap.ensures.held
+
+pub returns-in_err-tokens-clause-held : goal.returns-in_err-tokens-clause-held
+returns-in_err-tokens-clause-held g c =
+    held_on g.S.BlockStore c.args.store.now c.read_closed.new.store c.read_all.new.store
+    c.in_ok-numbers.ensures.held
+    (held_on g.S.BlockStore c.read_closed.new.store c.read_bitmap.new.store c.read_all.new.store
+    c.in_ok-read_bitmap.ensures.held c.in_err-tokens.ensures.held)

@@ -11,8 +11,9 @@ use Rattle.cyc_buffer.specs.declared.answers.Found.TheVariants as found
 use Rattle.cyc_buffer.specs.declared.answers.Front.{Front}
 use Rattle.cyc_buffer.proofs.Reading.{unknown_answer, there, there_under, answer_none, look_block}
 use Rattle.cyc_buffer.proofs.Reading.{not_unread, looked_up, block_is_gone, block_is_unknown}
-use Rattle.cyc_buffer.proofs.Reading.{shows_chunk, gone_answer, other_chunk, other_unknown}
-use Rattle.cyc_buffer.proofs.RememberedLemmas.{gone_numbers, read_within}
+use Rattle.cyc_buffer.proofs.Reading.{gone_answer, gone_numbers, other_chunk, other_unknown}
+use Rattle.cyc_buffer.proofs.Reading.{shows_chunk}
+use Rattle.cyc_buffer.proofs.RememberedLemmas.{read_within}
 use Rattle.cyc_buffer.proofs.Writes.{with_error, without_error}
 use Rattle.cyc_buffer.proofs.buffer.Buffer.read_block.Goals as goal
 

@@ -57,3 +57,7 @@ returns-clause-held g c = on_ok_weaker c.write_head.result (λ numbers h agrees.
     _ _ c.args.self.now.counted (sym c.is_err.ensures.value ∙ c.if-is_err.false)
     (was.bitmap is) (c.write_head.ensures.others (was.rest.honest is))))
     (under _ c.write_head.result c.write_head.ensures.head)
+
+pub returns-then-is_err-clause-same : goal.returns-then-is_err-clause-same
+returns-then-is_err-clause-same g c =
+    still_agrees c.args.self.now _ (returns-then-is_err-clause-rest g c)

@@ -7,7 +7,7 @@ use Rattle.cyc_block.specs.declared.image.Stamp.{Stamp}
 use Rattle.cyc_buffer.specs.Marks.{is_marked}
 use Rattle.cyc_buffer.specs.declared.marks.Marks.{Marks}
 use Rattle.cyc_buffer.proofs.Writes.{chunk_length, counted_on, fails_by, next_by, image_there}
-use Rattle.cyc_buffer.proofs.Writes.{without_error}
+use Rattle.cyc_buffer.proofs.Writes.{with_error, without_error}
 use Rattle.cyc_buffer.proofs.buffer.Buffer.write_next.Goals as goal
 
 pub block_image-image-requires-clause-some : goal.block_image-image-requires-clause-some
@@ -115,3 +115,21 @@ returns-then-is_err-clause-starts g c block is =
 pub returns-clause-starts : goal.returns-clause-starts
 returns-clause-starts g c block is =
     ap (λ (m : Marks). is_marked m.words.items block) (sym c.count_block.ensures.rest.starts) ∙ is
+
+pub returns-then-is_err-clause-device : goal.returns-then-is_err-clause-device
+returns-then-is_err-clause-device g c = record {
+  failed = with_error c.write.result (sym c.is_err.ensures.value ∙ c.if-is_err.true)
+      c.write.ensures.failed;
+  no_failure = tt;
+  honest = c.write.ensures.honest;
+  blocks = c.write.ensures.count;
+}
+
+pub returns-clause-device : goal.returns-clause-device
+returns-clause-device g c = record {
+  failed = tt;
+  no_failure = without_error c.write.result (sym c.is_err.ensures.value ∙ c.if-is_err.false)
+      c.write.ensures.no_failure;
+  honest = c.write.ensures.honest;
+  blocks = c.write.ensures.count;
+}
