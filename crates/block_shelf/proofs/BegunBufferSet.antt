@@ -1,12 +1,14 @@
 -- A begin, in the histories of the buffers and in what the buffer set keeps, by what the code finds
 -- on its way: the group, its pick, the number and the buffer.
-use Rattle.std.proofs.Common.{◌≡◌, ◌∙◌, ℕ, zero, suc, ◌<◌, ◌≤◌, nat_lt, Bool, false, refl, sym, ap}
+use Rattle.std.proofs.Common.{◌≡◌, ◌∙◌, ℕ, ◌<◌, ◌≤◌, nat_lt, Bool, false, refl, sym, ap}
 use Rattle.std.proofs.Common.{arith, length, map, List, [], ◌∷◌, ◌++◌, Option, None, Some, All}
 use Rattle.std.proofs.Common.{slice_get, length-set, slice_set}
 use Rattle.std.proofs.lemmas.Bool.{ltb-false}
 use Rattle.std.proofs.lemmas.Bool.Decides.{nat_tests}
 use Rattle.std.proofs.lemmas.List.Elements.{All-append, All-cons, All-nil}
-use Rattle.std.proofs.lemmas.Option.{same_Some, none-some, slice_get-map, slice_get_within}
+use Rattle.std.proofs.lemmas.List.{set-get_or}
+use Rattle.std.proofs.lemmas.Option.{get_or_from_slice_get, none-some, same_Some, slice_get-map}
+use Rattle.std.proofs.lemmas.Option.{slice_get_within}
 use Rattle.std.specs.List.{AllByRecursion}
 use Rattle.std.specs.Prelude.{option_and_then}
 use Rattle.std.specs.Vec.{with_item}
@@ -130,9 +132,8 @@ same_agrees same_buffer_state same_store t each agrees = grind arith
 -- what was read at a place and is put back there changes nothing
 set_same : {X : Type 0} (xs : List X) (i : ℕ) {x : X} → slice_get xs i ≡ Some x
     → slice_set xs i x ≡ xs
-set_same [] i is = refl
-set_same (first ∷ rest) zero is = ap (λ each. each ∷ rest) (sym (same_Some first _ is))
-set_same (first ∷ rest) (suc i) is = ap (λ items. first ∷ items) (set_same rest i is)
+set_same xs i {x} is =
+    ap (slice_set xs i) (sym (get_or_from_slice_get xs i x x is)) ∙ set-get_or xs i x
 
 module _ {S : Type 0} {g : Ghosts S} (old : BufferSet S g) (i : ℕ) {placed_group : PlacedGroup}
     (found : slice_get old.placed_groups.items i ≡ Some placed_group) where
