@@ -1,8 +1,9 @@
 use Rattle.std.proofs.Common.{◌∙◌, ◌+◌, ap, arith, length, refl}
 use Rattle.std.proofs.lemmas.Option.{slice_get_read}
-use Rattle.block_shelf.proofs.EachLemmas.{all_read, one_read}
+use Rattle.block_shelf.proofs.EachLemmas.{all_read, none_each, one_read}
 use Rattle.block_shelf.proofs.NewBufferSet.{group_filled}
 use Rattle.block_shelf.proofs.Resumes.{placed_groups_resumed}
+use Rattle.block_shelf.specs.Resuming.{IsResumedAt}
 use Rattle.block_shelf.proofs.resuming.resume_placed_groups.Goals as goal
 
 pub resume-requires : goal.resume-requires
@@ -32,3 +33,27 @@ returns-clause-placed_groups c =
     c.loop-place.placed_groups.items
     (all_read c.args.settings.now.groups.items c.loop-place.place c.loop-place.invariant.are
     (omega (arith, c.loop-place-test.false, ap length c.deref-group-items.ensures.value)))
+
+pub push_reserved-requires : goal.push_reserved-requires
+push_reserved-requires c = omega (
+  arith,
+  c.loop-place-test.true,
+  ap length c.deref-group-items.ensures.value,
+  c.loop-place.placed_groups.ok,
+  c.loop-place.invariant.count,
+  c.loop-place.invariant.room,
+)
+
+pub loop-place-init : goal.loop-place-init
+loop-place-init c = record {
+  count = omega (arith, c.in_ok-placed_groups.ensures.len);
+  room = omega (
+    arith,
+    c.args.settings.now.groups.ok,
+    c.len.ensures,
+    c.in_ok-placed_groups.ensures.capacity,
+  );
+  are = rw c.in_ok-placed_groups.ensures.items
+      (none_each (IsResumedAt c.args.settings.now.buffers.items c.args.positions.now
+      c.args.used.now));
+}

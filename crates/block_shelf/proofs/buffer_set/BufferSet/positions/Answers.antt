@@ -1,7 +1,8 @@
 use Rattle.std.proofs.Common.{◌∙◌, ◌+◌, ap, arith, length, refl}
 use Rattle.std.proofs.lemmas.Option.{slice_get_read}
-use Rattle.block_shelf.proofs.EachLemmas.{all_read, one_read}
+use Rattle.block_shelf.proofs.EachLemmas.{all_read, none_each, one_read}
 use Rattle.block_shelf.proofs.Placed.{told_positions}
+use Rattle.block_shelf.specs.Stopping.{TellsPosition}
 use Rattle.block_shelf.proofs.buffer_set.BufferSet.positions.Goals as goal
 
 pub loop-placed_group-preserved : goal.loop-placed_group-preserved
@@ -28,3 +29,15 @@ returns g c =
       c.loop-placed_group-test.false,
       ap length c.deref-placed_group-items.ensures.value,
     )))
+
+pub loop-placed_group-init : goal.loop-placed_group-init
+loop-placed_group-init g c = record {
+  count = omega (arith, c.in_ok-positions.ensures.len);
+  room = omega (
+    arith,
+    c.args.self.now.placed_groups.ok,
+    c.len.ensures,
+    c.in_ok-positions.ensures.capacity,
+  );
+  told = rw c.in_ok-positions.ensures.items (none_each TellsPosition);
+}

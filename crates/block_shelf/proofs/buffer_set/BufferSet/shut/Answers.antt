@@ -1,4 +1,4 @@
-use Rattle.std.proofs.Common.{ap, append_assoc, arith, length}
+use Rattle.std.proofs.Common.{ap, append_assoc, arith, length, refl}
 use Rattle.std.proofs.lemmas.List.{length-append}
 use Rattle.block_shelf.proofs.EachLemmas.{count_through, here_through, none_each, none_left}
 use Rattle.block_shelf.proofs.Stops.{holds_kept, not_idle}
@@ -72,3 +72,6 @@ returns-in-Some-failed-clause-refusal g c =
       told = c.number_of.ensures;
       left = rw through at was.1;
     }
+
+pub returns-then-is_busy-clause-refusal : goal.returns-then-is_busy-clause-refusal
+returns-then-is_busy-clause-refusal g c = (refl, c.is_busy.ensures.busy c.if-is_busy.true)
