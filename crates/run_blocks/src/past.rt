@@ -60,7 +60,8 @@ impl<F: RunFile> RunBlocks<F> {
             self.drop_first();
             return Ok(());
         }
-        if self.gathered.meets(k.saturating_sub(index), k) {
+        let from = k.saturating_sub(index);
+        if self.gathered.meets(from, k) {
             return self.write_run();
         }
         Ok(())

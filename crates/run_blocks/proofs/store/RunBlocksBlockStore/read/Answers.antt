@@ -88,3 +88,23 @@ returns-clause-calls g c = c.read_there.ensures.asked ∙ c.add_one.ensures
 
 pub returns-in_err-read_there-clause-calls : goal.returns-in_err-read_there-clause-calls
 returns-in_err-read_there-clause-calls g c = c.read_there.ensures.asked ∙ c.add_one.ensures
+
+pub invariant_of-self-then-holds-2 : goal.invariant_of-self-then-holds-2
+invariant_of-self-then-holds-2 g c =
+    let store = c.args.self.now in
+    record {
+      few = store.few;
+      aside_some = store.aside_some;
+      gathered_within = store.gathered_within;
+      ahead_within = store.ahead_within;
+    }
+
+pub invariant_of-self-2 : goal.invariant_of-self-2
+invariant_of-self-2 g c =
+    let store = c.read_there.new.self in
+    record {
+      few = store.few;
+      aside_some = store.aside_some;
+      gathered_within = store.gathered_within;
+      ahead_within = store.ahead_within;
+    }
