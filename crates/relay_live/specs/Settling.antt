@@ -6,7 +6,7 @@ use Rattle.live_jobs.specs.declared.desk.both.Posted.{Posted}
 
 -- where it was posted, that is the post of this article, and the share counts one more; where it
 -- wasn't the share counts as many as before, and its parts stay
-pub record Settles (id : List ℕ) (session : ℕ) (token : Token) (permitted : List ℕ)
+pub record SettlesJob (id : List ℕ) (session : ℕ) (token : Token) (permitted : List ℕ)
     (amount amount' parts parts' : ℕ) (posted : Option Posted)
     : Type 0 where
   pub post : IfSome posted (IsPostOf id session token permitted)

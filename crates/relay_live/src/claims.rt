@@ -1,9 +1,9 @@
 //! A shard of the history under its lock.
-ghost use Rattle.std.specs.Prelude.{◌≡◌, ◌≢◌, ◌<◌, ◌+◌, ◌^◌, None, IfOk, IfSome};
+ghost use Rattle.std.specs.Prelude.{◌≡◌, ◌≢◌, ◌<◌, ◌+◌, ◌^◌, IfOk};
 ghost use Rattle.id_history.specs.Counts.{AtMost};
 ghost use Rattle.id_history.specs.declared.claims.Take.TheVariants as takes;
-ghost use Rattle.live_jobs.specs.Posted.{IsPostOf};
 ghost use Rattle.relay_live.specs.Rounds.{fronts_in, shards_in, times_of};
+ghost use Rattle.relay_live.specs.Settling.{SettlesJob};
 ghost use Rattle.relay_model.specs.Terms.{shard_count};
 
 use crate::forgetting::Rounds;
@@ -127,11 +127,9 @@ impl Claims {
         article: &Unsettled<'_>,
     ) -> Option<Posted>
         requires { 0 < share.old.parts }
-        ensures posted { IfSome result (IsPostOf article.now.id.now article.now.session
-            article.now.token article.now.permitted.now.items) }
-        ensures counted { IfSome result (λ posted. share.new.amount ≡ share.old.amount + 1) }
-        ensures same { result ≡ None → share.new.amount ≡ share.old.amount }
-        ensures parts { share.new.parts ≡ share.old.parts }
+        ensures { SettlesJob article.now.id.now article.now.session article.now.token
+            article.now.permitted.now.items share.old.amount share.new.amount share.old.parts
+            share.new.parts result }
     {
         let posted = live_jobs::settle(rt, &self.shard, desk, share, article);
         if posted.is_some() {

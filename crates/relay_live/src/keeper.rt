@@ -1,11 +1,10 @@
 //! What stores the jobs of the writers.
-ghost use Rattle.std.specs.Prelude.{◌≡◌, ◌<◌, ◌+◌, None, IfSome};
+ghost use Rattle.std.specs.Prelude.{◌≡◌, ◌<◌, ◌+◌, IfSome};
 ghost use Rattle.live_jobs.specs.StoreResults.{is_kept, FitsJob};
 ghost use Rattle.live_jobs.specs.Taken.{worth};
-ghost use Rattle.live_jobs.specs.Posted.{IsPostOf};
 ghost use Rattle.live_store.specs.Stores.{IsStored};
 ghost use Rattle.relay_live.specs.Holding.{has_buffer};
-ghost use Rattle.relay_live.specs.Settling.{Settles};
+ghost use Rattle.relay_live.specs.Settling.{SettlesJob};
 
 use crate::holding;
 use crate::register_ref::RegisterRef;
@@ -100,11 +99,8 @@ impl<'a, S: BlockStore + Drop, J: StorePremises, L: Ledger, C: Clock, Q: Registe
         token: Token,
     ) -> Option<Posted>
         requires { 0 < share.old.parts }
-        ensures posted { IfSome result (IsPostOf job.now.id job.now.session token
-            job.now.article.permitted.items) }
-        ensures counted { IfSome result (λ posted. share.new.amount ≡ share.old.amount + 1) }
-        ensures same { result ≡ None → share.new.amount ≡ share.old.amount }
-        ensures parts { share.new.parts ≡ share.old.parts }
+        ensures { SettlesJob job.now.id job.now.session token job.now.article.permitted.items
+            share.old.amount share.new.amount share.old.parts share.new.parts result }
     {
         let permitted = &job.article.permitted;
         let article = Unsettled {
@@ -128,7 +124,7 @@ impl<'a, S: BlockStore + Drop, J: StorePremises, L: Ledger, C: Clock, Q: Registe
         token: Token,
     ) -> Option<Posted>
         requires { 0 < share.old.parts }
-        ensures { Settles job.now.id job.now.session token job.now.article.permitted.items
+        ensures { SettlesJob job.now.id job.now.session token job.now.article.permitted.items
             share.old.amount share.new.amount share.old.parts share.new.parts result }
     {
         for _ in rt.forever() {
