@@ -9,6 +9,7 @@ use Rattle.id_history.specs.declared.kept.KeptId.{KeptId}
 use Rattle.id_history.specs.Lasting.{AreLasting}
 use Rattle.id_history.specs.Shards.{EachKeeps}
 use Rattle.id_history.specs.declared.claims.Shard.{Shard}
+use Rattle.relay_core.specs.Stopping.{HaveRoom}
 use Rattle.relay_model.specs.Claims.{Claim}
 use Rattle.relay_model.specs.State.{Feed}
 
@@ -17,6 +18,11 @@ abbrev pub AreKeptFeeds : FeedDesk → (count : ℕ) → List KeptFeed → Type 
 AreKeptFeeds desk count kept =
     (sizes : List ℕ) (feed : ℕ → Feed) → KeepsFeeds desk sizes feed → length sizes ≡ count
     → AreLeft (map feed_view kept) sizes feed
+
+-- this is left of the feeds, and a history has room for it
+pub record TellsFeeds (desk : FeedDesk) (count : ℕ) (kept : List KeptFeed) : Type 0 where
+  pub left : AreKeptFeeds desk count kept
+  pub room : HaveRoom kept
 
 -- these ids are left of the claims that the shards keep, each of its own ids
 abbrev pub AreEntries : List Shard → List KeptId → Type 0

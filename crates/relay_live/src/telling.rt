@@ -3,8 +3,7 @@ ghost use Rattle.std.specs.Prelude.{◌≡◌, ◌≤◌, IfOk, length};
 ghost use Rattle.block_shelf.specs.Each.{AreEach};
 ghost use Rattle.block_shelf.specs.Stopping.{TellsPosition};
 ghost use Rattle.live_jobs.specs.Desks.{desk_of};
-ghost use Rattle.relay_core.specs.Stopping.{HaveRoom};
-ghost use Rattle.relay_live.specs.Telling.{AreEntries, AreKeptFeeds};
+ghost use Rattle.relay_live.specs.Telling.{AreEntries, TellsFeeds};
 ghost use Rattle.relay_model.specs.Terms.{shard_count};
 
 use crate::alone::Alone;
@@ -65,8 +64,7 @@ fn kept_feeds<L: Ledger>(
     count: usize,
 ) -> Result<Vec<KeptFeed>, AllocError>
     requires { count ≤ 1024 }
-    ensures left { IfOk result (λ kept. AreKeptFeeds (desk_of desk.now) count kept.items) }
-    ensures room { IfOk result (λ kept. HaveRoom kept.items) }
+    ensures { IfOk result (λ kept. TellsFeeds (desk_of desk.now) count kept.items) }
 {
     let mut kept = Vec::with_capacity(alloc, count)?;
     for number in 0..count {

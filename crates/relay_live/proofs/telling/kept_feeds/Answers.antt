@@ -1,4 +1,4 @@
-use Rattle.std.proofs.Common.{◌≡◌, ◌∙◌, ◌≤◌, ap, arith, length, rules, sym, vec_capacity, vec_len}
+use Rattle.std.proofs.Common.{◌≡◌, ◌∙◌, ◌≤◌, ◌++◌, ◌∷◌, [], ap, arith, length, rules, sym, vec_capacity, vec_len}
 use Rattle.std.specs.Prelude.{Ok}
 use Rattle.relay_core.proofs.Stops.{kept_joins, some_of, waits_join}
 use Rattle.relay_live.proofs.telling.kept_feeds.Goals as goal
@@ -15,6 +15,8 @@ loop-number-preserved g c =
     let n = c.loop-number.number in
     elim c.match-branch-3.branch [
       | in-Some w ↦
+          let more : c.match-branch-3.kept.items ≡ c.loop-number.kept.items ++ w.in-Some.one ∷ [] =
+          cc (w.push_reserved.ensures.items, w.kept-is) in
           record {
             count = omega (
               arith,
@@ -29,11 +31,11 @@ loop-number-preserved g c =
               c.loop-number.invariant.room,
             );
             waits = waits_join c.loop-number.kept.items c.match-branch-3.kept.items w.in-Some.one
-                (cc (w.push_reserved.ensures.items, w.kept-is)) c.loop-number.invariant.waits
+                more c.loop-number.invariant.waits
                 (some_of _ _ w.in-Some.one w.in-Some.is c.in_ok-one.ensures.fits);
             left = λ sizes feed keeps all. kept_joins n c.loop-number.kept.items
                 c.match-branch-3.kept.items w.in-Some.one sizes feed
-                (cc (w.push_reserved.ensures.items, w.kept-is))
+                more
                 (c.loop-number.invariant.left sizes feed keeps all)
                 (some_of _ _ w.in-Some.one w.in-Some.is c.in_ok-one.ensures.left sizes feed keeps);
           }
@@ -41,7 +43,7 @@ loop-number-preserved g c =
           record {
             count = omega (arith, ap vec_len w.kept-is, c.loop-number.invariant.count);
             room = omega (arith, ap vec_capacity w.kept-is, c.loop-number.invariant.room);
-            waits = search rules;
+            waits = rw w.kept-is c.loop-number.invariant.waits;
             left = λ sizes feed keeps all. absurd (omega (
               arith,
               c.kept.ensures.missing.0 (c.in_ok-one.was ∙ ap Ok w.in_default.is),
@@ -53,14 +55,13 @@ loop-number-preserved g c =
     ]
 
 -- that was the last
-pub returns-clause-left : goal.returns-clause-left
-returns-clause-left g c = λ sizes feed keeps all.
-    let so_far = c.loop-number.invariant.left sizes feed keeps all in
+pub returns : goal.returns
+returns g c =
     let past : c.loop-number.number ≡ c.args.count = search rules in
-    record { count = so_far.count ∙ past ∙ sym all; each = so_far.each }
-
-pub returns-clause-room : goal.returns-clause-room
-returns-clause-room g c =
-    let all : c.loop-number.number ≡ c.args.count = search rules in
     let few : length c.loop-number.kept.items ≤ c.loop-number.number = search rules in
-    (omega (arith, few, all, c.requires), c.loop-number.invariant.waits)
+    record {
+      left = λ sizes feed keeps all.
+          let so_far = c.loop-number.invariant.left sizes feed keeps all in
+          record { count = so_far.count ∙ past ∙ sym all; each = so_far.each };
+      room = (omega (arith, few, past, c.requires), c.loop-number.invariant.waits);
+    }
