@@ -2,6 +2,7 @@
 -- (docs/PROTOCOL.md, Clean stop and start).
 use Rattle.std.specs.Prelude.{◌≡◌, ℕ, ◌<◌, true, false, List}
 use Rattle.std.specs.Prelude.{length, map, Option, None, Some, slice_get}
+use Rattle.std.specs.Prelude.{Result, IfErr, IfOk}
 use Rattle.boxcar.specs.Table.{Shelves}
 use Rattle.block_shelf.specs.Each.{AreEach}
 use Rattle.block_shelf.specs.Stopping.{IsLeftOver, IsShutOver, IsStopped}
@@ -14,6 +15,7 @@ use Rattle.live_store.specs.Steps.{buffer_of}
 use Rattle.live_store.specs.declared.numbered.NumberedBuffer.{NumberedBuffer}
 use Rattle.live_store.specs.declared.record.StorePremises as store_premises
 use Rattle.relay_core.specs.Stopping.{IsShut, Tells, next_stop}
+use Rattle.relay_core.specs.declared.stopped.Stopped.{Stopped}
 use Rattle.relay_live.specs.Alone.{KeepsBeside, KeepsState, codes_of, stop_in}
 use Rattle.relay_live.specs.declared.alone.Alone.{Alone}
 use Rattle.relay_live.specs.declared.shared.Shared.{Shared}
@@ -92,6 +94,13 @@ ComesBack old (unstoppeds.NotIdle back) = (back ≡ old) × IsStoring old
 ComesBack old (unstoppeds.Memory back) = (back ≡ old) × IsAtRest old
 ComesBack old (unstoppeds.Device number stores) =
     IsAtRest old × IsShutPartly old number stores.items
+
+-- what stopping gives: the stores and the text of a relay that was stopped, or why it isn't
+pub record ShutGives {S J L : Type 0} {s : blocks.Ghosts S} {j : store_premises.Ghosts J}
+    (old : Alone S J L s j) (result : Result (Stopped S) (Unstopped S J L s j))
+    : Type 0 where
+  pub shut : IfOk result (λ stopped. Shuts old stopped.stores.items stopped.history.items)
+  pub back : IfErr result (ComesBack old)
 
 -- STEP BY STEP
 

@@ -31,14 +31,13 @@ pub(crate) enum Unstopped<S: BlockStore + Drop, J: StorePremises, L: Ledger> {
 }
 
 impl<S: BlockStore + Drop, J: StorePremises, L: Ledger> Alone<S, J, L> {
-    ghost use Rattle.std.specs.Prelude.{◌≡◌, true, false, IfErr, IfOk};
-    ghost use Rattle.relay_live.specs.Stopping.{ComesBack, IsAtRest, IsStoring, Shuts};
+    ghost use Rattle.std.specs.Prelude.{◌≡◌, true, false};
+    ghost use Rattle.relay_live.specs.Stopping.{IsAtRest, IsStoring, ShutGives};
 
     /// Stops the relay: the stores of its buffers, and the text of its history. Where a message-id
     /// is being stored or a write is open it isn't.
     pub(crate) fn shut(self, alloc: Global) -> Result<Stopped<S>, Unstopped<S, J, L>>
-        ensures shut { IfOk result (λ shut. Shuts self shut.stores.items shut.history.items) }
-        ensures back { IfErr result (ComesBack self) }
+        ensures { ShutGives self result }
     {
         if !self.is_idle() {
             return Err(Unstopped::NotIdle(self));

@@ -4,15 +4,24 @@ use Rattle.relay_live.specs.Stopping.{IsShutAll}
 use Rattle.relay_live.proofs.alone.Alone.shut.Goals as goal
 
 -- it isn't idle
-pub returns-then-not-is_idle-clause-back : goal.returns-then-not-is_idle-clause-back
-returns-then-not-is_idle-clause-back g c = (refl, c.is_idle.ensures.busy c.if-not-is_idle.true)
+pub returns-then-not-is_idle : goal.returns-then-not-is_idle
+returns-then-not-is_idle g c = record {
+  shut = tt;
+  back = (refl, c.is_idle.ensures.busy c.if-not-is_idle.true);
+}
 
 -- memory was refused
-pub returns-in-Err-clause-back : goal.returns-in-Err-clause-back
-returns-in-Err-clause-back g c = (refl, c.is_idle.ensures.idle c.if-not-is_idle.false)
+pub returns-in-Err : goal.returns-in-Err
+returns-in-Err g c = record {
+  shut = tt;
+  back = (refl, c.is_idle.ensures.idle c.if-not-is_idle.false);
+}
 
-pub returns-in_default-clause-back : goal.returns-in_default-clause-back
-returns-in_default-clause-back g c = (refl, c.is_idle.ensures.idle c.if-not-is_idle.false)
+pub returns-in_default : goal.returns-in_default
+returns-in_default g c = record {
+  shut = tt;
+  back = (refl, c.is_idle.ensures.idle c.if-not-is_idle.false);
+}
 
 -- there is room for the stores of all buffers
 pub shut_all-requires-clause-few : goal.shut_all-requires-clause-few
@@ -31,24 +40,32 @@ shut_all-requires-clause-room g c =
     )
 
 -- it is stopped
-pub returns-in-None-default-clause-shut : goal.returns-in-None-default-clause-shut
-returns-in-None-default-clause-shut g c =
-    shuts c.args.self (c.is_idle.ensures.idle c.if-not-is_idle.false) c.next_stop-stop.result
-    c.shut_all.result.1.items c.in-Ok.history.items c.next_stop-stop.ensures c.in-Ok.ensures
-    (subst
-    (λ (failed : Option _). IsShutAll c.next_stop-stop.result c.args.self.buffers.items failed
-    c.shut_all.result.1.items)
-    c.in-None-default.is-0 c.shut_all.ensures)
-
--- or the device of a buffer has failed
-pub returns-clause-back : goal.returns-clause-back
-returns-clause-back g c =
-    let rest = c.is_idle.ensures.idle c.if-not-is_idle.false in (
-      rest,
-      shut_partly c.args.self rest c.next_stop-stop.result c.in-Some-default.number
-          c.shut_all.result.1.items
+pub returns-in-None-default : goal.returns-in-None-default
+returns-in-None-default g c =
+    let rest = c.is_idle.ensures.idle c.if-not-is_idle.false in
+    record {
+      shut = shuts c.args.self rest c.next_stop-stop.result c.shut_all.result.1.items
+          c.in-Ok.history.items c.next_stop-stop.ensures c.in-Ok.ensures
           (subst
           (λ (failed : Option _). IsShutAll c.next_stop-stop.result c.args.self.buffers.items failed
           c.shut_all.result.1.items)
-          c.in-Some-default.is-0 c.shut_all.ensures),
-    )
+          c.in-None-default.is-0 c.shut_all.ensures);
+      back = tt;
+    }
+
+-- or the device of a buffer has failed
+pub returns : goal.returns
+returns g c =
+    let rest = c.is_idle.ensures.idle c.if-not-is_idle.false in
+    record {
+      shut = tt;
+      back = (
+        rest,
+        shut_partly c.args.self rest c.next_stop-stop.result c.in-Some-default.number
+            c.shut_all.result.1.items
+            (subst
+            (λ (failed : Option _). IsShutAll c.next_stop-stop.result c.args.self.buffers.items
+            failed c.shut_all.result.1.items)
+            c.in-Some-default.is-0 c.shut_all.ensures),
+      );
+    }
