@@ -35,14 +35,6 @@ pub(crate) struct StartedBuffers<S: BlockStore + Drop, J: StorePremises> {
     ghost stores_room: { vec_len buffers ≤ vec_capacity stores },
 }
 
-/// The room that a start needs, and an opening after it.
-#[derive(Drop)]
-struct Room<S: BlockStore + Drop, J: StorePremises> {
-    unopened: Vec<UnopenedNumbered<S, J>>,
-    opened: Vec<NumberedBuffer<S, J>>,
-    stores: Vec<S>,
-}
-
 /// The buffers that are started so far.
 #[derive(Drop)]
 struct SoFar<S: BlockStore + Drop, J: StorePremises> {
@@ -97,14 +89,10 @@ pub(crate) fn start_buffers<S: BlockStore + Drop, J: StorePremises, R: Wait>(
     // Refused for the first fault, in the order of the buffers; the stores come back unwritten.
     ensures refusal { IfErr result (IsUnstarted S.BlockStore stores.items stop) }
 {
-    let Ok(room) = Room::new(alloc, stores.len()) else {
+    let count = stores.len();
+    let Ok((unopened, opened, room)) = rooms(alloc, count, count, count) else {
         return Err(refused(stores, StopFault::Memory));
     };
-    let Room {
-        unopened,
-        opened,
-        stores: room,
-    } = room;
     let mut starting = Starting::Started(SoFar {
         buffers: unopened,
         room,
@@ -127,23 +115,6 @@ pub(crate) fn start_buffers<S: BlockStore + Drop, J: StorePremises, R: Wait>(
                 stores: so_far.room,
             }),
         },
-    }
-}
-
-impl<S: BlockStore + Drop, J: StorePremises> Room<S, J> {
-    /// Room for so many buffers.
-    fn new(alloc: Global, count: usize) -> Result<Room<S, J>, AllocError>
-        ensures none { IfOk result (λ room. (room.unopened.items ≡ [])
-            × (room.opened.items ≡ []) × (room.stores.items ≡ [])) }
-        ensures room { IfOk result (λ room. (count ≤ vec_capacity room.unopened)
-            × (count ≤ vec_capacity room.opened) × (count ≤ vec_capacity room.stores)) }
-    {
-        let (unopened, opened, stores) = rooms(alloc, count, count, count)?;
-        Ok(Room {
-            unopened,
-            opened,
-            stores,
-        })
     }
 }
 

@@ -36,10 +36,10 @@ loop-store-init g c =
         arith,
         ap length none.0,
         ap length none.2,
-        c.in-Ok.room.unopened.ok,
-        c.in-Ok.room.stores.ok,
+        c.in-Ok.unopened.ok,
+        c.in-Ok.room.ok,
       );
-      room = omega (arith, room.0, room.2, c.len.ensures, c.args.stores.ok);
+      room = omega (arith, room.0, room.2, c.len-count.ensures, c.args.stores.ok);
     }
 
 pub next-starting-requires-clause-honest : goal.next-starting-requires-clause-honest
@@ -161,7 +161,7 @@ invariant_of-result g c =
         count,
         c.in-Started.so_far.buffers.ok,
         c.in-Ok.ensures.room.1,
-        c.len.ensures,
+        c.len-count.ensures,
         c.args.stores.ok,
       );
       stores_room = omega (
