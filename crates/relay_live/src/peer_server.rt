@@ -61,7 +61,9 @@ impl<
     G,
     Q: RegisterRef,
 > PeerServer<'a, X, S, J, L, C, G, Q> {
+    ghost use Rattle.live_jobs.specs.Seats.{count_of, handed_by};
     ghost use Rattle.relay_live.specs.PeerServers.{kept_of, peer_of, terms_at};
+    ghost use Rattle.relay_live.specs.Sessions.{Accounted};
 
     /// The end of this peer, by its number in the configuration, before its first connection.
     pub fn new(
@@ -158,48 +160,6 @@ impl<
         }
     }
 
-    /// Serves a connection as the session of this number, which is spent, and lets go of it.
-    fn serve_one<R: Wait>(
-        &mut self,
-        rt: &R,
-        channels: &[JobChannel],
-        seat: SessionSeat,
-        number: Number<L>,
-        connection: (<X as Connections<R>>::Reader, <X as Connections<R>>::Writer),
-    ) -> SessionSeat
-    where
-        X: Connections<R>,
-        G: Gate<R>,
-        requires seat { IsSeatOf channels.now seat }
-        requires new { (X.Reader.heard connection.0 ≡ []) × (X.Writer.said connection.1 ≡ []) }
-        ensures seat { IsSeatOf channels.now result }
-        ensures end { end_of result ≡ end_of seat }
-        ensures one_more { (honest : Bool) → (honest ≡ true → J.trusted ≡ true)
-            → ∥ IsOneMore honest J.register (terms_of self.old.config.now) (end_of seat)
-            self.old.peer (number_of number) (hands_at seat self.old.kept.items)
-            (hands_at result self.new.kept.items) ∥₁ }
-        ensures same { (self.new.config ≡ self.old.config) × (self.new.peer ≡ self.old.peer) }
-    {
-        let (reader, writer) = connection;
-        let over = self.converse(rt, channels, seat, number, reader, writer);
-        self.connections.let_go(rt, over.reader, over.writer);
-        over.seat
-    }
-}
-
-impl<
-    'a,
-    X,
-    S: BlockStore + Drop,
-    J: StorePremises,
-    L: Ledger,
-    C: Clock,
-    G,
-    Q: RegisterRef,
-> PeerServer<'a, X, S, J, L, C, G, Q> {
-    ghost use Rattle.live_jobs.specs.Seats.{count_of, handed_by};
-    ghost use Rattle.relay_live.specs.Sessions.{Accounted};
-
     /// Serves a connection as a session of a number of its own, and lets go of it; where no number
     /// is left it isn't served.
     fn serve_next<R: Wait>(
@@ -222,10 +182,13 @@ impl<
             self.new.peer (count_of result) (handed_by result) self.new.kept.items }
         ensures same { (self.new.config ≡ self.old.config) × (self.new.peer ≡ self.old.peer) }
     {
-        match self.shared.draw(rt) {
-            Some(number) => self.serve_one(rt, channels, seat, number, connection),
-            None => seat,
-        }
+        let Some(number) = self.shared.draw(rt) else {
+            return seat;
+        };
+        let (reader, writer) = connection;
+        let over = self.converse(rt, channels, seat, number, reader, writer);
+        self.connections.let_go(rt, over.reader, over.writer);
+        over.seat
     }
 }
 

@@ -4,8 +4,8 @@ use Rattle.relay_live.proofs.Sessions.{goes_on}
 use Rattle.relay_live.proofs.peer_server.PeerServer.serve_next.Goals as goal
 
 -- the accounts go on by the session that was served
-pub returns-in-Some-clause-kept : goal.returns-in-Some-clause-kept
-returns-in-Some-clause-kept g c before honest trust =
-    let served = c.serve_one.ensures in
+pub returns-clause-kept : goal.returns-clause-kept
+returns-clause-kept g c before honest trust =
+    let served = c.converse-over.ensures in
     goes_on honest _ _ _ _ _ _ _ _ _ _ (ap (λ config. terms_of config.now) served.same.0)
     served.end served.same.1 (before honest trust) (served.one_more honest trust)
