@@ -8,7 +8,7 @@ ghost use Rattle.live_jobs.specs.Gathered.{AllTold, NoneElse, hands_of, kept_by_
 ghost use Rattle.live_jobs.specs.Started.{AllKept};
 ghost use Rattle.live_jobs.specs.Desks.{posts_in};
 ghost use Rattle.relay_live.specs.Counts.{accepted_in, posted_in, mismatched_receipts_of};
-ghost use Rattle.relay_live.specs.Counts.{ids_stored_again_of};
+ghost use Rattle.relay_live.specs.Counts.{AreCounts, ids_stored_again_of};
 ghost use Rattle.relay_live.specs.PeerServers.{kept_of, peer_of, terms_at};
 ghost use Rattle.relay_live.specs.Making.{slots_of};
 ghost use Rattle.relay_live.specs.Sessions.{Accounted, HasLists};
@@ -33,7 +33,7 @@ use std::sync::ledger::{Ledger, Share};
 use std::thread::Threads;
 
 /// Why nothing of a run is counted.
-#[derive(Clone, Copy, Debug, PartialEq, Eq)]
+#[derive(Clone, Copy)]
 pub enum LiveError {
     /// Memory was refused.
     Memory,
@@ -50,7 +50,7 @@ impl From<AllocError> for LiveError {
 }
 
 /// What was counted of a run once all its threads have ended. Only `serve_all` makes one.
-#[derive(Clone, Copy, Debug, PartialEq, Eq)]
+#[derive(Clone, Copy)]
 pub struct Counted {
     accepted: u64,
     posted: Posts,
@@ -209,14 +209,9 @@ fn counted_of<
     totals: Totals,
     seats: Seats<L, StoreResult<J>, PeerServer<'a, X, S, J, L, C, G, Q>>,
 ) -> Result<CountedRun<L, StoreResult<J>, PeerServer<'a, X, S, J, L, C, G, Q>>, LiveError>
-    ensures totals { IfOk result (λ run. (run.seats ≡ seats.entry)
-        × (accepted_in run.counted ≡ totals.accepted)
-        × (posted_in run.counted ≡ totals.posted)) }
-    ensures mismatched_receipts { IfOk result (λ run. mismatched_receipts_of run.counted
-        ≡ mismatched_receipts_in (map kept_of run.seats.services.items)
-        (map (λ w. w.finished.items) run.seats.writers.items)) }
-    ensures ids_stored_again { IfOk result (λ run. ids_stored_again_of run.counted
-        ≡ ids_stored_again_in (map (λ w. w.finished.items) run.seats.writers.items)) }
+    ensures { IfOk result (λ run. (run.seats ≡ seats.entry)
+        × AreCounts totals (map kept_of run.seats.services.items)
+        (map (λ w. w.finished.items) run.seats.writers.items) run.counted) }
 {
     let mismatched_receipts = mismatched_receipts_of(alloc, &seats)?;
     let ids_stored_again = ids_stored_again(alloc, seats.writers.as_slice())?;

@@ -64,7 +64,7 @@ returns-clause-lefts g c =
     ∙ ap length c.close-totals.ensures.handed
     ∙ length-map c.in-Ok.seats.lefts.items left_by
     ∙ c.in-Ok.ensures.lefts.0 ∙ c.in_ok-channels.ensures.channels.2 ∙ peer_sources)
-    c.counted_of.ensures.totals
+    c.counted_of.ensures
 
 pub returns-clause-lists : goal.returns-clause-lists
 returns-clause-lists g c =
@@ -73,7 +73,7 @@ returns-clause-lists g c =
     (sym (ap (λ seats. hands_of seats.lefts.items) is.0 ∙ c.close-totals.ensures.handed))
     (lists_of_all c.as_slice-channels.result.now c.args.groups c.in-Ok.seats.lefts.items
     (ap length c.as_slice-channels.ensures.value ∙ c.in_ok-channels.ensures.channels.0)
-    (λ k left at. (c.in-Ok.ensures.lefts.1 k left at).1))) c.counted_of.ensures.totals
+    (λ k left at. (c.in-Ok.ensures.lefts.1 k left at).1))) c.counted_of.ensures
 
 -- so do all writers
 pub returns-clause-writers : goal.returns-clause-writers
@@ -84,7 +84,7 @@ returns-clause-writers g c =
     ∙ ap length c.close-totals.ensures.finished
     ∙ length-map c.in-Ok.seats.writers.items (λ w. w.finished.items)
     ∙ c.in-Ok.ensures.writers.0 ∙ c.in_ok-channels.ensures.channels.1)
-    c.counted_of.ensures.totals
+    c.counted_of.ensures
 
 pub returns-clause-jobs : goal.returns-clause-jobs
 returns-clause-jobs g c =
@@ -94,7 +94,7 @@ returns-clause-jobs g c =
     let handed = ap (λ seats. hands_of seats.lefts.items) is.0 ∙ c.close-totals.ensures.handed in
     subst (λ (x : List (List (FinishedJob _)) × List (List (List Handed))).
     AllTold (FitsJob g.J.StorePremises.holds) x.0 x.1) (λ i. (sym finished i, sym handed i))
-    c.close-totals.ensures.jobs) c.counted_of.ensures.totals
+    c.close-totals.ensures.jobs) c.counted_of.ensures
 
 pub returns-clause-none : goal.returns-clause-none
 returns-clause-none g c =
@@ -106,7 +106,7 @@ returns-clause-none g c =
     (subst (NoneElse (length c.in-Ok.seats.lefts.items))
     (sym (ap (λ seats. map (λ w. w.finished.items) seats.writers.items) is.0
     ∙ c.close-totals.ensures.finished))
-    c.close-totals.ensures.none)) c.counted_of.ensures.totals
+    c.close-totals.ensures.none)) c.counted_of.ensures
 
 pub serve_seats-requires-clause-writers : goal.serve_seats-requires-clause-writers
 serve_seats-requires-clause-writers g c κs within =
@@ -123,7 +123,7 @@ returns-clause-peers g c =
     ∙ ap (map peer_of) c.close-totals.ensures.services
     ∙ marked _ (λ m. m.0) (λ p. p.service) c.in-Ok.seats.services.items c.in_ok-ends.ends.items
     c.in_ok-channels.field-0.plans.items c.in-Ok.ensures.marks c.in_ok-channels.ensures.services
-    ∙ c.in_ok-ends.ensures.peers) c.counted_of.ensures.totals
+    ∙ c.in_ok-ends.ensures.peers) c.counted_of.ensures
 
 pub returns-clause-terms : goal.returns-clause-terms
 returns-clause-terms g c =
@@ -133,7 +133,7 @@ returns-clause-terms g c =
     ∙ marked _ (λ m. terms_of m.1) (λ p. p.service) c.in-Ok.seats.services.items
     c.in_ok-ends.ends.items
     c.in_ok-channels.field-0.plans.items c.in-Ok.ensures.marks c.in_ok-channels.ensures.services
-    ∙ c.in_ok-ends.ensures.terms) c.counted_of.ensures.totals
+    ∙ c.in_ok-ends.ensures.terms) c.counted_of.ensures
 
 -- the seats are compared, and what the ends keep stays
 pub returns-clause-kept : goal.returns-clause-kept
@@ -146,7 +146,7 @@ returns-clause-kept g c =
     (subst (AllKept (λ end number count jobs. Accounted g.J.StorePremises.trusted (terms_at end)
     number (peer_of end) count jobs (kept_of end)) (hands_of c.in-Ok.seats.lefts.items))
     (sym (ap (λ seats. seats.services.items) is.0 ∙ c.close-totals.ensures.services))
-    c.in-Ok.ensures.kept)) c.counted_of.ensures.totals
+    c.in-Ok.ensures.kept)) c.counted_of.ensures
 
 -- what was posted has parts for contracts alone, which any thread may have
 pub serve_seats-requires-send-O : goal.serve_seats-requires-send-O
@@ -156,21 +156,24 @@ serve_seats-requires-send-O g c κs within = search (sendable, store_result_send
 pub returns-clause-accepted : goal.returns-clause-accepted
 returns-clause-accepted g c =
     IfOk-weaker c.counted_of.result _ _ (λ run is.
-    is.1 ∙ c.close-totals.ensures.accepted
+    is.1.accepted ∙ c.close-totals.ensures.accepted
     ∙ ap (kept_by_all is_kept)
     (sym (ap (λ seats. map (λ w. w.finished.items) seats.writers.items) is.0
-    ∙ c.close-totals.ensures.finished))) c.counted_of.ensures.totals
+    ∙ c.close-totals.ensures.finished))) c.counted_of.ensures
 
 pub returns-clause-posted : goal.returns-clause-posted
 returns-clause-posted g c =
     IfOk-weaker c.counted_of.result _ _ (λ run is.
-    ap posts_in is.2 ∙ c.close-totals.ensures.posted ∙ sym is.1) c.counted_of.ensures.totals
+    ap posts_in is.1.posted ∙ c.close-totals.ensures.posted ∙ sym is.1.accepted)
+    c.counted_of.ensures
 
 pub returns-clause-mismatched_receipts : goal.returns-clause-mismatched_receipts
-returns-clause-mismatched_receipts g c = c.counted_of.ensures.mismatched_receipts
+returns-clause-mismatched_receipts g c =
+    IfOk-weaker c.counted_of.result _ _ (λ run is. is.1.mismatched_receipts) c.counted_of.ensures
 
 pub returns-clause-ids_stored_again : goal.returns-clause-ids_stored_again
-returns-clause-ids_stored_again g c = c.counted_of.ensures.ids_stored_again
+returns-clause-ids_stored_again g c =
+    IfOk-weaker c.counted_of.result _ _ (λ run is. is.1.ids_stored_again) c.counted_of.ensures
 
 -- there is a writer for each part of the ledger
 pub close-totals-requires-clause-parts : goal.close-totals-requires-clause-parts
