@@ -1,5 +1,6 @@
 -- What a session says, as the definitions have it (docs/FORMATS.md, Replies), and room for it.
-use Rattle.std.specs.Prelude.{◌≡◌, ◌≤◌, ℕ, ◌+◌, ◌*◌, List, ◌++◌, length, map, flat_map, codes, decimal}
+use Rattle.std.specs.Prelude.{◌≡◌, ◌≤◌, ℕ, ◌+◌, ◌*◌, List, ◌++◌}
+use Rattle.std.specs.Prelude.{length, map, flat_map, codes, decimal}
 use Rattle.news_terms.specs.Blocks.{stuffed, stuffed_room}
 use Rattle.news_terms.specs.Reply.{line_of, queue_line}
 use Rattle.news_terms.specs.Reply as terms
