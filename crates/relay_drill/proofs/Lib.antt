@@ -1,7 +1,6 @@
 pub mod Courses
 pub mod Drills
 pub mod Events
-pub mod Made
 pub mod Pieces
 pub mod Plays
 pub mod Prints
