@@ -199,7 +199,8 @@ CountsOf-from_entries shard counts unique are claims keeps = record {
   once = ids_of-distinct shard.entries.entries unique;
   known = λ id. ids_of-found id shard.entries.entries
       ∙ known_entry (lookup (λ k. bytes_eq id (string_bytes k)) shard.entries.entries)
-      ∙ ap (λ m. is_known (claim_of m)) (keeps.agrees id) ∙ blind_by is_known (λ s a t. refl) (claims id);
+      ∙ ap (λ m. is_known (claim_of m)) (keeps.agrees id)
+      ∙ blind_by is_known (λ s a t. refl) (claims id);
   numbers = record {
     offered = are.offered ∙ same is_offered (blind_by is_offered (λ s a t. refl));
     storing = are.storing ∙ same is_storing (blind_by is_storing (λ s a t. refl));

@@ -3,9 +3,9 @@
 //! time, and no remembered message-id is stored again.
 //!
 //! Each call of a `Shard` is one rule of docs/PROTOCOL.md, Claims, on one message-id, and leaves
-//! every other id as it was; `expire` goes through all ids. `Shards` spreads the ids over sixteen of
-//! them by `shard_of`, and says the same of each call; its `entries` and `resume` are what outlives
-//! a stop. Neither holds an article or has a clock or a lock.
+//! every other id as it was; `expire` goes through all ids. `Shards` spreads the ids over sixteen
+//! of them by `shard_of`, and says the same of each call; its `entries` and `resume` are what
+//! outlives a stop. Neither holds an article or has a clock or a lock.
 //!
 //! The text of relay.hist: what outlives a clean stop besides the buffers (docs/FORMATS.md,
 //! History file). There is one text for each history, and nothing else is read.

@@ -164,8 +164,8 @@ impl Shards {
         self.shards[shard].expire(now, remember, fronts);
     }
 
-    /// The ids that are stored or were refused, rising by their octets. Each has room in the text of
-    /// a history.
+    /// The ids that are stored or were refused, rising by their octets. Each has room in the text
+    /// of a history.
     pub fn entries(&self, alloc: Global) -> Result<Vec<KeptId>, AllocError>
         ensures lasting { IfOk result (λ entries. (claims : List ℕ → Claim)
             → KeepsAll self.now claims → AreLasting (map id_view entries.items) claims) }

@@ -50,7 +50,8 @@ returns-then-self-clause-written g c honest =
 
 pub returns-then-self-clause-honest : goal.returns-then-self-clause-honest
 returns-then-self-clause-honest g c honest =
-    c.write_past.ensures.block.honest (honest_as g.F.RunFile c.args.self.now _ refl refl refl honest)
+    c.write_past.ensures.block.honest
+    (honest_as g.F.RunFile c.args.self.now _ refl refl refl honest)
 
 pub returns-then-self-clause-there : goal.returns-then-self-clause-there
 returns-then-self-clause-there g c aside honest =
