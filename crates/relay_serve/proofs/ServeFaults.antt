@@ -1,13 +1,16 @@
 -- Why a relay is not served, from why its parts aren't had.
-use Rattle.std.proofs.Common.{◌≡◌, inl, inr, List, ℕ, Option, None, Some, Result, Ok, Err, refl}
+use Rattle.std.proofs.Common.{◌≡◌, ◌⊎◌, inl, inr, List, ℕ, Option, None, Some, Result, Ok, Err, refl}
 use Rattle.std.proofs.Common.{subst, sym}
 use Rattle.std.proofs.lemmas.Option.{get_or_from_slice_get, slice_get_within}
 use Rattle.std.specs.Io.KnownBytes.{Keeps}
 use Rattle.std.specs.Result.{IsErr, IsErrAnd}
 use Rattle.cyc_block.specs.declared.store.BlockStore.{Ghosts}
+use Rattle.live_store.specs.declared.record.StorePremises as store_premises
 use Rattle.relay_conf.specs.declared.settings.Config.{Config}
+use Rattle.relay_live.specs.declared.running.Counted.{Counted}
 use Rattle.relay_serve.specs.History.{IsOriginFault}
 use Rattle.relay_serve.specs.Running.{IsRelayFault, IsRunFault, IsServeFault, IsStopFault}
+use Rattle.relay_serve.specs.Running.{RunGives}
 use Rattle.relay_report.specs.Serve.{ServeGives}
 use Rattle.relay_report.specs.declared.fault.ServeError.{ServeError}
 use Rattle.relay_report.specs.declared.fault.ServeError.TheVariants as faults
@@ -21,6 +24,19 @@ run_serves g config stores error (inr (inl unseeded)) =
     subst (IsRelayFault g config stores) (sym unseeded) tt
 run_serves g config stores error (inr (inr threads)) =
     subst (IsRelayFault g config stores) (sym threads) tt
+
+-- where there is no thread for what goes on beside a run nothing is run
+pub run_or_none : {J : Type 0} (g : store_premises.Ghosts J) (config : Config) (peers : List ℕ)
+    (result : Result Counted ServeError)
+    → (result ≡ Err faults.NoThread) ⊎ RunGives g config peers result
+    → RunGives g config peers result
+run_or_none g config peers result (inl none) =
+    subst (RunGives g config peers) (sym none)
+    (record {
+      ran = tt;
+      fault = inr (inr refl);
+    })
+run_or_none g config peers result (inr gives) = gives
 
 -- that it couldn't be stopped is one
 pub stop_stays : {S : Type 0} (g : Ghosts S) (config : Config) (stores : List S)

@@ -22,7 +22,7 @@ use Rattle.relay_report.specs.declared.keeping.BufferFault.TheVariants.{Device, 
 use Rattle.relay_report.specs.declared.keeping.BufferFault.TheVariants.{Damaged, Mixed}
 use Rattle.relay_report.specs.declared.keeping.StartFault.TheVariants as starts
 use Rattle.relay_serve.specs.Files.{IsFaultAt}
-use Rattle.relay_serve.specs.Lives.{IsNoStart, IsUnstartedAs, StartsAsTold}
+use Rattle.relay_serve.specs.Lives.{IsNoStart, IsUnbegun, IsUnstartedAs, StartsAsTold}
 use Rattle.relay_serve.specs.Running.{IsRelayFault, IsRunFault, IsStopFault, unbegun_as}
 use Rattle.relay_serve.specs.Starting.{IsFaultAtAny, IsFaultOfBuffer, IsRefusal}
 use Rattle.relay_serve.proofs.ServeFaults.{run_serves, stop_stays}
@@ -180,3 +180,26 @@ unstarted_stays g config stores (nots.Host why back) error e =
     (run_serves g config stores (unbegun_as (error_kind why)) (unbegun_runs (error_kind why)))
 unstarted_stays g config stores (nots.Refused refused) error e =
     refusal_stays g config stores refused.buffer refused.error error e
+
+-- So is why it isn't begun,
+pub unbegun_fails : {S : Type 0} (g : Ghosts S) (config : Config) (stores : List S)
+    (origin : Origin) (error : ServeError) → IsUnbegun g config stores origin error
+    → IsRelayFault g config stores error
+unbegun_fails g config stores origins.Formatted error unbegun = unbegun.1
+unbegun_fails g config stores (origins.Stopped text) error unbegun =
+    unstarted_stays g config stores unbegun.refused error unbegun.told
+
+-- which is told where it is that it can't start.
+pub unbegun_told : {S : Type 0} (g : Ghosts S) (config : Config) (stores : List S)
+    (origin : Origin) (error : ServeError) → IsUnbegun g config stores origin error
+    → StartsAsTold g config stores origin error
+unbegun_told g config stores origins.Formatted error unbegun = unbegun.0
+unbegun_told g config stores (origins.Stopped text) (faults.Start fault) unbegun = unbegun
+unbegun_told g config stores (origins.Stopped text) (faults.File lost) unbegun = tt
+unbegun_told g config stores (origins.Stopped text) (faults.Port lost) unbegun = tt
+unbegun_told g config stores (origins.Stopped text) faults.Control unbegun = tt
+unbegun_told g config stores (origins.Stopped text) faults.Unseeded unbegun = tt
+unbegun_told g config stores (origins.Stopped text) faults.Memory unbegun = tt
+unbegun_told g config stores (origins.Stopped text) faults.NoThread unbegun = tt
+unbegun_told g config stores (origins.Stopped text) (faults.Stop fault) unbegun = tt
+unbegun_told g config stores (origins.Stopped text) faults.Unwritten unbegun = tt

@@ -18,7 +18,7 @@ use Rattle.relay_live.specs.declared.shared.Unshut.TheVariants as unshut
 use Rattle.relay_report.specs.declared.fault.ServeError.{ServeError}
 use Rattle.relay_report.specs.declared.fault.ServeError.TheVariants as faults
 use Rattle.relay_report.specs.declared.keeping.StopFault.TheVariants as stops
-use Rattle.relay_serve.specs.Running.{unbegun_as}
+use Rattle.relay_serve.specs.Running.{IsRelayFault, unbegun_as}
 use Rattle.relay_serve.specs.Starting.{IsRefusal}
 
 -- where a relay is to begin from what it was stopped with, each store holds its buffer as stopped
@@ -52,6 +52,15 @@ StartsAsTold g config stores origins.Formatted error = IsNoStart error
 StartsAsTold g config stores (origins.Stopped text) (faults.Start fault) =
     TellsStart g config stores text.items (faults.Start fault)
 StartsAsTold g config stores (origins.Stopped text) error = Unit {0}
+
+-- Why a relay isn't begun over these stores: from nothing, for another reason than a start; from
+-- what it was stopped with, for the first reason that there is.
+abbrev pub IsUnbegun : {S : Type 0} → blocks.Ghosts S → Config → (stores : List S) → Origin
+    → ServeError → Type 0
+IsUnbegun g config stores origins.Formatted error =
+    IsNoStart error × IsRelayFault g config stores error
+IsUnbegun g config stores (origins.Stopped text) error =
+    TellsStart g config stores text.items error
 
 -- why a relay isn't stopped so that it can start again is told so
 abbrev pub stopped_as : {S J L : Type 0} {s : blocks.Ghosts S} {j : store_premises.Ghosts J}

@@ -12,13 +12,13 @@ const LAST_MOMENT: u64 = 253_370_764_799;
 /// The clock of the machine, within the limits of the relay's moments. Where it can't be asked it
 /// is the first moment, by which no article's date is due.
 #[derive(Drop)]
-pub struct MachineClock<'a, R> {
+pub(crate) struct MachineClock<'a, R> {
     rt: &'a R,
 }
 
 impl<'a, R> MachineClock<'a, R> {
     /// The clock of this machine.
-    pub fn new(rt: &'a R) -> MachineClock<'a, R> {
+    pub(crate) fn new(rt: &'a R) -> MachineClock<'a, R> {
         MachineClock { rt }
     }
 }

@@ -21,7 +21,7 @@ const LAST_ONES: usize = 64;
 /// each peer's sessions said, `stop` has its ports end, and who asked for that hears no end before
 /// the program has ended. Meanwhile it goes a round of forgetting each minute.
 #[derive(Drop)]
-pub struct Desk<'a> {
+pub(crate) struct Desk<'a> {
     alloc: Global,
     stop: &'a Stop,
     gate: &'a CountingGate<'a>,
@@ -31,7 +31,7 @@ pub struct Desk<'a> {
 
 impl<'a> Desk<'a> {
     /// A desk at which nobody has asked yet.
-    pub fn new(
+    pub(crate) fn new(
         alloc: Global,
         stop: &'a Stop,
         gate: &'a CountingGate<'a>,
@@ -83,7 +83,7 @@ impl<'a> Desk<'a> {
 
     /// Takes the socket away. Who has asked meanwhile waits, as those who asked for the stop, until
     /// the program has ended.
-    pub fn close<R: Clock + Files>(&self, rt: &R, folder: &str) {
+    pub(crate) fn close<R: Clock + Files>(&self, rt: &R, folder: &str) {
         self.control.close(rt, self.alloc, folder);
         for _ in 0..LAST_ONES {
             match self.control.next_word(rt) {

@@ -4,10 +4,11 @@ ghost use Rattle.std.specs.Prelude.{◌≡◌, ◌+◌, ◌≤◌, ◌<◌, IfOk
 ghost use Rattle.std.specs.Option.{ForSome};
 ghost use Rattle.live_jobs.specs.Desks.{posts_in};
 ghost use Rattle.relay_report.specs.Figures.{feed_figures_view, name_of};
-ghost use Rattle.relay_live.specs.Counts.{accepted_in, posted_in, mismatched_receipts_of};
-ghost use Rattle.relay_live.specs.Counts.{ids_stored_again_of};
+ghost use Rattle.relay_live.specs.Counts.{accepted_in, posted_in};
 ghost use Rattle.relay_live.specs.Making.{buffers_in};
+ghost use Rattle.relay_report.specs.Serve.{AreOf};
 ghost use Rattle.relay_serve.specs.Figures.{HasNames, figures_by};
+ghost use Rattle.relay_serve.specs.Running.{CountsOf};
 
 use block_shelf::BufferFigures;
 use cyc_block::BlockStore;
@@ -29,14 +30,10 @@ pub(crate) fn totals_of<S: BlockStore + Drop, J: StorePremises, L: Ledger, R: Wa
     shared: &Shared<S, J, L>,
     counted: &Counted,
 ) -> Result<Totals, AllocError>
-    requires { buffers_in shared.now ≡ length config.now.buffers.buffers.items }
-    ensures names { IfOk result (λ totals. HasNames config.now totals.figures) }
-    ensures accepted { IfOk result (λ totals. totals.accepted ≡ accepted_in counted.now) }
-    ensures posted { IfOk result (λ totals. totals.posted ≡ posts_in (posted_in counted.now)) }
-    ensures mismatched_receipts { IfOk result (λ totals.
-        totals.mismatched_receipts ≡ mismatched_receipts_of counted.now) }
-    ensures ids_stored_again { IfOk result (λ totals.
-        totals.ids_stored_again ≡ ids_stored_again_of counted.now) }
+    requires buffers { buffers_in shared.now ≡ length config.now.buffers.buffers.items }
+    requires posted { posts_in (posted_in counted.now) ≡ accepted_in counted.now }
+    ensures totals { IfOk result (AreOf config.now) }
+    ensures counted { IfOk result (λ totals. CountsOf totals counted.now) }
 {
     Ok(Totals {
         figures: figures_of(rt, alloc, config, shared)?,

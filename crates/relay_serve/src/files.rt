@@ -3,7 +3,6 @@ ghost use Rattle.std.specs.Prelude.{◌≡◌, length, map, All, Any, IfErr, IfN
 ghost use Rattle.file_blocks.specs.Store.{count_of as blocks_counted};
 ghost use Rattle.relay_serve.specs.Files.{HasReason, IsFaultAt, IsFaultOf, IsFileFault};
 ghost use Rattle.relay_serve.specs.Files.{SharesFile};
-ghost use Rattle.relay_report.specs.declared.fault.ServeError.TheVariants as faults;
 ghost use Rattle.run_blocks.specs.Store.{count_of};
 
 use crate::reasons::reason_of;
@@ -21,7 +20,7 @@ use std::{fs, str};
 /// in the folder. Nothing is read of them or written to them. The error is want of memory, or the
 /// first file that can't be had, as one that another holds, or one that is the file of an earlier
 /// buffer, whatever its name.
-pub fn hold_files<R: Files<File = File>>(
+pub(crate) fn hold_files<R: Files<File = File>>(
     rt: &R,
     alloc: Global,
     settings: &Buffers,
@@ -51,38 +50,34 @@ fn held_or_told<R: Files<File = File>>(
 ) -> Result<HeldFile, ServeError>
     ensures { IfErr result (IsFaultOf buffer.now) }
 {
-    match hold_file(rt, alloc, buffer, folder, earlier)? {
+    match hold_file(rt, alloc, buffer, folder, earlier) {
         Ok(file) => Ok(file),
-        Err(reason) => {
+        Err(Some(reason)) => {
             let count = earlier.len();
             Err(unheld(rt, alloc, settings, count, folder, buffer, reason))
         }
+        Err(None) => Err(ServeError::Memory),
     }
 }
 
-/// The file of a buffer, held, or why that can't be had, as one that is one of the others.
+/// The file of a buffer, held, or why that can't be had, as one that is one of the others; no
+/// reason where memory was refused.
 fn hold_file<R: Files<File = File>>(
     rt: &R,
     alloc: Global,
     buffer: &BufferConf,
     folder: &str,
     others: &[HeldFile],
-) -> Result<Result<HeldFile, Reason>, ServeError>
-    ensures memory { IfErr result (λ error. error ≡ faults.Memory) }
-{
+) -> Result<HeldFile, Option<Reason>> {
     let Ok(file) = str::from_utf8(buffer.file.as_slice()) else {
-        return Ok(Err(Reason::NoText));
+        return Err(Some(Reason::NoText));
     };
-    let path = Path::new(folder).join(alloc, file)?;
+    let Ok(path) = Path::new(folder).join(alloc, file) else {
+        return Err(None);
+    };
     match HeldFile::hold(rt, path.as_str()) {
-        Ok(file) => match taken_by_none(file, others) {
-            Some(file) => Ok(Ok(file)),
-            None => Ok(Err(Reason::Shared)),
-        },
-        Err(refused) => match reason_of(&refused) {
-            Some(reason) => Ok(Err(reason)),
-            None => Err(ServeError::Memory),
-        },
+        Ok(file) => taken_by_none(file, others).ok_or(Some(Reason::Shared)),
+        Err(refused) => Err(reason_of(&refused)),
     }
 }
 
@@ -163,7 +158,7 @@ fn taken_by_none(file: HeldFile, others: &[HeldFile]) -> Option<HeldFile>
 /// reads runs of them, and whether no buffer was kept in any: each file is made as long as that
 /// takes, and its last block is tried. The error is want of memory, or the first file with which
 /// that can't be done.
-pub fn fit_files(
+pub(crate) fn fit_files(
     alloc: Global,
     settings: &Buffers,
     files: Vec<HeldFile>,

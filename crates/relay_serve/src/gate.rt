@@ -57,7 +57,7 @@ impl PeerCounts {
 /// Lets every command in at once, counts for each peer what its sessions say and read, and tells of
 /// each session that has ended, in a line on standard error.
 #[derive(Drop)]
-pub struct CountingGate<'a> {
+pub(crate) struct CountingGate<'a> {
     alloc: Global,
     peers: &'a [Peer],
     counts: Vec<PeerCounts>,
@@ -65,7 +65,7 @@ pub struct CountingGate<'a> {
 
 impl<'a> CountingGate<'a> {
     /// A gate for the sessions of these peers, before the first of them.
-    pub fn new(alloc: Global, peers: &'a [Peer]) -> Result<CountingGate<'a>, AllocError> {
+    pub(crate) fn new(alloc: Global, peers: &'a [Peer]) -> Result<CountingGate<'a>, AllocError> {
         let mut counts = Vec::new(alloc);
         for _peer in peers {
             counts.push(PeerCounts::new())?;

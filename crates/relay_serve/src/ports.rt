@@ -18,7 +18,7 @@ use std::net::{Net, TcpListener, TcpStream};
 /// its connections are served at once, all of them behind its one port. Each takes so many
 /// connections, without a number as many as come, until it is told to stop. The error is want of
 /// memory, or the first port that can't be had.
-pub fn open_ports<'a, N: Net<Listener = TcpListener, Stream = TcpStream>>(
+pub(crate) fn open_ports<'a, N: Net<Listener = TcpListener, Stream = TcpStream>>(
     net: &N,
     alloc: Global,
     relay: &Relay,

@@ -4,7 +4,7 @@ ghost use Rattle.std.specs.Prelude.{length, map};
 ghost use Rattle.block_shelf.specs.Filling.{IsBeginRefusal};
 ghost use Rattle.relay_live.specs.Holding.{has_buffer};
 ghost use Rattle.relay_live.specs.Making.{buffers_in, ends_in, slots_of};
-ghost use Rattle.relay_serve.specs.Lives.{AreOfOrigin, IsNoStart, StartsAsTold};
+ghost use Rattle.relay_serve.specs.Lives.{AreOfOrigin, IsNoStart, IsUnbegun, StartsAsTold};
 ghost use Rattle.relay_serve.specs.Running.{CanRun, CountsOf, IsRelayFault, IsRunFault, Ran};
 ghost use Rattle.relay_serve.specs.Running.{RunGives};
 ghost use Rattle.relay_serve.specs.Running.{ended_as};
@@ -12,14 +12,15 @@ ghost use Rattle.relay_serve.specs.Running.{channel_count, unbegun_as};
 ghost use Rattle.relay_report.specs.Serve.{AreOf};
 ghost use Rattle.relay_report.specs.declared.fault.ServeError.TheVariants as faults;
 
+use crate::clock::MachineClock;
 use crate::files::unformatted;
-use crate::lives::{finish, start_shared};
+use crate::gate::CountingGate;
+use crate::lives::{finish, unstarted};
 use crate::side_thread::{Figured, Served, SideThread, start_side_thread};
 use block_shelf::BeginError;
 use cyc_block::BlockStore;
-use live_session::{Clock, Gate};
 use live_store::{ArticleLog, StorePremises};
-use live_wire::Connections;
+use live_wire::Port;
 use relay_conf::Config;
 use relay_core::Stopped;
 use relay_folder::Origin;
@@ -33,10 +34,11 @@ use std::sync::Wait;
 use std::sync::ledger::{Blank, Book, Ledger, Share};
 use std::thread;
 use std::thread::Threads;
+use std::time::Clock;
 
 /// What a relay that was run and stopped has come to.
 #[derive(Drop)]
-pub struct Finished<S> {
+pub(crate) struct Finished<S> {
     /// What its run counted.
     pub counted: Counted,
     /// The totals, or that there was no memory for them.
@@ -47,7 +49,7 @@ pub struct Finished<S> {
 
 /// What a relay begins over.
 #[derive(Drop)]
-pub struct Beginning<S> {
+pub(crate) struct Beginning<S> {
     /// The store of each buffer, in their order.
     pub stores: Vec<S>,
     /// From nothing, or from what it was stopped with.
@@ -56,7 +58,7 @@ pub struct Beginning<S> {
 
 /// What the texts and the posts of a relay are recorded in.
 #[derive(Drop)]
-pub struct Records<'a> {
+pub(crate) struct Records<'a> {
     /// The register, in which each stored text has a record.
     pub register: &'a ArticleLog,
     /// The ledger of the posts before it is opened, with a part for each writer.
@@ -65,11 +67,11 @@ pub struct Records<'a> {
 
 /// What stands around a relay.
 #[derive(Drop)]
-pub struct Surroundings<'a, C, G, B> {
+pub(crate) struct Surroundings<'a, R, B> {
     /// The clock that it goes by.
-    pub clock: &'a C,
+    pub clock: &'a MachineClock<'a, R>,
     /// What lets its sessions' commands in, and is told of them.
-    pub gate: &'a G,
+    pub gate: &'a CountingGate<'a>,
     /// What goes on beside it.
     pub side: &'a B,
 }
@@ -83,27 +85,21 @@ pub struct Surroundings<'a, C, G, B> {
 /// want of memory, of random numbers, or of a thread, or the file of a buffer whose device failed
 /// when it was formatted; what was served before stands, and nothing is counted.
 #[tactic(auto, using(crate::proofs::Starts::run_ends))]
-pub fn run_relay<
-    X: Connections<R> + Drop + Send,
+pub(crate) fn run_relay<
     S: BlockStore + Drop + Send,
     J: StorePremises + Send + Sync,
     L: Ledger + Send + Sync,
-    C: Clock + Sync,
-    G: Gate<R> + Sync,
     B: SideThread<R> + Sync,
-    R: Threads + Wait + RandomSource + Sync,
+    R: Threads + Wait + Clock + Eprint + RandomSource + Sync,
 >(
     rt: &R,
     alloc: Global,
     config: &Config,
     beginning: Beginning<S>,
     records: Records<'_>,
-    peer_sources: Vec<PeerSource<X>>,
-    surroundings: Surroundings<'_, C, G, B>,
+    peer_sources: Vec<PeerSource<Port<'_>>>,
+    surroundings: Surroundings<'_, R, B>,
 ) -> Result<Finished<S>, ServeError>
-where
-    <X as Connections<R>>::Reader: Drop + Send,
-    <X as Connections<R>>::Writer: Drop + Send,
     requires register { records.register.now ≡ J.register }
     requires holds { J.holds ≡ has_buffer config.now.buffers }
     requires name { records.blank.name ≡ L.name }
@@ -118,7 +114,7 @@ where
     ensures totals { IfOk result (λ run. IfOk run.totals (AreOf config.now)) }
     ensures counted { IfOk result (λ run. IfOk run.totals (λ totals. CountsOf totals run.counted)) }
     ensures ran { IfOk result (λ run. Ran ⟦<J as StorePremises>⟧ config.now
-        (map (λ peer_source. peer_source.peer) peer_sources.items) run.counted) }
+        (map (λ peer_source. peer_source.peer) peer_sources.entry.items) run.counted) }
     ensures start { IfErr result (StartsAsTold ⟦<S as BlockStore>⟧ config.now
         beginning.stores.items beginning.origin) }
     ensures fault { IfErr result
@@ -155,7 +151,8 @@ where
     }
 }
 
-/// What so many ends share over these stores, from nothing or from what it was stopped with.
+/// What so many ends share over these stores, from nothing or from what it was stopped with: then
+/// nothing is written until it is known that it starts.
 fn begun_by<S: BlockStore + Drop, J: StorePremises, L: Ledger, R: RandomSource + Wait>(
     rt: &R,
     alloc: Global,
@@ -175,43 +172,22 @@ fn begun_by<S: BlockStore + Drop, J: StorePremises, L: Ledger, R: RandomSource +
     ensures buffers { IfOk result (λ shared.
         buffers_in shared ≡ length config.now.buffers.buffers.items) }
     ensures ends { IfOk result (λ shared. ends_in shared ≡ ends) }
-    ensures start { IfErr result (StartsAsTold ⟦<S as BlockStore>⟧ config.now
+    ensures unbegun { IfErr result (IsUnbegun ⟦<S as BlockStore>⟧ config.now
         beginning.stores.items beginning.origin) }
-    ensures fault { IfErr result
-        (IsRelayFault ⟦<S as BlockStore>⟧ config.now beginning.stores.items) }
 {
     let Beginning { stores, origin } = beginning;
     match origin {
-        Origin::Formatted => shared_by(rt, alloc, config, stores, book, ends),
+        Origin::Formatted => match Shared::new(rt, alloc, config, stores, book, ends) {
+            Ok(shared) => Ok(shared),
+            Err(error) => Err(unshared(alloc, config, error)),
+        },
         Origin::Stopped(history) => {
             let stopped = Stopped { stores, history };
-            start_shared(rt, alloc, config, register, stopped, book, ends)
+            match Shared::start(rt, alloc, config, register, stopped, book, ends) {
+                Ok(shared) => Ok(shared),
+                Err(refused) => Err(unstarted(alloc, config, refused)),
+            }
         }
-    }
-}
-
-/// What so many ends share over these stores, before anything has come.
-fn shared_by<S: BlockStore + Drop, J: StorePremises, L: Ledger, R: RandomSource>(
-    rt: &R,
-    alloc: Global,
-    config: &Config,
-    stores: Vec<S>,
-    book: Book<L>,
-    ends: usize,
-) -> Result<Shared<S, J, L>, ServeError>
-    requires stores { map (λ store. length (S.blocks store)) stores.items
-        ≡ map (λ buffer. buffer.blocks) config.now.buffers.buffers.items }
-    requires honest { J.trusted ≡ true → All S.honest stores.items }
-    requires book { book.total ≡ 0 }
-    ensures buffers { IfOk result (λ shared.
-        buffers_in shared ≡ length config.now.buffers.buffers.items) }
-    ensures ends { IfOk result (λ shared. ends_in shared ≡ ends) }
-    ensures other { IfErr result IsNoStart }
-    ensures fault { IfErr result (IsRelayFault ⟦<S as BlockStore>⟧ config.now stores.items) }
-{
-    match Shared::new(rt, alloc, config, stores, book, ends) {
-        Ok(shared) => Ok(shared),
-        Err(error) => Err(unshared(alloc, config, error)),
     }
 }
 
@@ -245,24 +221,18 @@ fn hasher_of<R: RandomSource>(rt: &R) -> Result<RandomState, ServeError>
 /// Runs a relay over what its threads share, until all of them have ended.
 fn run_shared<
     'a,
-    X: Connections<R> + Drop + Send,
     S: BlockStore + Drop + Send,
     J: StorePremises + Send + Sync,
     L: Ledger + Send + Sync,
-    C: Clock + Sync,
-    G: Gate<R> + Sync,
     Q: RegisterRef + Sync,
-    R: Threads + Wait + Sync,
+    R: Threads + Wait + Clock + Eprint + Sync,
 >(
     rt: &R,
     alloc: Global,
-    keeper: &Keeper<'a, S, J, L, C, Q>,
-    serving: Serving<'a, X, G>,
+    keeper: &Keeper<'a, S, J, L, MachineClock<'a, R>, Q>,
+    serving: Serving<'a, Port<'a>, CountingGate<'a>>,
     all: Share<L>,
 ) -> Result<Counted, ServeError>
-where
-    <X as Connections<R>>::Reader: Drop + Send,
-    <X as Connections<R>>::Writer: Drop + Send,
     requires { CanRun (channel_count serving.config.now) L.parts all.parts all.amount
         (slots_of keeper.now) (length serving.peer_sources.items) }
     ensures { RunGives ⟦<J as StorePremises>⟧ serving.entry.config.now
@@ -279,27 +249,21 @@ where
 /// on, which is started first.
 fn attended<
     'a,
-    X: Connections<R> + Drop + Send,
     S: BlockStore + Drop + Send,
     J: StorePremises + Send + Sync,
     L: Ledger + Send + Sync,
-    C: Clock + Sync,
-    G: Gate<R> + Sync,
     B: SideThread<R> + Sync,
-    R: Threads + Wait + Sync,
+    R: Threads + Wait + Clock + Eprint + Sync,
 >(
     rt: &R,
     alloc: Global,
     register: &'a ArticleLog,
     shared: &'a Shared<S, J, L>,
-    serving: Serving<'a, X, G>,
+    serving: Serving<'a, Port<'a>, CountingGate<'a>>,
     all: Share<L>,
-    clock: &'a C,
+    clock: &'a MachineClock<'a, R>,
     side: &B,
 ) -> Result<Counted, ServeError>
-where
-    <X as Connections<R>>::Reader: Drop + Send,
-    <X as Connections<R>>::Writer: Drop + Send,
     requires register { register.now ≡ J.register }
     requires holds { J.holds ≡ has_buffer serving.config.now.buffers }
     requires buffers { buffers_in shared.now ≡ length serving.config.now.buffers.buffers.items }
@@ -307,9 +271,8 @@ where
         × (L.parts ≡ channel_count serving.config.now) }
     requires slots { ends_in shared.now ≡ length serving.peer_sources.items }
     requires few { length serving.peer_sources.items < 2 ^ 62 }
-    ensures ran { IfOk result (Ran ⟦<J as StorePremises>⟧ serving.entry.config.now
-        (map (λ peer_source. peer_source.peer) serving.entry.peer_sources.items)) }
-    ensures fault { IfErr result IsRunFault }
+    ensures { RunGives ⟦<J as StorePremises>⟧ serving.entry.config.now
+        (map (λ peer_source. peer_source.peer) serving.entry.peer_sources.items) result }
 {
     let config = serving.config;
     let own = Keeper::new(shared, register, &config.buffers, clock);
@@ -333,17 +296,14 @@ fn run_beside<
     R: Threads + Wait + Sync,
 >(rt: &R, run: W, side: &B, served: &F) -> Result<Counted, ServeError>
     requires { W.pre run }
-    ensures ran { IfOk result (λ counted. W.post run (Ok counted)) }
-    ensures fault { IfErr result (λ error. (error ≡ faults.NoThread) ⊎ W.post run (Err error)) }
+    ensures { (result ≡ Err faults.NoThread) ⊎ W.post run result }
 {
     thread::scope(
         thread::scope_env(),
         rt,
         move |scope| -> Result<Counted, ServeError>
             requires { W.pre run }
-            ensures ran { IfOk result (λ counted. W.post run (Ok counted)) }
-            ensures fault { IfErr result
-                (λ error. (error ≡ faults.NoThread) ⊎ W.post run (Err error)) }
+            ensures { (result ≡ Err faults.NoThread) ⊎ W.post run result }
         {
             let Some(attending) = start_side_thread(scope, rt, side, served) else {
                 drop(run);

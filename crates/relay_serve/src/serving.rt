@@ -304,16 +304,7 @@ where
     let Beginning { stores, origin } = beginning;
     let stores = watch_all(rt, &config.buffers, stores)?;
     let clock = MachineClock::new(rt);
-    run_relay::<
-        Port<'_>,
-        Watched<'a, RunBlocks, R>,
-        Brand,
-        Brand,
-        MachineClock<'_, R>,
-        CountingGate<'_>,
-        Desk<'_>,
-        R,
-    >(
+    run_relay::<Watched<'a, RunBlocks, R>, Brand, Brand, Desk<'_>, R>(
         rt,
         alloc,
         config,

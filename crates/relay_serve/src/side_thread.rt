@@ -15,7 +15,7 @@ use std::sync::ledger::Ledger;
 use std::thread::{JoinHandle, Scope, Threads};
 
 /// A relay that is served, as whoever goes on beside it sees it.
-pub trait Figured<R> {
+pub(crate) trait Figured<R> {
     /// The figures: each buffer, feed and shard as it is when its lock is taken, one after the
     /// other.
     fn figures(&self, rt: &R, alloc: Global) -> Result<Figures, AllocError>;
@@ -25,7 +25,7 @@ pub trait Figured<R> {
 }
 
 /// What goes on beside a relay, in a thread of its own.
-pub trait SideThread<R> {
+pub(crate) trait SideThread<R> {
     /// Goes on until the relay has ended.
     fn attend<F: Figured<R>>(&self, rt: &R, relay: &F);
 

@@ -1,4 +1,4 @@
-use Rattle.relay_serve.proofs.lives.shut_shared.Goals as goal
+use Rattle.relay_serve.proofs.lives.finish.Goals as goal
 
 -- the first reason is told
 pub returns-in-Err-clause-told : goal.returns-in-Err-clause-told
