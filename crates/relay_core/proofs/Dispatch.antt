@@ -19,17 +19,16 @@ use Rattle.relay_core.specs.declared.peers.Peers.{Peers}
 use Rattle.relay_core.specs.declared.system.System.{System}
 
 module _ {S : Type 0} {g : Ghosts S} (old : System S g) where
-  -- the event of an arm is stepped
-  pub steps_as : (event one : Event) (output : Output) (new : System S g) → event ≡ one
-      → Steps (event_view one) old output new → Steps (event_view event) old output new
-  steps_as event one output new is steps =
-      subst (λ (e : Event). Steps (event_view e) old output new) (sym is) steps
+  -- the event is stepped, or refused for the right reason
+  abbrev pub IsHad : Event → Output → System S g → Type 0
+  IsHad event output new =
+      Steps (event_view event) old output new × RefusedAs (event_view event) old output new
 
-  -- and refused
-  pub refused_as : (event one : Event) (output : Output) (new : System S g) → event ≡ one
-      → RefusedAs (event_view one) old output new → RefusedAs (event_view event) old output new
-  refused_as event one output new is refused =
-      subst (λ (e : Event). RefusedAs (event_view e) old output new) (sym is) refused
+  -- so is that of an arm
+  pub had_as : (event one : Event) (output : Output) (new : System S g) → event ≡ one
+      → IsHad one output new → IsHad event output new
+  had_as event one output new is had =
+      subst (λ (e : Event). IsHad e output new) (sym is) had
 
 -- a peer that is there is lent
 pub is_lent : {A : Type 0} (test : Phase → Bool) (n : ℕ) (old new : Peers) (answer : Bool)

@@ -45,7 +45,7 @@ use Rattle.relay_core.specs.Openings.{opening_of}
 use Rattle.relay_core.specs.Queues.{IsPopped, jobs_of}
 use Rattle.relay_core.specs.Sharing.{KeepsFrame}
 use Rattle.relay_core.specs.Steps.{Steps}
-use Rattle.relay_core.specs.Writing.{Advances, WriterOut, outcome_writer}
+use Rattle.relay_core.specs.Writing.{Advances, WriterOut}
 use Rattle.relay_core.specs.declared.event.CoreError.TheVariants as faults
 use Rattle.relay_core.specs.declared.event.Output.TheVariants as outputs
 use Rattle.relay_core.specs.declared.queue.Queue.{Queue}
@@ -209,17 +209,20 @@ module _ {S : Type 0} {g : Ghosts S} (h now : ℕ) (old : System S g) where
             (out.peers k)));
       }
 
-  -- the session is told
-  pub told_one : (s : ℕ) (outcome : Outcome) (peers : Peers)
-      → TellsPeer s outcome old.peers peers
-      → Advances h now (outcome_writer s outcome) old code.Idle (record old { peers = peers })
-  told_one s outcomes.Kept peers tells = λ x out well.
+  -- the session is told that its article is kept
+  pub told_kept : (s : ℕ) (peers : Peers) → TellsPeer s outcomes.Kept old.peers peers
+      → Advances h now (code.Settled s) old code.Idle (record old { peers = peers })
+  told_kept s peers tells = λ x out well.
       record {
         after = answered x h s world.IsKept;
         writes = writers.TellsKept s out.writer_is refl;
         out = told_out s outcomes.Kept (code.Settled s) x peers tells refl out;
       }
-  told_one s outcomes.Failed peers tells = λ x out well.
+
+  -- and that it isn't
+  pub told_failed : (s : ℕ) (peers : Peers) → TellsPeer s outcomes.Failed old.peers peers
+      → Advances h now (code.Forgotten s) old code.Idle (record old { peers = peers })
+  told_failed s peers tells = λ x out well.
       record {
         after = answered x h s world.HasFailed;
         writes = writers.TellsFailed s out.writer_is refl;

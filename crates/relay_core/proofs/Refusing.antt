@@ -1,6 +1,6 @@
 -- Events are refused in the order of the reasons, and nothing changes by it.
 use Rattle.std.proofs.Common.{◌≡◌, ◌<◌, ◌≤◌, ℕ, Bool, true, false, List, Option, None, Some, refl}
-use Rattle.std.proofs.Common.{sym, ap, subst, ◌∙◌, arith}
+use Rattle.std.proofs.Common.{sym, ap, subst, ◌∙◌, arith, true≢false}
 use Rattle.std.proofs.lemmas.Bool.Decides.{nat_tests}
 use Rattle.std.specs.Prelude.{length, nat_le, nat_lt, if◌then◌else◌}
 use Rattle.article_verdict.specs.Config.{terms_of}
@@ -31,6 +31,18 @@ memory_is output fault memory is =
 
 none_some : {fault : Fault} → None ≡ Some fault → ⊥
 none_some e = cc
+
+-- whether the world refuses something
+abbrev pub is_refusal : world.Output → Bool
+is_refusal world.Quiet = false
+is_refusal (world.Sent session octets) = false
+is_refusal (world.Ended session octets) = false
+is_refusal (world.Refuses fault) = true
+
+-- what isn't refused never is
+pub never_refuses : (output : world.Output) (fault : Fault) → output ≡ world.Refuses fault
+    → is_refusal output ≡ false → ⊥
+never_refuses output fault is other = true≢false (sym (ap is_refusal is) ∙ other)
 
 module _ {S : Type 0} {g : Ghosts S} (s : System S g) where
   -- the first reason to refuse the event by what is seen

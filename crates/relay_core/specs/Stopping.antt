@@ -6,11 +6,13 @@ use Rattle.article_verdict.specs.Config.{terms_of}
 use Rattle.cyc_block.specs.declared.store.BlockStore.{Ghosts}
 use Rattle.feed_queue.specs.Feeds.{KeepsFeeds}
 use Rattle.feed_queue.specs.Left.{AreLeft}
+use Rattle.feed_queue.specs.declared.desk.FeedDesk.{FeedDesk}
 use Rattle.id_history.specs.History as texts
 use Rattle.id_history.specs.History.{Fits, history_octets}
 use Rattle.id_history.specs.Views.{feed_view}
 use Rattle.id_history.specs.declared.kept.KeptFeed.{KeptFeed}
 use Rattle.id_history.specs.Lasting.{AreLasting}
+use Rattle.relay_conf.specs.declared.settings.Config.{Config}
 use Rattle.relay_facts.specs.Started.{newest_kept}
 use Rattle.relay_model.specs.Claims.{is_storing}
 use Rattle.relay_model.specs.Invariants.{IsWell}
@@ -100,11 +102,11 @@ IsFromBufferSet old (unstoppeds.Memory back) = back ≡ old
 IsFromBufferSet old (unstoppeds.Device number stores) =
     IsShutPartly old.buffer_set number stores.items
 
--- this is left of the feeds that the relay's desk keeps
-abbrev pub AreKeptFeeds : {S : Type 0} {g : Ghosts S} → System S g → List KeptFeed → Type 0
-AreKeptFeeds system kept =
-    (feed : ℕ → Feed) → KeepsFeeds system.desk (ring_sizes (terms_of system.config)) feed
-    → AreLeft (map feed_view kept) (ring_sizes (terms_of system.config)) feed
+-- this is left of the feeds of this configuration that the desk keeps
+abbrev pub AreKeptFeeds : Config → FeedDesk → List KeptFeed → Type 0
+AreKeptFeeds config desk kept =
+    (feed : ℕ → Feed) → KeepsFeeds desk (ring_sizes (terms_of config)) feed
+    → AreLeft (map feed_view kept) (ring_sizes (terms_of config)) feed
 
 -- the text of a history has room for so many feeds, and for what waits in each
 abbrev pub HaveRoom : List KeptFeed → Type 0

@@ -4,15 +4,13 @@ use Rattle.article_verdict.specs.Config.{terms_of}
 use Rattle.block_shelf.specs.Calls.{token_of}
 use Rattle.block_shelf.specs.Keeping.{KeepsTexts}
 use Rattle.block_shelf.specs.declared.buffer_set.Begun.{Begun}
+use Rattle.block_shelf.specs.declared.buffer_set.BufferSet.{BufferSet}
 use Rattle.buffer_group.specs.Jobs.{job_view}
 use Rattle.buffer_group.specs.Writers.{writer_view}
 use Rattle.buffer_group.specs.declared.writer.Writer.{Writer}
-use Rattle.buffer_group.specs.declared.writer.Writer.TheVariants as writers
 use Rattle.cyc_block.specs.declared.store.BlockStore.{Ghosts}
 use Rattle.feed_queue.specs.Feeds.{KeepsFeeds}
 use Rattle.id_history.specs.Shards.{KeepsAll}
-use Rattle.peer_session.specs.declared.steps.Outcome.{Outcome}
-use Rattle.peer_session.specs.declared.steps.Outcome.TheVariants as outcomes
 use Rattle.relay_model.specs.Invariants.{IsWell}
 use Rattle.relay_model.specs.Terms.{Terms}
 use Rattle.relay_model.specs.World.{World}
@@ -60,7 +58,10 @@ Advances h now writer old writer' new =
     (x : World) → WriterOut (terms_of old.config) h writer old x
     → IsWell (terms_of old.config) x → Advanced (terms_of old.config) h now x writer' new
 
--- the writer that is to tell a session this outcome
-abbrev pub outcome_writer : ℕ → Outcome → Writer Begun
-outcome_writer session outcomes.Kept = writers.Settled session
-outcome_writer session outcomes.Failed = writers.Forgotten session
+-- the same by the buffer set alone, of whatever relay has it
+abbrev pub AdvancesBy : {S : Type 0} {g : Ghosts S} → (h now : ℕ) → Writer Begun
+    → (old : BufferSet S g) → Writer Begun → (new : BufferSet S g) → Type 0
+AdvancesBy {S = S} {g = g} h now writer old writer' new =
+    (system : System S g)
+    → Advances h now writer (record system { buffer_set = old }) writer'
+    (record system { buffer_set = new })

@@ -1,22 +1,23 @@
 //! How the relay is closed (docs/PROTOCOL.md, Clean stop and start).
-ghost use Rattle.std.specs.Prelude.{◌≡◌};
-ghost use Rattle.relay_core.specs.Stopping.{next_stop};
+ghost use Rattle.std.specs.Prelude.{◌≡◌, IfOk};
+ghost use Rattle.relay_core.specs.Stopping.{AreKeptFeeds, HaveRoom, next_stop};
 
 use crate::idle::is_idle;
 use crate::stopped::{Stopped, Unstopped};
 use crate::system::System;
 use block_shelf::Unshut;
 use cyc_block::BlockStore;
+use feed_queue::FeedDesk;
 use id_history::{History, KeptFeed, write};
-use std::alloc::AllocError;
+use relay_conf::Config;
+use std::alloc::{AllocError, Global};
 
 /// The groups that there can be.
 const GROUP_LIMIT: usize = 256;
 
 impl<S: BlockStore> System<S> {
     ghost use Rattle.std.specs.Prelude.{◌≡◌, IfErr, IfOk};
-    ghost use Rattle.relay_core.specs.Stopping.{AreKeptFeeds, ComesBack, HaveRoom, IsFromBufferSet};
-    ghost use Rattle.relay_core.specs.Stopping.{Shuts, TellsHistory};
+    ghost use Rattle.relay_core.specs.Stopping.{ComesBack, IsFromBufferSet, Shuts, TellsHistory};
     ghost use Rattle.block_shelf.specs.Stopping.{HoldsKept};
 
     /// Closes the relay: gives the stores of its buffers, and the text of its history. Where a
@@ -73,7 +74,7 @@ impl<S: BlockStore> System<S> {
         if positions.len() > GROUP_LIMIT {
             return Err(AllocError);
         }
-        let feeds = self.kept_feeds()?;
+        let feeds = kept_feeds(self.alloc, &self.config, &self.desk)?;
         let ids = self.shards.entries(self.alloc)?;
         let history = History {
             stop,
@@ -86,21 +87,21 @@ impl<S: BlockStore> System<S> {
         drop(history);
         Ok(text?)
     }
+}
 
-    /// What is left of all feeds.
-    fn kept_feeds(&self) -> Result<Vec<KeptFeed>, AllocError>
-        ensures left { IfOk result (λ kept. AreKeptFeeds self.now kept.items) }
-        ensures room { IfOk result (λ kept. HaveRoom kept.items) }
-    {
-        let feeds = &self.config.relay.feeds;
-        let mut kept = Vec::with_capacity(self.alloc, feeds.len())?;
-        for (number, _feed) in feeds.iter().enumerate() {
-            if let Some(one) = self.desk.kept(self.alloc, number as u16)? {
-                kept.push_reserved(one);
-            }
+/// What is left of all feeds.
+fn kept_feeds(alloc: Global, config: &Config, desk: &FeedDesk) -> Result<Vec<KeptFeed>, AllocError>
+    ensures left { IfOk result (λ kept. AreKeptFeeds config.now desk.now kept.items) }
+    ensures room { IfOk result (λ kept. HaveRoom kept.items) }
+{
+    let feeds = &config.relay.feeds;
+    let mut kept = Vec::with_capacity(alloc, feeds.len())?;
+    for (number, _feed) in feeds.iter().enumerate() {
+        if let Some(one) = desk.kept(alloc, number as u16)? {
+            kept.push_reserved(one);
         }
-        Ok(kept)
     }
+    Ok(kept)
 }
 
 /// The number of the stop after this one: after the greatest it is 1 again.

@@ -1,7 +1,11 @@
 //! A Write: the next bit of the work of a group's writer, one call of one part.
+ghost use Rattle.std.specs.Prelude.{ℕ};
+ghost use Rattle.buffer_group.specs.declared.writer.Writer.TheVariants as writers;
+ghost use Rattle.relay_core.specs.Writing.{AdvancesBy};
+
 use crate::event::{CoreError, Output};
 use crate::system::{LAST_MOMENT, System, let_go};
-use block_shelf::Begun;
+use block_shelf::{Begun, BufferSet};
 use buffer_group::{Job, Writer};
 use cyc_block::BlockStore;
 use cyc_token::Token;
@@ -43,8 +47,10 @@ impl<S: BlockStore> System<S> {
     {
         match writer {
             Writer::Idle => self.pop(group),
-            Writer::Popped(job) => self.begin(job),
-            Writer::Writing(job, begun, written) => self.write_next(job, begun, written),
+            Writer::Popped(job) => begin(&mut self.buffer_set, job),
+            Writer::Writing(job, begun, written) => {
+                write_next(&mut self.buffer_set, job, begun, written)
+            }
             Writer::Finished(job, token) => self.settle(job, token, now),
             Writer::Failed(job, open_one) => match open_one {
                 // A block of the open write couldn't be written.
@@ -84,41 +90,6 @@ impl<S: BlockStore> System<S> {
         }
     }
 
-    /// It begins the job in a buffer of the group, where a token has room for the cycle.
-    fn begin(&mut self, job: Job) -> Writer<Begun>
-        ensures advances { (group now : ℕ)
-            → Advances group now (writers.Popped job) self.old result self.new }
-        ensures frame { KeepsFrame self.old self.new }
-    {
-        let length = job.article.length();
-        match self
-            .buffer_set
-            .begin(job.article.group, job.article.class, length)
-        {
-            Some(begun) => Writer::Writing(job, begun, 0),
-            None => Writer::Failed(job, None),
-        }
-    }
-
-    /// It writes the next block of the job's text, or finishes the write once all are written.
-    fn write_next(&mut self, job: Job, begun: Begun, written: u32) -> Writer<Begun>
-        ensures advances { (group now : ℕ)
-            → Advances group now (writers.Writing job begun written) self.old result self.new }
-        ensures frame { KeepsFrame self.old self.new }
-    {
-        if written >= job.article.blocks() {
-            let token = self.buffer_set.finish(begun);
-            return Writer::Finished(job, token);
-        }
-        match self
-            .buffer_set
-            .write_next(&begun, job.article.text.as_slice())
-        {
-            Ok(_last) => Writer::Writing(job, begun, written + 1),
-            Err(_fault) => Writer::Failed(job, Some(begun)),
-        }
-    }
-
     /// It settles the job: the id is stored, and each permitted feed gains its token.
     fn settle(&mut self, job: Job, token: Token, now: u64) -> Writer<Begun>
         ensures advances { (group : ℕ)
@@ -137,5 +108,37 @@ impl<S: BlockStore> System<S> {
                 Writer::Settled(session)
             }
         }
+    }
+}
+
+/// A writer begins the job in a buffer of the group, where a token has room for the cycle.
+fn begin<S: BlockStore>(buffer_set: &mut BufferSet<S>, job: Job) -> Writer<Begun>
+    ensures { (group now : ℕ)
+        → AdvancesBy group now (writers.Popped job) buffer_set.old result buffer_set.new }
+{
+    let length = job.article.length();
+    match buffer_set.begin(job.article.group, job.article.class, length) {
+        Some(begun) => Writer::Writing(job, begun, 0),
+        None => Writer::Failed(job, None),
+    }
+}
+
+/// It writes the next block of the job's text, or finishes the write once all are written.
+fn write_next<S: BlockStore>(
+    buffer_set: &mut BufferSet<S>,
+    job: Job,
+    begun: Begun,
+    written: u32,
+) -> Writer<Begun>
+    ensures { (group now : ℕ) → AdvancesBy group now (writers.Writing job begun written)
+        buffer_set.old result buffer_set.new }
+{
+    if written >= job.article.blocks() {
+        let token = buffer_set.finish(begun);
+        return Writer::Finished(job, token);
+    }
+    match buffer_set.write_next(&begun, job.article.text.as_slice()) {
+        Ok(_last) => Writer::Writing(job, begun, written + 1),
+        Err(_fault) => Writer::Failed(job, Some(begun)),
     }
 }

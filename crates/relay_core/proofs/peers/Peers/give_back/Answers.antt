@@ -1,4 +1,4 @@
-use Rattle.std.proofs.Common.{rules, None, Some, refl}
+use Rattle.std.proofs.Common.{◌∙◌, rules, None, Some, refl, sym, true≢false}
 use Rattle.relay_core.proofs.PeerLemmas.{GivesPeer-from_write, SamePlaces-from_write}
 use Rattle.relay_core.proofs.PeerLemmas.{has_place-entry}
 use Rattle.relay_core.proofs.peers.Peers.give_back.Goals as goal
@@ -14,7 +14,7 @@ pub returns-in-Some-clause-dropped : goal.returns-in-Some-clause-dropped
 returns-in-Some-clause-dropped c = λ has.
     let found = has_place-entry c.args.self.now c.args.number (Some c.in-Some.place.now)
     (search rules) in
-    absurd (cc (has, found))
+    absurd (true≢false (sym found ∙ has))
 
 -- the place stays
 pub returns-in-Some-clause-places : goal.returns-in-Some-clause-places
@@ -25,7 +25,7 @@ returns-in-Some-clause-places c =
 pub returns-in-None-clause-given : goal.returns-in-None-clause-given
 returns-in-None-clause-given c = λ has.
     let missed = has_place-entry c.args.self.now c.args.number None (search rules) in
-    absurd (cc (has, missed))
+    absurd (true≢false (sym has ∙ missed))
 
 -- a number without a place has no peer
 pub returns-in-None-clause-dropped : goal.returns-in-None-clause-dropped

@@ -1,7 +1,6 @@
 use Rattle.std.proofs.Common.{ap, refl, ◌∙◌}
 use Rattle.buffer_group.specs.declared.writer.Writer.TheVariants as writers
-use Rattle.peer_session.specs.declared.steps.Outcome.TheVariants as outcomes
-use Rattle.relay_core.proofs.Queues.{as_taken, told_one}
+use Rattle.relay_core.proofs.Queues.{as_taken, told_failed, told_kept}
 use Rattle.relay_core.proofs.Writings.{closed_one, forgotten_one}
 use Rattle.relay_core.proofs.system.System.advance.Goals as goal
 
@@ -21,8 +20,8 @@ returns-in-Popped g c =
     record {
       advances = as_taken c.args.group c.args.now c.args.writer _ c.args.self.now _ _
           c.in-Popped.is
-          (c.begin.ensures.advances c.args.group c.args.now);
-      frame = c.begin.ensures.frame;
+          (c.begin.ensures c.args.group c.args.now c.args.self.now);
+      frame = record { config = refl; group_writers = refl };
     }
 
 -- its next block is written
@@ -31,8 +30,8 @@ returns-in-Writing g c =
     record {
       advances = as_taken c.args.group c.args.now c.args.writer _ c.args.self.now _ _
           c.in-Writing.is
-          (c.write_next.ensures.advances c.args.group c.args.now);
-      frame = c.write_next.ensures.frame;
+          (c.write_next.ensures c.args.group c.args.now c.args.self.now);
+      frame = record { config = refl; group_writers = refl };
     }
 
 -- it is settled
@@ -73,7 +72,7 @@ returns-in-Settled g c =
     record {
       advances = as_taken c.args.group c.args.now c.args.writer _ c.args.self.now _ _
           c.in-Settled.is
-          (told_one c.args.group c.args.now c.args.self.now c.in-Settled.session outcomes.Kept
+          (told_kept c.args.group c.args.now c.args.self.now c.in-Settled.session
           c.tell.new.self c.tell.ensures);
       frame = record { config = refl; group_writers = refl };
     }
@@ -84,7 +83,7 @@ returns-in-Forgotten g c =
     record {
       advances = as_taken c.args.group c.args.now c.args.writer _ c.args.self.now _ _
           c.in-Forgotten.is
-          (told_one c.args.group c.args.now c.args.self.now c.in-Forgotten.session outcomes.Failed
+          (told_failed c.args.group c.args.now c.args.self.now c.in-Forgotten.session
           c.tell-in-Forgotten.new.self c.tell-in-Forgotten.ensures);
       frame = record { config = refl; group_writers = refl };
     }

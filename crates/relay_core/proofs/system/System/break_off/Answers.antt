@@ -1,8 +1,8 @@
-use Rattle.std.proofs.Common.{false, true, ◌∙◌}
+use Rattle.std.proofs.Common.{false, refl, true, ◌∙◌}
 use Rattle.relay_model.specs.Run as run
 use Rattle.relay_model.specs.Run.{is_reading}
 use Rattle.relay_core.proofs.Dispatch.{is_lent}
-use Rattle.relay_core.proofs.Refusing.{break_reason, not_refused, refused_first}
+use Rattle.relay_core.proofs.Refusing.{break_reason, never_refuses, not_refused, refused_first}
 use Rattle.relay_core.proofs.SessionSteps.{broken, not_there}
 use Rattle.relay_core.proofs.Turning.{place_of}
 use Rattle.relay_core.specs.declared.event.CoreError.TheVariants as faults
@@ -39,4 +39,4 @@ pub returns-in-Some-clause-refused : goal.returns-in-Some-clause-refused
 returns-in-Some-clause-refused g c =
     not_refused c.args.self.now (run.Break c.args.number) _ _
     (λ laned. break_reason c.args.self.now c.args.number c.is_reading.result true
-    c.is_reading.ensures c.if-not-is_reading.false) (λ fault is. cc)
+    c.is_reading.ensures c.if-not-is_reading.false) (λ fault is. never_refuses _ fault is refl)

@@ -1,7 +1,8 @@
 use Rattle.std.proofs.Common.{◌<◌, ◌≤◌, ℕ, refl, subst, true, ◌∙◌}
 use Rattle.relay_model.specs.Run as run
 use Rattle.relay_core.proofs.Refusing as refusing
-use Rattle.relay_core.proofs.Refusing.{may_open, memory_wanted, not_refused, refused_first}
+use Rattle.relay_core.proofs.Refusing.{may_open, memory_wanted, never_refuses, not_refused}
+use Rattle.relay_core.proofs.Refusing.{refused_first}
 use Rattle.relay_core.proofs.SessionSteps.{no_peer, opened_one, peers_count, unopened, wanted}
 use Rattle.relay_core.proofs.SessionSteps.{was_taken}
 use Rattle.relay_core.specs.declared.event.CoreError.TheVariants as faults
@@ -80,7 +81,8 @@ returns-in-Ok-open-2-clause-refused g c =
     (λ laned. may_open c.args.self.now c.args.number c.args.peer c.is_taken.result
     c.is_taken.ensures c.if-is_taken.false
     (subst (λ (k : ℕ). c.args.peer < k)
-    (c.len.ensures ∙ peers_count c.args.self.now.config) c.if-peer-len.false)) (λ fault is. cc)
+    (c.len.ensures ∙ peers_count c.args.self.now.config) c.if-peer-len.false))
+    (λ fault is. never_refuses _ fault is refl)
 
 -- there is no memory for its place
 pub returns-in-Err-open-2-clause-steps : goal.returns-in-Err-open-2-clause-steps

@@ -58,4 +58,4 @@ returns-clause-refused g c =
     (inside_of c.args.self.now.group_writers c.args.group
     (subst (λ (k : ℕ). c.args.group < k) c.len.ensures c.if-group-len.false))
     c.if-now-gt-LAST_MOMENT.false)
-    (λ fault is. cc)
+    (λ fault is. refusing.never_refuses _ fault is refl)

@@ -1,32 +1,36 @@
 use Rattle.std.proofs.Common.{ℕ, ◌<◌, ◌≤◌, List, subst, Ok, Err}
 use Rattle.block_shelf.specs.Calls.{WritesOn, token_of}
 use Rattle.relay_core.proofs.Writings.{block_failed, block_written, finished_one}
-use Rattle.relay_core.proofs.system.System.write_next.Goals as goal
+use Rattle.relay_core.proofs.writing.write_next.Goals as goal
 
 -- all blocks are written
-pub returns-then-written-blocks-clause-advances : goal.returns-then-written-blocks-clause-advances
-returns-then-written-blocks-clause-advances g c = λ group now.
-    finished_one group now c.args.job c.args.self.now c.args.begun c.args.written
+pub returns-then-written-blocks : goal.returns-then-written-blocks
+returns-then-written-blocks g c = λ group now system.
+    finished_one group now c.args.job
+    (record system { buffer_set = c.args.buffer_set.now }) c.args.begun c.args.written
     c.finish-token.result c.finish-token.new.self
     (subst (λ (k : ℕ). k ≤ c.args.written) c.blocks-2.ensures c.if-written-blocks.true)
     c.finish-token.ensures.token c.finish-token.ensures.finished
 
 -- a block is written
-pub returns-in-Ok-clause-advances : goal.returns-in-Ok-clause-advances
-returns-in-Ok-clause-advances g c = λ group now.
+pub returns-in-Ok : goal.returns-in-Ok
+returns-in-Ok g c = λ group now system.
     let P : List ℕ → Type 0 = λ text. WritesOn (token_of c.args.begun) text
-    c.args.self.now.buffer_set (Ok c.in-Ok._last) c.write_next.new.self in
-    block_written group now c.args.job c.args.self.now c.args.begun c.args.written c.in-Ok._last
+    c.args.buffer_set.now (Ok c.in-Ok._last) c.write_next.new.self in
+    block_written group now c.args.job
+    (record system { buffer_set = c.args.buffer_set.now }) c.args.begun c.args.written c.in-Ok._last
     c.write_next.new.self
     (subst (λ (k : ℕ). c.args.written < k) c.blocks-2.ensures c.if-written-blocks.false)
     (subst P c.as_slice.ensures c.in-Ok.ensures.written)
 
 -- the write of a block failed
-pub returns-in-Err-clause-advances : goal.returns-in-Err-clause-advances
-returns-in-Err-clause-advances g c = λ group now.
+pub returns-in-Err : goal.returns-in-Err
+returns-in-Err g c = λ group now system.
     let P : List ℕ → Type 0 = λ text. WritesOn (token_of c.args.begun) text
-    c.args.self.now.buffer_set (Err c.in-Err._fault) c.write_next.new.self in
-    block_failed group now c.args.job c.args.self.now c.args.begun c.args.written c.in-Err._fault
+    c.args.buffer_set.now (Err c.in-Err._fault) c.write_next.new.self in
+    block_failed group now c.args.job
+    (record system { buffer_set = c.args.buffer_set.now }) c.args.begun c.args.written
+    c.in-Err._fault
     c.write_next.new.self
     (subst (λ (k : ℕ). c.args.written < k) c.blocks-2.ensures c.if-written-blocks.false)
     (subst P c.as_slice.ensures c.in-Err.ensures.written)

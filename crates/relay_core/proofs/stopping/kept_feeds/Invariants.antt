@@ -6,16 +6,16 @@ use Rattle.id_history.specs.declared.kept.KeptFeed.{KeptFeed}
 use Rattle.relay_model.specs.State.{Feed}
 use Rattle.relay_core.proofs.Stops.{AreLeftSoFar}
 use Rattle.relay_core.specs.Agreement.{ring_sizes}
-use Rattle.relay_core.proofs.system.System.kept_feeds.Given as goal
+use Rattle.relay_core.proofs.stopping.kept_feeds.Given as goal
 
 -- this is left of the feeds so far, and there is room for all
 abbrev pub invariant-loop-number : goal.invariant-loop-number
-invariant-loop-number g l = record {
+invariant-loop-number l = record {
   count : vec_len l.kept ≤ l.number;
-  room : length l.self.config.relay.feeds.items ≤ vec_capacity l.kept;
+  room : length l.config.relay.feeds.items ≤ vec_capacity l.kept;
   waits : All (λ (feed : KeptFeed). length feed.waiting.items < 2 ^ 32) l.kept.items;
   left : (feed : ℕ → Feed)
-      → KeepsFeeds l.self.desk (ring_sizes (terms_of l.self.config)) feed
+      → KeepsFeeds l.desk (ring_sizes (terms_of l.config)) feed
       → AreLeftSoFar l.number (map feed_view l.kept.items)
-      (ring_sizes (terms_of l.self.config)) feed;
+      (ring_sizes (terms_of l.config)) feed;
 }
