@@ -1,8 +1,8 @@
 use Rattle.std.proofs.Common.{◌∙◌, ◌<◌, ◌^◌, ℕ, List, [], ap, arith, length, map, subst, sym}
 use denote.Param.Send.{sendable}
-use Rattle.std.specs.Prelude.{slice_get}
+use Rattle.std.specs.Prelude.{is_err, slice_get}
 use Rattle.std.proofs.lemmas.List.{length-map}
-use Rattle.std.proofs.lemmas.Result.{IfOk-weaker}
+use Rattle.std.proofs.lemmas.Result.{IfOk-from_err, IfOk-weaker, err_from_is_err_and}
 use Rattle.article_verdict.specs.Config.{terms_of}
 use Rattle.job_queue.specs.declared.parcel.Handed.{Handed}
 use Rattle.live_jobs.specs.Desks.{posts_in}
@@ -202,3 +202,60 @@ open_all-requires-clause-few g c =
     let peer_sources = same_length kept_of _ c.in_ok-ends.ends.items
     c.args.serving.peer_sources.items c.in_ok-ends.ensures.new in
     subst (λ (n : ℕ). n < 2 ^ 62) (sym peer_sources) c.requires.few
+
+-- where memory was refused before a thread was started, nothing comes back,
+pub returns-in_err-ends : goal.returns-in_err-ends
+returns-in_err-ends g c =
+    let why = err_from_is_err_and c.from_residual.result c.from_residual.ensures.1 in
+    let err = ap is_err why.1 in
+    record {
+      lefts = IfOk-from_err c.from_residual.result _ err;
+      lists = IfOk-from_err c.from_residual.result _ err;
+      writers = IfOk-from_err c.from_residual.result _ err;
+      jobs = IfOk-from_err c.from_residual.result _ err;
+      none = IfOk-from_err c.from_residual.result _ err;
+      peers = IfOk-from_err c.from_residual.result _ err;
+      terms = IfOk-from_err c.from_residual.result _ err;
+      kept = IfOk-from_err c.from_residual.result _ err;
+      accepted = IfOk-from_err c.from_residual.result _ err;
+      posted = IfOk-from_err c.from_residual.result _ err;
+      mismatched_receipts = IfOk-from_err c.from_residual.result _ err;
+      ids_stored_again = IfOk-from_err c.from_residual.result _ err;
+    }
+
+pub returns-in_err-channels : goal.returns-in_err-channels
+returns-in_err-channels g c =
+    let told = c.from_residual-in_err-channels in
+    let err = ap is_err (err_from_is_err_and told.result told.ensures.1).1 in
+    record {
+      lefts = IfOk-from_err told.result _ err;
+      lists = IfOk-from_err told.result _ err;
+      writers = IfOk-from_err told.result _ err;
+      jobs = IfOk-from_err told.result _ err;
+      none = IfOk-from_err told.result _ err;
+      peers = IfOk-from_err told.result _ err;
+      terms = IfOk-from_err told.result _ err;
+      kept = IfOk-from_err told.result _ err;
+      accepted = IfOk-from_err told.result _ err;
+      posted = IfOk-from_err told.result _ err;
+      mismatched_receipts = IfOk-from_err told.result _ err;
+      ids_stored_again = IfOk-from_err told.result _ err;
+    }
+
+-- nor where a thread couldn't be started
+pub returns-in-Err : goal.returns-in-Err
+returns-in-Err g c =
+    record {
+      lefts = tt;
+      lists = tt;
+      writers = tt;
+      jobs = tt;
+      none = tt;
+      peers = tt;
+      terms = tt;
+      kept = tt;
+      accepted = tt;
+      posted = tt;
+      mismatched_receipts = tt;
+      ids_stored_again = tt;
+    }
