@@ -1,9 +1,11 @@
 -- Columns and lines that are put behind one another.
 use Rattle.std.proofs.Common.{◌≡◌, ◌∙◌, ◌++◌, ◌∷◌, [], ◌+◌, ◌<◌, ◌≤◌, ℕ, List, Result, Ok, Err, ap}
-use Rattle.std.proofs.Common.{sym, append_assoc, append-nil, flat_map, get_or, length, map, take}
+use Rattle.std.proofs.Common.{sym, append_assoc, append-nil, codes, flat_map, get_or, length, map}
+use Rattle.std.proofs.Common.{refl, take}
 use Rattle.std.proofs.lemmas.Grind.{flat_map-append}
 use Rattle.std.proofs.lemmas.List.{map_push, take_all, take_more}
-use Rattle.std.specs.Prelude.{OnOk, is_ok, if◌then◌else◌}
+use Rattle.std.specs.Prelude.{OnOk, decimal, is_ok, if◌then◌else◌}
+use Rattle.relay_report.specs.Text.{numbers_line, right_in}
 
 -- what is put behind a column stands with it behind all before
 pub behind : (before column more text all : List ℕ) → text ≡ before ++ column
@@ -17,6 +19,55 @@ pub ends : {A E : Type 0} (result : Result A E) (before column more text all : L
     → OnOk result (all ≡ before ++ (column ++ more))
 ends (Ok done) before column more text all is adds = behind before column more text all is adds
 ends (Err error) before column more text all is adds = tt
+
+-- behind what stands before come columns of numbers, and the end of their line
+abbrev pub with_numbers : (before : List ℕ) → List (ℕ × ℕ) → List ℕ
+with_numbers before [] = before ++ codes "\n"
+with_numbers before (one ∷ rest) = with_numbers (before ++ right_in one.1 (decimal one.0)) rest
+
+numbers_behind : (before : List ℕ) (columns : List (ℕ × ℕ))
+    → before ++ numbers_line columns ≡ with_numbers before columns
+numbers_behind before [] = refl
+numbers_behind before (one ∷ rest) =
+    let column = right_in one.1 (decimal one.0) in
+    ap (λ (more : List ℕ). before ++ more) (append_assoc column
+    (flat_map (λ (each : ℕ × ℕ). right_in each.1 (decimal each.0)) rest) (codes "\n"))
+    ∙ sym (append_assoc before column (numbers_line rest))
+    ∙ numbers_behind (before ++ column) rest
+
+-- behind the last column the line ends, if there was room for that
+pub line_ends : {A E : Type 0} (result : Result A E) (before now all : List ℕ)
+    (columns : List (ℕ × ℕ)) (i : ℕ) → length columns ≤ i
+    → now ≡ before ++ flat_map (λ one. right_in one.1 (decimal one.0)) (take i columns)
+    → all ≡ (if is_ok result then now ++ codes "\n" else now)
+    → OnOk result (all ≡ before ++ numbers_line columns)
+line_ends result before now all columns i past so_far is =
+    let f : ℕ × ℕ → List ℕ = λ one. right_in one.1 (decimal one.0) in
+    ends result before (flat_map f columns) (codes "\n") now all
+    (so_far ∙ ap (λ (some : List (ℕ × ℕ)). before ++ flat_map f some) (take_all i columns past)) is
+
+-- a word, a name and columns of numbers make a line
+pub named_line : {A E : Type 0} (result : Result A E)
+    (text word name with_word with_name all : List ℕ) (columns : List (ℕ × ℕ)) → with_word ≡ text ++ word → with_name ≡ with_word ++ name
+    → OnOk result (all ≡ with_name ++ numbers_line columns)
+    → OnOk result (all ≡ text ++ with_numbers (word ++ name) columns)
+named_line (Ok done) text word name with_word with_name all columns has_word has_name is =
+    is ∙ ap (λ (t : List ℕ). t ++ numbers_line columns)
+    (behind text word name with_word with_name has_word has_name)
+    ∙ append_assoc text (word ++ name) (numbers_line columns)
+    ∙ ap (λ (more : List ℕ). text ++ more) (numbers_behind (word ++ name) columns)
+named_line (Err error) text word name with_word with_name all columns has_word has_name is = tt
+
+-- a word and columns of numbers make a line
+pub plain_line : {A E : Type 0} (result : Result A E) (text word with_word all : List ℕ)
+    (columns : List (ℕ × ℕ)) → with_word ≡ text ++ word
+    → OnOk result (all ≡ with_word ++ numbers_line columns)
+    → OnOk result (all ≡ text ++ with_numbers word columns)
+plain_line (Ok done) text word with_word all columns has_word is =
+    is ∙ ap (λ (t : List ℕ). t ++ numbers_line columns) has_word
+    ∙ append_assoc text word (numbers_line columns)
+    ∙ ap (λ (more : List ℕ). text ++ more) (numbers_behind word columns)
+plain_line (Err error) text word with_word all columns has_word is = tt
 
 module _ {A B : Type 0} (line : B → List ℕ) (view : A → B) where
   -- the line of one more stands behind those of so many

@@ -28,6 +28,11 @@ column n = right_in 11 (decimal n)
 abbrev pub wide_column : ℕ → List ℕ
 wide_column n = right_in 20 (decimal n)
 
+-- numbers, each in so many places, and the end of their line
+abbrev pub numbers_line : List (ℕ × ℕ) → List ℕ
+numbers_line columns =
+    flat_map (λ (one : ℕ × ℕ). right_in one.1 (decimal one.0)) columns ++ codes "\n"
+
 -- the line of a buffer
 abbrev pub buffer_line : NamedBuffer → List ℕ
 buffer_line buffer =

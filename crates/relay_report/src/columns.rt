@@ -1,8 +1,8 @@
 //! Names and numbers in columns.
-ghost use Rattle.std.specs.Prelude.{◌≡◌, ◌++◌, OnOk};
-ghost use Rattle.relay_report.specs.Text.{left_in, right_in, spaces};
+ghost use Rattle.std.specs.Prelude.{◌≡◌, ◌++◌, OnOk, decimal};
+ghost use Rattle.relay_report.specs.Text.{left_in, numbers_line, right_in, spaces};
 
-use itoa::{Buffer, Integer};
+use itoa::Buffer;
 use std::alloc::AllocError;
 
 /// Puts a name left into so many places behind what is there; a longer one stands in full.
@@ -13,14 +13,21 @@ pub(crate) fn put_name(text: &mut Vec<u8>, name: &[u8], places: usize) -> Result
     put_spaces(text, places.saturating_sub(name.len()))
 }
 
-/// Puts a number in decimal right into so many places behind what is there; a longer one stands in
-/// full.
-pub(crate) fn put_number<I: Integer>(
-    text: &mut Vec<u8>,
-    number: I,
-    places: usize,
-) -> Result<(), AllocError>
-    ensures { OnOk result (text.new.items ≡ text.old.items ++ right_in places (I.text number)) }
+/// Puts numbers in decimal behind what is there, each right into so many places, and ends the line;
+/// one that is longer stands in full.
+pub(crate) fn put_numbers(text: &mut Vec<u8>, columns: &[(u128, usize)]) -> Result<(), AllocError>
+    ensures { OnOk result (text.new.items
+        ≡ text.old.items ++ numbers_line columns.now) }
+{
+    for column in columns {
+        put_number(text, column.0, column.1)?;
+    }
+    text.extend_from_slice(b"\n")
+}
+
+/// Puts a number in decimal right into so many places behind what is there.
+fn put_number(text: &mut Vec<u8>, number: u128, places: usize) -> Result<(), AllocError>
+    ensures { OnOk result (text.new.items ≡ text.old.items ++ right_in places (decimal number)) }
 {
     let mut buffer = Buffer::new();
     let digits = buffer.format(number).as_bytes();

@@ -70,17 +70,18 @@ impl Display for ServeError {
     ghost output = { λ error. Some (text_of error) };
 
     fn fmt<W: fmt::Write>(&self, formatter: &mut Formatter<W>) -> fmt::Result {
-        match self {
-            ServeError::File(lost) => Display::fmt(lost, formatter),
-            ServeError::Port(lost) => Display::fmt(lost, formatter),
-            ServeError::Control => formatter.write_str("control: unusable"),
-            ServeError::Start(fault) => Display::fmt(fault, formatter),
-            ServeError::Unseeded => formatter.write_str("relay: no random numbers to be had"),
-            ServeError::Memory => formatter.write_str("out of memory"),
-            ServeError::NoThread => formatter.write_str("serve: no thread to be had"),
-            ServeError::Stop(fault) => Display::fmt(fault, formatter),
-            ServeError::Unwritten => formatter.write_str("stdout: unwritten"),
-        }
+        let text = match self {
+            ServeError::File(lost) => return Display::fmt(lost, formatter),
+            ServeError::Port(lost) => return Display::fmt(lost, formatter),
+            ServeError::Start(fault) => return Display::fmt(fault, formatter),
+            ServeError::Stop(fault) => return Display::fmt(fault, formatter),
+            ServeError::Control => "control: unusable",
+            ServeError::Unseeded => "relay: no random numbers to be had",
+            ServeError::Memory => "out of memory",
+            ServeError::NoThread => "serve: no thread to be had",
+            ServeError::Unwritten => "stdout: unwritten",
+        };
+        formatter.write_str(text)
     }
 }
 

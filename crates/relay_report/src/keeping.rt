@@ -52,15 +52,15 @@ impl Display for StartFault {
     ghost output = { λ fault. Some (start_text fault) };
 
     fn fmt<W: fmt::Write>(&self, formatter: &mut Formatter<W>) -> fmt::Result {
-        match self {
-            StartFault::History => formatter.write_str("relay.hist: unusable"),
-            StartFault::BadHistory => formatter.write_str("relay.hist: 5 BadHistory"),
+        formatter.write_str(match self {
             StartFault::Buffer(name, fault) => {
                 let text = fault.text();
-                write!(formatter, "{name}: {text}")
+                return write!(formatter, "{name}: {text}");
             }
-            StartFault::Ahead => formatter.write_str("relay.hist: 7 Ahead"),
-        }
+            StartFault::History => "relay.hist: unusable",
+            StartFault::BadHistory => "relay.hist: 5 BadHistory",
+            StartFault::Ahead => "relay.hist: 7 Ahead",
+        })
     }
 }
 

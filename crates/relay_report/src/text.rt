@@ -4,7 +4,7 @@ ghost use Rattle.relay_report.specs.Figures.{buffer_view, feed_view};
 ghost use Rattle.relay_report.specs.Report.{text_of_figures};
 ghost use Rattle.relay_report.specs.Text.{buffer_line, feed_line, ids_line};
 
-use crate::columns::{put_name, put_number};
+use crate::columns::{put_name, put_numbers};
 use crate::figures::{Figures, NamedBuffer, NamedFeed};
 use id_history::Counts;
 use std::alloc::{AllocError, Global};
@@ -47,11 +47,13 @@ fn put_buffer(text: &mut Vec<u8>, buffer: &NamedBuffer) -> Result<(), AllocError
 {
     text.extend_from_slice(b"buffer ")?;
     put_name(text, buffer.name.as_slice(), NAME_PLACES)?;
-    put_number(text, buffer.figures.cycle, PLACES)?;
-    put_number(text, buffer.figures.front, WIDE_PLACES)?;
-    put_number(text, buffer.figures.begun, PLACES)?;
-    put_number(text, buffer.figures.stored, PLACES)?;
-    text.extend_from_slice(b"\n")
+    let columns = [
+        (u128::from(buffer.figures.cycle), PLACES),
+        (u128::from(buffer.figures.front), WIDE_PLACES),
+        (u128::from(buffer.figures.begun), PLACES),
+        (u128::from(buffer.figures.stored), PLACES),
+    ];
+    put_numbers(text, &columns)
 }
 
 /// Puts a line for each feed.
@@ -71,10 +73,12 @@ fn put_feed(text: &mut Vec<u8>, feed: &NamedFeed) -> Result<(), AllocError>
 {
     text.extend_from_slice(b"feed   ")?;
     put_name(text, feed.peer.as_slice(), NAME_PLACES)?;
-    put_number(text, feed.figures.waiting, PLACES)?;
-    put_number(text, feed.figures.gained, WIDE_PLACES)?;
-    put_number(text, feed.figures.overwritten, PLACES)?;
-    text.extend_from_slice(b"\n")
+    let columns = [
+        (u128::from(feed.figures.waiting), PLACES),
+        (u128::from(feed.figures.gained), WIDE_PLACES),
+        (u128::from(feed.figures.overwritten), PLACES),
+    ];
+    put_numbers(text, &columns)
 }
 
 /// Puts the line of the message-ids.
@@ -82,9 +86,11 @@ fn put_ids(text: &mut Vec<u8>, ids: &Counts) -> Result<(), AllocError>
     ensures { OnOk result (text.new.items ≡ text.old.items ++ ids_line ids.now) }
 {
     text.extend_from_slice(b"ids    ")?;
-    put_number(text, ids.offered, PLACES)?;
-    put_number(text, ids.storing, PLACES)?;
-    put_number(text, ids.stored, PLACES)?;
-    put_number(text, ids.refused, PLACES)?;
-    text.extend_from_slice(b"\n")
+    let columns = [
+        (ids.offered, PLACES),
+        (ids.storing, PLACES),
+        (ids.stored, PLACES),
+        (ids.refused, PLACES),
+    ];
+    put_numbers(text, &columns)
 }

@@ -1,0 +1,9 @@
+use Rattle.relay_report.proofs.Lines.{line_ends}
+use Rattle.relay_report.proofs.columns.put_numbers.Goals as goal
+
+-- the line ends
+pub returns : goal.returns
+returns c =
+    line_ends c.extend_from_slice.result c.args.text.now.items c.loop-column.text.items
+    c.extend_from_slice.new.self.items c.args.columns.now c.loop-column.column-index
+    c.loop-column-test.false c.loop-column.invariant c.extend_from_slice.ensures.items
