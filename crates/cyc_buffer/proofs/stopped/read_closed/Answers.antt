@@ -10,3 +10,13 @@ returns-else-are_sound-clause-refused g c honest = record {
   closed = ap state_view c.in-Closed.is;
   damaged = c.are_sound.ensures.damaged c.if-are_sound.false _ _;
 }
+
+pub returns-in-Open-clause-refused : goal.returns-in-Open-clause-refused
+returns-in-Open-clause-refused g c honest = record {
+  numbers = _;
+  says = c.in_ok-numbers.ensures.says honest;
+  opened = ap state_view c.in-Open.is;
+}
+
+pub returns-then-are_sound-clause-sound : goal.returns-then-are_sound-clause-sound
+returns-then-are_sound-clause-sound g c = c.are_sound.ensures.sound c.if-are_sound.true
