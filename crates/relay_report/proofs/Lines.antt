@@ -48,7 +48,8 @@ line_ends result before now all columns i past so_far is =
 
 -- a word, a name and columns of numbers make a line
 pub named_line : {A E : Type 0} (result : Result A E)
-    (text word name with_word with_name all : List ℕ) (columns : List (ℕ × ℕ)) → with_word ≡ text ++ word → with_name ≡ with_word ++ name
+    (text word name with_word with_name all : List ℕ) (columns : List (ℕ × ℕ))
+    → with_word ≡ text ++ word → with_name ≡ with_word ++ name
     → OnOk result (all ≡ with_name ++ numbers_line columns)
     → OnOk result (all ≡ text ++ with_numbers (word ++ name) columns)
 named_line (Ok done) text word name with_word with_name all columns has_word has_name is =

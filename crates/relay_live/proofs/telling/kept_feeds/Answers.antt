@@ -1,4 +1,5 @@
-use Rattle.std.proofs.Common.{◌≡◌, ◌∙◌, ◌≤◌, ◌++◌, ◌∷◌, [], ap, arith, length, rules, sym, vec_capacity, vec_len}
+use Rattle.std.proofs.Common.{◌≡◌, ◌∙◌, ◌≤◌, ◌++◌, ◌∷◌, [], ap, arith, length, rules, sym}
+use Rattle.std.proofs.Common.{vec_capacity, vec_len}
 use Rattle.std.specs.Prelude.{Ok}
 use Rattle.relay_core.proofs.Stops.{kept_joins, some_of, waits_join}
 use Rattle.relay_live.proofs.telling.kept_feeds.Goals as goal
