@@ -8,10 +8,11 @@ mod loads;
 mod relay;
 mod work;
 
+use row_text::place_of;
 use std::io::ErrorKind;
 use std::process::ExitCode;
 use std::{fs, io};
-use work::{Job, seconds};
+use work::seconds;
 
 /// Does what words of the command line ask, and says why where it can't be done.
 pub(crate) fn run(rt: &HostRuntime, words: &[String]) -> ExitCode {
@@ -25,7 +26,8 @@ pub(crate) fn run(rt: &HostRuntime, words: &[String]) -> ExitCode {
 }
 
 /// Does what the words ask. A first one with a colon names a load of the relay, as all do then,
-/// `history` is a stop and a start, any other word a work on texts.
+/// `history` is a stop and a start with as many message-ids as the next word says, any other word a
+/// work on texts.
 fn asked(rt: &HostRuntime, words: &[String]) -> io::Result<()> {
     let Some((first, behind)) = words.split_first() else {
         return Ok(());
@@ -34,34 +36,23 @@ fn asked(rt: &HostRuntime, words: &[String]) -> io::Result<()> {
     if word.contains(':') {
         return relay::serve_all(rt, words);
     }
+    let number = count(behind.first());
     if word == "history" {
-        return keep_all(rt, behind);
+        return history::time(rt, number);
     }
-    time_all(rt, word, behind)
-}
-
-/// Goes through a stop and a start with as many message-ids as the next word says.
-fn keep_all(rt: &HostRuntime, words: &[String]) -> io::Result<()> {
-    let Some(word) = words.first() else {
-        return Err(io::Error::from(ErrorKind::InvalidInput));
-    };
-    match word.as_str().parse::<u32>() {
-        Ok(count) => history::time(rt, count),
-        Err(_) => Err(io::Error::from(ErrorKind::InvalidInput)),
+    match place_of(work::NAMES, word.as_bytes()) {
+        Some(work) => time_all(rt, work, number as usize, behind),
+        None => Err(io::Error::from(ErrorKind::InvalidInput)),
     }
 }
 
-/// Times the work of this name. The words are the number that it needs, how often it is done on
-/// each text, and the files of the texts.
-fn time_all(rt: &HostRuntime, name: &str, words: &[String]) -> io::Result<()> {
-    let job = Job {
-        work: work::named(name),
-        number: count(words.first()),
-    };
+/// Times this work, which needs this number. The words are that, how often it is done on each text,
+/// and the files of the texts.
+fn time_all(rt: &HostRuntime, work: usize, number: usize, words: &[String]) -> io::Result<()> {
     let texts = texts_of(rt, words.get(2..).unwrap_or(&[]))?;
     for run in 0..count(words.get(1)) {
         let _run = run;
-        print_times(rt, job, &texts)?;
+        print_times(rt, work, number, &texts)?;
     }
     Ok(())
 }
@@ -76,18 +67,18 @@ fn texts_of(rt: &HostRuntime, paths: &[String]) -> io::Result<Vec<Vec<u8>>> {
 }
 
 /// Does the work on each text in turn, and prints a line for each: the seconds that it took.
-fn print_times(rt: &HostRuntime, job: Job, texts: &[Vec<u8>]) -> io::Result<()> {
+fn print_times(rt: &HostRuntime, work: usize, number: usize, texts: &[Vec<u8>]) -> io::Result<()> {
     for text in texts {
-        let took = seconds(rt, job, text)?;
+        let took = seconds(rt, work, number, text)?;
         println!(rt; "{took:.6}")?;
     }
     Ok(())
 }
 
 /// The count that a word names, or none.
-fn count(word: Option<&String>) -> usize {
+fn count(word: Option<&String>) -> u32 {
     match word {
-        Some(word) => word.as_str().parse::<usize>().unwrap_or(0),
+        Some(word) => word.as_str().parse::<u32>().unwrap_or(0),
         None => 0,
     }
 }

@@ -18,7 +18,8 @@ mod words;
 use line_words::cut;
 use manner::{Manner, manner_of};
 use row::Row;
-use std::io::Write;
+use row_text::Sheet;
+use std::io::{ErrorKind, Write};
 use std::{io, mem};
 
 /// Plays the rows of a text.
@@ -40,7 +41,7 @@ fn play_rows<'a>(rt: &HostRuntime, text: &'a [u8], row: &mut Row<'a>) -> io::Res
                 print(rt, row)?;
                 drop(mem::replace(row, Row::new(rt.alloc(), manner, line)));
             }
-            None => row.add(line)?,
+            None => row.add(line),
         }
     }
     print(rt, row)
@@ -51,10 +52,12 @@ fn print(rt: &HostRuntime, row: &Row<'_>) -> io::Result<()> {
     if row.head.is_empty() {
         return Ok(());
     }
-    let played = row.play(rt)?;
-    let mut output = io::writer(rt);
-    for part in [row.head, b"\n", &played] {
-        output.write_all(part)?;
+    let mut sheet = Sheet::new(rt.alloc());
+    sheet.put(row.head);
+    sheet.put(b"\n");
+    row.put(rt, &mut sheet);
+    if sheet.is_spoilt() {
+        return Err(io::Error::from(ErrorKind::OutOfMemory));
     }
-    Ok(())
+    io::writer(rt).write_all(sheet.octets())
 }

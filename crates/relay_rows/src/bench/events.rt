@@ -10,59 +10,48 @@ const MOMENT: u64 = 1_609_459_200;
 /// A line of a body.
 const LINE: &[u8; 60] = b"xxxxxxxxxxxxxxxxxxxxxxxxxxxxxxxxxxxxxxxxxxxxxxxxxxxxxxxxxx\r\n";
 
-/// Sessions of the first peer open, from this number on.
-pub fn openings(alloc: Global, first: u64, sessions: u64) -> Result<Vec<Event>, AllocError> {
-    let mut events = Vec::new(alloc);
-    for passed in 0..sessions {
-        let session = first.saturating_add(passed);
-        events.push(Event::Open { session, peer: 0 })?;
-    }
-    Ok(events)
-}
-
-/// Adds what happens for one id of a load: what is sent for it comes to this session, then there
-/// are the Turns and Writes.
+/// Adds what happens for the id of this number: what is sent for it comes to this session, then
+/// there are the Turns and Writes of the load.
 pub fn add(
+    alloc: Global,
     events: &mut Vec<Event>,
     load: &Load,
     session: u64,
-    piece: Octets,
+    number: u64,
 ) -> Result<(), AllocError> {
-    let (turns, writes, later) = load.steps;
+    let piece = piece(alloc, load, number)?;
     events.push(Event::Bytes { session, piece })?;
-    add_turns(events, session, turns)?;
-    add_writes(events, writes)?;
-    add_turns(events, session, later)
-}
-
-/// Adds so many Turns.
-fn add_turns(events: &mut Vec<Event>, session: u64, count: u32) -> Result<(), AllocError> {
-    for passed in 0..count {
-        let _passed = passed;
-        events.push(Event::Turn {
-            session,
-            now: MOMENT,
-        })?;
+    let (turns, writes, later) = load.steps;
+    for step in 0..turns.saturating_add(writes).saturating_add(later) {
+        let is_write = step >= turns && step - turns < writes;
+        events.push(step_of(session, is_write))?;
     }
     Ok(())
 }
 
-/// Adds so many Writes.
-fn add_writes(events: &mut Vec<Event>, count: u32) -> Result<(), AllocError> {
-    for passed in 0..count {
-        let _passed = passed;
-        events.push(Event::Write {
+/// A Write, or a Turn of this session.
+fn step_of(session: u64, is_write: bool) -> Event {
+    if is_write {
+        return Event::Write {
             group: 0,
             now: MOMENT,
-        })?;
+        };
     }
-    Ok(())
+    Event::Turn {
+        session,
+        now: MOMENT,
+    }
 }
 
-/// What is sent for the id of this number; the body is that of the load.
-pub fn piece(alloc: Global, load: &Load, body: &[u8], number: u64) -> Result<Octets, AllocError> {
-    let begun = begun(alloc, load, number)?;
-    Ok(Octets::new([begun.as_bytes(), body].concat(alloc)?))
+/// What is sent for the id of this number: the line, and a block behind it, if the load has one.
+fn piece(alloc: Global, load: &Load, number: u64) -> Result<Octets, AllocError> {
+    let mut octets = Vec::from_slice(alloc, begun(alloc, load, number)?.as_bytes())?;
+    match load.block {
+        Block::Missing => {}
+        Block::Faulty => octets.extend_from_slice(b"x\r\n.\r\n")?,
+        Block::Article(lines) => add_body(&mut octets, lines)?,
+    }
+    Ok(Octets::new(octets))
 }
 
 /// The line for the id of this number, and behind it, where an article is sent, the header of one
@@ -79,22 +68,11 @@ fn begun(alloc: Global, load: &Load, number: u64) -> Result<String, AllocError> 
     }
 }
 
-/// What is sent behind the line and the header: a body, if there is one, and the dot.
-pub fn body(alloc: Global, block: Block) -> Result<Vec<u8>, AllocError> {
-    match block {
-        Block::Missing => Ok(Vec::new(alloc)),
-        Block::Faulty => Vec::from_slice(alloc, b"x\r\n.\r\n"),
-        Block::Article(lines) => lined(alloc, lines),
+/// Adds so many lines of 60 octets, and the dot.
+fn add_body(octets: &mut Vec<u8>, lines: u32) -> Result<(), AllocError> {
+    for added in 0..lines {
+        let _added = added;
+        octets.extend_from_slice(LINE)?;
     }
-}
-
-/// So many lines of 60 octets, and the dot.
-fn lined(alloc: Global, lines: u32) -> Result<Vec<u8>, AllocError> {
-    let mut body = Vec::new(alloc);
-    for passed in 0..lines {
-        let _passed = passed;
-        body.extend_from_slice(LINE)?;
-    }
-    body.extend_from_slice(b".\r\n")?;
-    Ok(body)
+    octets.extend_from_slice(b".\r\n")
 }

@@ -27,16 +27,11 @@ pub fn time(rt: &HostRuntime, count: u32) -> io::Result<()> {
 
 /// The text of the history of shards that know so many ids.
 fn kept(rt: &HostRuntime, alloc: Global, count: u32) -> io::Result<Vec<u8>> {
-    let shards = filled(rt, alloc, count)?;
+    let start = Instant::now(rt)?;
+    let shards = resumed(rt, alloc, "filled", start, ids(alloc, count)?)?;
     let text = stopped(rt, alloc, &shards);
     drop(shards);
     text
-}
-
-/// Shards that know so many ids.
-fn filled(rt: &HostRuntime, alloc: Global, count: u32) -> io::Result<Shards> {
-    let start = Instant::now(rt)?;
-    resumed(rt, alloc, "filled", start, ids(alloc, count)?)
 }
 
 /// Shards that know these ids; prints the line of this part, which began at this instant.
@@ -60,10 +55,16 @@ fn resumed(
 /// So many ids, each of 49 octets and stored.
 fn ids(alloc: Global, count: u32) -> Result<Vec<KeptId>, AllocError> {
     let mut ids = Vec::new(alloc);
-    for number in 0..count {
-        let text = format!(in alloc; "<{number:010}.part1of1.abcdefghij@news.example.com>")?;
+    for first in 0..count {
+        let text = format!(in alloc; "<{first:010}.part1of1.abcdefghij@news.example.com>")?;
         if let Ok(id) = MsgId::parse(alloc, text.as_bytes()) {
-            let token = Some(stored(number));
+            let token = Some(Token {
+                class: 1,
+                buffer: 0,
+                cycle: 0,
+                first,
+                length: 164,
+            });
             ids.push(KeptId {
                 id,
                 token,
@@ -72,17 +73,6 @@ fn ids(alloc: Global, count: u32) -> Result<Vec<KeptId>, AllocError> {
         }
     }
     Ok(ids)
-}
-
-/// The token of the article of this number.
-fn stored(number: u32) -> Token {
-    Token {
-        class: 1,
-        buffer: 0,
-        cycle: 0,
-        first: number,
-        length: 164,
-    }
 }
 
 /// The text of the history of these shards.

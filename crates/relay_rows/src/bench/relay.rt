@@ -1,10 +1,10 @@
 //! A relay that serves loads, one after the other.
 ghost use Rattle.std.specs.Prelude.{◌≡◌, length, map, IfOk};
 
-use crate::bench::events::{add, body, openings, piece};
+use crate::bench::events::add;
 use crate::bench::loads::{Ids, Load, read};
-use cyc_block::{BlockStore, MemoryBlocks};
-use relay_conf::{Buffers, Config, read_cycbuff};
+use cyc_block::{BlockStore, FailAt, MemoryBlocks};
+use relay_conf::{BufferConf, Buffers, Config, read_cycbuff};
 use relay_core::{Event, Output, System};
 use std::alloc::{AllocError, Global};
 use std::io::ErrorKind;
@@ -15,8 +15,9 @@ use std::{fs, io};
 const CYCBUFF: &[u8] = b"cycbuff:A:a:8192\ncycbuff:B:b:8192\ncycbuff:C:c:8192\ncycbuff:D:d:8192\n\
     metacycbuff:G:A,B,C,D\n";
 
-/// A relay over blocks in memory.
-type Relay = System<MemoryBlocks>;
+/// The relay of drills, over blocks in memory, so that the program has the core once; none of its
+/// calls fails here.
+type Relay = System<FailAt<MemoryBlocks>>;
 
 /// What a relay was asked so far.
 #[derive(Drop)]
@@ -30,51 +31,19 @@ struct Counts {
 }
 
 impl Counts {
-    /// Nothing yet.
-    fn new() -> Counts {
-        Counts {
-            sessions: 0,
-            asked: 0,
-            made: 0,
-        }
-    }
-
-    /// What happens for so many ids of a load, which the newest sessions name in turn.
-    fn events(
-        &self,
-        alloc: Global,
-        load: &Load,
-        sessions: u64,
-        count: u64,
-    ) -> Result<Vec<Event>, AllocError> {
-        let body = body(alloc, load.block)?;
-        let mut events = Vec::new(alloc);
-        let added = self.add_all(alloc, &mut events, load, &body, sessions, count);
-        drop(body);
-        match added {
-            Ok(()) => Ok(events),
-            Err(error) => {
-                drop(events);
-                Err(error)
-            }
-        }
-    }
-
-    /// Adds what happens for so many ids of a load, by the body that it sends.
+    /// Adds what happens for so many ids of a load, which as many sessions name in turn, from this
+    /// one on.
     fn add_all(
         &self,
         alloc: Global,
         events: &mut Vec<Event>,
         load: &Load,
-        body: &[u8],
         sessions: u64,
         count: u64,
     ) -> Result<(), AllocError> {
-        let first = self.sessions.saturating_sub(sessions);
         for place in 0..count {
-            let session = first.saturating_add(place % sessions.max(1));
-            let piece = piece(alloc, load, body, self.number(load.ids, place))?;
-            add(events, load, session, piece)?;
+            let session = self.sessions.saturating_add(place % sessions.max(1));
+            add(alloc, events, load, session, self.number(load.ids, place))?;
         }
         Ok(())
     }
@@ -88,8 +57,9 @@ impl Counts {
         }
     }
 
-    /// So many ids were named.
-    fn name(&mut self, ids: Ids, count: u64) {
+    /// So many sessions named so many ids.
+    fn name(&mut self, sessions: u64, ids: Ids, count: u64) {
+        self.sessions = self.sessions.saturating_add(sessions);
         match ids {
             Ids::Asked => self.asked = self.asked.saturating_add(count),
             Ids::Made => self.made = self.made.saturating_add(count),
@@ -103,7 +73,7 @@ pub fn serve_all(rt: &HostRuntime, words: &[String]) -> io::Result<()> {
     let Some(config) = config(rt.alloc()) else {
         return Err(io::Error::from(ErrorKind::InvalidData));
     };
-    let Ok(stores) = stores_of(rt.alloc(), &config.buffers) else {
+    let Ok(stores) = stores_of(rt.alloc(), &config.buffers.buffers) else {
         drop(config);
         return Err(io::Error::from(ErrorKind::OutOfMemory));
     };
@@ -122,7 +92,11 @@ pub fn serve_all(rt: &HostRuntime, words: &[String]) -> io::Result<()> {
 
 /// Serves the load that each word names, in order.
 fn serve_each(rt: &HostRuntime, relay: &mut Relay, words: &[String]) -> io::Result<()> {
-    let mut counts = Counts::new();
+    let mut counts = Counts {
+        sessions: 0,
+        asked: 0,
+        made: 0,
+    };
     for word in words {
         serve(rt, relay, &mut counts, word.as_str())?;
     }
@@ -137,34 +111,34 @@ fn serve(rt: &HostRuntime, relay: &mut Relay, counts: &mut Counts, word: &str) -
         return Err(io::Error::from(ErrorKind::InvalidInput));
     };
     let sessions = count.div_ceil(load.share.max(1)).max(1);
-    open(rt, relay, counts, sessions)?;
-    let events = counts.events(rt.alloc(), load, sessions, count)?;
-    let number = events.len();
-    let (replies, took) = timed(rt, relay, events, load.code)?;
-    counts.name(load.ids, count);
+    open(relay, counts.sessions, sessions);
+    let mut events = Vec::new(rt.alloc());
+    counts.add_all(rt.alloc(), &mut events, load, sessions, count)?;
+    counts.name(sessions, load.ids, count);
+    let (replies, took) = timed(rt, relay, &events, load.code)?;
     if replies != count {
         return Err(io::Error::from(ErrorKind::InvalidData));
     }
-    print(rt, word, number, took)
+    print(rt, word, events.len(), took)
 }
 
-/// So many sessions open.
-fn open(rt: &HostRuntime, relay: &mut Relay, counts: &mut Counts, sessions: u64) -> io::Result<()> {
-    let events = openings(rt.alloc(), counts.sessions, sessions)?;
-    counts.sessions = counts.sessions.saturating_add(sessions);
-    let _greetings = timed(rt, relay, events, b"")?;
-    Ok(())
+/// So many sessions of the first peer open, from this number on.
+fn open(relay: &mut Relay, first: u64, sessions: u64) {
+    for passed in 0..sessions {
+        let session = first.saturating_add(passed);
+        drop(relay.step(&Event::Open { session, peer: 0 }));
+    }
 }
 
 /// How many replies to these events begin with this code, and the seconds that the events take.
 fn timed(
     rt: &HostRuntime,
     relay: &mut Relay,
-    events: Vec<Event>,
+    events: &[Event],
     code: &[u8],
 ) -> io::Result<(u64, f64)> {
     let start = Instant::now(rt)?;
-    let Ok(outputs) = relay.run(&events) else {
+    let Ok(outputs) = relay.run(events) else {
         return Err(io::Error::from(ErrorKind::OutOfMemory));
     };
     let took = start.elapsed(rt);
@@ -195,14 +169,16 @@ fn print(rt: &HostRuntime, word: &str, events: usize, seconds: f64) -> io::Resul
 }
 
 /// A store in memory for each buffer, of as many blocks.
-fn stores_of(alloc: Global, settings: &Buffers) -> Result<Vec<MemoryBlocks>, AllocError>
+fn stores_of(alloc: Global, buffers: &[BufferConf]) -> Result<Vec<FailAt<MemoryBlocks>>, AllocError>
     ensures { IfOk result (λ stores.
-        map (λ store. length (⟦<MemoryBlocks as BlockStore>⟧.blocks store)) stores.items
-        ≡ map (λ buffer. buffer.blocks) settings.now.buffers.items) }
+        map (λ store. length (⟦<FailAt<MemoryBlocks> as BlockStore>⟧.blocks store)) stores.items
+        ≡ map (λ buffer. buffer.blocks) buffers.now) }
 {
-    let mut stores = Vec::with_capacity(alloc, settings.buffers.len())?;
-    for buffer in &settings.buffers {
-        stores.push(MemoryBlocks::new(alloc, buffer.blocks)?)?;
+    let mut stores = Vec::new(alloc);
+    for buffer in buffers {
+        let blocks = MemoryBlocks::new(alloc, buffer.blocks)?;
+        let store = FailAt::new(blocks, 0);
+        stores.push(store)?;
     }
     Ok(stores)
 }

@@ -15,95 +15,34 @@ const MAX_BLOCK: usize = 2_000_000;
 /// The identity of the relay, which is in no Path here.
 const OWN: &[u8] = b"relay.example";
 
-/// What is done with a text.
-#[derive(Clone, Copy)]
-pub enum Work {
-    /// Lines are cut from it, which comes in pieces of so many octets.
-    Lines,
-    /// Blocks are.
-    Blocks,
-    /// Blocks are found in it, as a session finds them, and passed.
-    Find,
-    /// It is stuffed as a block.
-    Stuff,
-    /// It is read as an article.
-    Parse,
-    /// Of the article that it is, the newsgroups are given,
-    Groups,
-    /// the identities of its Path,
-    Identities,
-    /// whether the relay is among them,
-    Loops,
-    /// and the article with its Path updated.
-    Updated,
-    /// It is read as an expression.
-    Expression,
-    /// A name of so many `a` and a `b` is judged by the expression that it is.
-    Judge,
-    /// It is read as cycbuff.conf,
-    Cycbuff,
-    /// as storage.conf,
-    Storage,
-    /// or as relay.conf.
-    Relay,
-}
+/// What is done with a text, by names. Lines are cut from it, which comes in pieces of so many
+/// octets; blocks are; blocks are found in it, as a session finds them, and passed. It is stuffed
+/// as a block, read as an article, as an expression, as storage.conf, as relay.conf, as
+/// cycbuff.conf. Of the article that it is, the newsgroups are given, the identities of its Path,
+/// whether the relay is among them, and the article with its Path updated. A name of so many `a`
+/// and a `b` is judged by the expression that it is.
+pub const NAMES: &str = "lines blocks find stuff parse expression storage relay cycbuff groups \
+    identities loops updated judge";
 
-/// Work, and the number that it needs, if it does.
-#[derive(Clone, Copy)]
-pub struct Job {
-    pub work: Work,
-    pub number: usize,
-}
-
-/// The words that name work. Any other names the first.
-static WORDS: [(&str, Work); 14] = [
-    ("lines", Work::Lines),
-    ("blocks", Work::Blocks),
-    ("find", Work::Find),
-    ("stuff", Work::Stuff),
-    ("parse", Work::Parse),
-    ("groups", Work::Groups),
-    ("identities", Work::Identities),
-    ("loops", Work::Loops),
-    ("updated", Work::Updated),
-    ("expression", Work::Expression),
-    ("judge", Work::Judge),
-    ("cycbuff", Work::Cycbuff),
-    ("storage", Work::Storage),
-    ("relay", Work::Relay),
-];
-
-/// The work of this name.
-pub fn named(name: &str) -> Work {
-    for (word, work) in WORDS.iter() {
-        if *word == name {
-            return *work;
-        }
-    }
-    Work::Lines
-}
-
-/// The seconds that the work takes; what it stands on is not timed.
-pub fn seconds(rt: &HostRuntime, job: Job, text: &[u8]) -> io::Result<f64> {
-    match job.work {
-        Work::Groups | Work::Identities | Work::Loops | Work::Updated => {
-            of_article(rt, job.work, text)
-        }
-        Work::Judge => judging(rt, text, job.number),
-        _ => whole(rt, job, text),
+/// The seconds that the work of this place takes; what it stands on is not timed.
+pub fn seconds(rt: &HostRuntime, work: usize, number: usize, text: &[u8]) -> io::Result<f64> {
+    match work {
+        0..=8 => whole(rt, work, number, text),
+        13 => judging(rt, text, number),
+        _ => of_article(rt, work, text),
     }
 }
 
 /// The seconds that went by since a moment.
-fn since(rt: &HostRuntime, start: Instant) -> io::Result<f64> {
-    Ok(start.elapsed(rt)?.as_secs_f64())
+fn since(rt: &HostRuntime, start: io::Result<Instant>) -> io::Result<f64> {
+    Ok(start?.elapsed(rt)?.as_secs_f64())
 }
 
 /// The seconds that work on the whole text takes.
-fn whole(rt: &HostRuntime, job: Job, text: &[u8]) -> io::Result<f64> {
-    let start = Instant::now(rt)?;
+fn whole(rt: &HostRuntime, work: usize, number: usize, text: &[u8]) -> io::Result<f64> {
+    let start = Instant::now(rt);
     // What is answered is asked for so that no work can be left out.
-    let done = is_done(rt.alloc(), job, text);
+    let done = is_done(rt.alloc(), work, number, text);
     let seconds = since(rt, start);
     if !done {
         return Err(io::Error::from(ErrorKind::InvalidData));
@@ -112,14 +51,14 @@ fn whole(rt: &HostRuntime, job: Job, text: &[u8]) -> io::Result<f64> {
 }
 
 /// Does work on the whole text; false where it can't be done.
-fn is_done(alloc: Global, job: Job, text: &[u8]) -> bool {
-    match job.work {
-        Work::Lines | Work::Blocks | Work::Find => cut(alloc, text, job).is_ok(),
-        Work::Stuff => is_had(stuff(alloc, text)),
-        Work::Parse => is_had(Article::parse(alloc, text)),
-        Work::Expression => is_had(Expr::parse(alloc, text)),
-        Work::Storage => configure_storage(alloc, text),
-        Work::Relay => {
+fn is_done(alloc: Global, work: usize, number: usize, text: &[u8]) -> bool {
+    match work {
+        0..=2 => cut(alloc, text, work, number).is_ok(),
+        3 => is_had(stuff(alloc, text)),
+        4 => is_had(Article::parse(alloc, text)),
+        5 => is_had(Expr::parse(alloc, text)),
+        6 => configure_storage(alloc, text),
+        7 => {
             drop(read_relay(alloc, text));
             true
         }
@@ -148,31 +87,27 @@ fn configure_storage(alloc: Global, text: &[u8]) -> bool {
 }
 
 /// The seconds that work on the article takes that the text is.
-fn of_article(rt: &HostRuntime, work: Work, text: &[u8]) -> io::Result<f64> {
+fn of_article(rt: &HostRuntime, work: usize, text: &[u8]) -> io::Result<f64> {
     let Ok(article) = Article::parse(rt.alloc(), text) else {
         return Err(io::Error::from(ErrorKind::InvalidData));
     };
-    let took = working(rt, work, &article);
+    let start = Instant::now(rt);
+    work_on(rt.alloc(), work, &article);
+    let took = since(rt, start);
     drop(article);
     took
 }
 
-/// The seconds that work on an article takes.
-fn working(rt: &HostRuntime, work: Work, article: &Article) -> io::Result<f64> {
-    let start = Instant::now(rt)?;
-    work_on(rt.alloc(), work, article);
-    since(rt, start)
-}
-
 /// Does work on an article, and lets go what is answered.
-fn work_on(alloc: Global, work: Work, article: &Article) {
+fn work_on(alloc: Global, work: usize, article: &Article) {
+    let path = article.field(b"Path").unwrap_or(b"");
     match work {
-        Work::Groups => drop(article.groups(alloc)),
-        Work::Updated => drop(updated(alloc, article, OWN, b"one.example")),
-        Work::Loops => {
-            let _looped = loops(article.field(b"Path").unwrap_or(b""), OWN);
+        9 => drop(article.groups(alloc)),
+        10 => drop(identities(alloc, path)),
+        11 => {
+            let _looped = loops(path, OWN);
         }
-        _ => drop(identities(alloc, article.field(b"Path").unwrap_or(b""))),
+        _ => drop(updated(alloc, article, OWN, b"one.example")),
     }
 }
 
@@ -183,32 +118,27 @@ fn judging(rt: &HostRuntime, pattern: &[u8], count: usize) -> io::Result<f64> {
     let Ok(expression) = Expr::parse(rt.alloc(), pattern) else {
         return Err(io::Error::from(ErrorKind::InvalidData));
     };
-    let took = judged(rt, &expression, &name);
+    let start = Instant::now(rt);
+    let _verdict = expression.judge(&name);
+    let took = since(rt, start);
     drop(expression);
     took
 }
 
-/// The seconds that judging a name takes.
-fn judged(rt: &HostRuntime, expression: &Expr, name: &[u8]) -> io::Result<f64> {
-    let start = Instant::now(rt)?;
-    let _verdict = expression.judge(name);
-    since(rt, start)
-}
-
 /// Cuts the whole stream, which comes in pieces of so many octets.
-fn cut(alloc: Global, stream: &[u8], job: Job) -> Result<(), CutError> {
+fn cut(alloc: Global, stream: &[u8], work: usize, octets: usize) -> Result<(), CutError> {
     let mut cutter = Cutter::new(alloc, MAX_BLOCK);
-    let cut = cut_all(&mut cutter, stream, job);
+    let cut = cut_all(&mut cutter, stream, work, octets);
     drop(cutter);
     cut
 }
 
 /// Feeds the whole stream in such pieces, and cuts what is whole of each.
-fn cut_all(cutter: &mut Cutter, stream: &[u8], job: Job) -> Result<(), CutError> {
-    for octets in stream.chunks(job.number.max(1)) {
-        cutter.feed(octets)?;
+fn cut_all(cutter: &mut Cutter, stream: &[u8], work: usize, octets: usize) -> Result<(), CutError> {
+    for piece in stream.chunks(octets.max(1)) {
+        cutter.feed(piece)?;
         for _ in 0..u64::MAX {
-            if !cut_one(cutter, job.work)? {
+            if !cut_one(cutter, work)? {
                 break;
             }
         }
@@ -218,16 +148,16 @@ fn cut_all(cutter: &mut Cutter, stream: &[u8], job: Job) -> Result<(), CutError>
 
 /// Cuts a block or a line, or passes a block; false where none is whole, and where a line would
 /// begin in a block.
-fn cut_one(cutter: &mut Cutter, work: Work) -> Result<bool, CutError> {
+fn cut_one(cutter: &mut Cutter, work: usize) -> Result<bool, CutError> {
     match work {
-        Work::Blocks => Ok(cutter.block()?.is_some()),
-        Work::Find => Ok(pass_block(cutter)),
-        _ => {
+        0 => {
             if cutter.is_passing() {
                 return Ok(false);
             }
             Ok(cutter.line()?.is_some())
         }
+        1 => Ok(cutter.block()?.is_some()),
+        _ => Ok(pass_block(cutter)),
     }
 }
 

@@ -1,7 +1,8 @@
 //! What asks in a row: it opens no socket, fails as a line of the row says, and tells what it was
 //! asked.
-use line_words::is;
+use line_words::cut;
 use relay_command::Request;
+use row_text::place_of;
 use std::alloc::Global;
 use std::io;
 use std::io::ErrorKind;
@@ -18,20 +19,13 @@ pub fn ask(alloc: Global, manner: &[u8], folder: &str, request: Request) -> io::
     Ok([folder.as_bytes(), told].concat(alloc)?)
 }
 
-/// The failure that a row's line names: no socket is there, nobody hears at it, it is another
-/// user's, or there is no memory.
+/// The failure that a row's line names by its first word: no socket is there, nobody hears at it,
+/// it is another user's, or there is no memory.
 fn failure_of(manner: &[u8]) -> Option<ErrorKind> {
-    if is(manner, b"no socket") {
-        return Some(ErrorKind::NotFound);
+    match place_of("no nobody denied memory", cut(manner, b' ').0)? {
+        0 => Some(ErrorKind::NotFound),
+        1 => Some(ErrorKind::ConnectionRefused),
+        2 => Some(ErrorKind::PermissionDenied),
+        _ => Some(ErrorKind::OutOfMemory),
     }
-    if is(manner, b"nobody") {
-        return Some(ErrorKind::ConnectionRefused);
-    }
-    if is(manner, b"denied") {
-        return Some(ErrorKind::PermissionDenied);
-    }
-    if is(manner, b"memory") {
-        return Some(ErrorKind::OutOfMemory);
-    }
-    None
 }

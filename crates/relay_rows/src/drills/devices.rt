@@ -1,22 +1,20 @@
 //! A drill over devices that fail.
-use line_words::is;
+use line_words::cut;
 use relay_command::Failure;
 use relay_conf::Config;
 use relay_drill::{DrillError, drill_failing};
+use row_text::place_of;
 use std::alloc::Global;
 use std::io::{Read, Write};
 use std::random::RandomSource;
 
-/// The call of each device that fails by the line of a row about its machine. `None` where that
-/// says nothing of devices.
+/// The call of each device that fails by the line of a row about its machine: its first or its
+/// second one. `None` where that says nothing of devices.
 pub fn failing_call(machine: &[u8]) -> Option<u64> {
-    if is(machine, b"first call") {
-        return Some(1);
+    match place_of("first second", cut(machine, b' ').0)? {
+        0 => Some(1),
+        _ => Some(2),
     }
-    if is(machine, b"second call") {
-        return Some(2);
-    }
-    None
 }
 
 /// Runs a script with the built-in configuration over devices of which each fails this call.

@@ -1,6 +1,6 @@
 //! Texts with long repeats, written short.
 use line_words::{cut, is, number_within, three_parts};
-use std::alloc::{AllocError, Global};
+use row_text::Sheet;
 
 /// The most that a number of a repeat can be.
 const MOST: u64 = 1_000_000;
@@ -14,98 +14,83 @@ const HEADER: &[u8] = b"send % Path: one.example!not-for-mail\nsend % From: a@x.
 /// The hexadecimal digits.
 const DIGITS: &[u8; 16] = b"0123456789ABCDEF";
 
-/// The text with what stands between each `{` and `}` written out.
-pub fn expanded(alloc: Global, text: &[u8]) -> Result<Vec<u8>, AllocError> {
+/// Writes a text with what stands between each `{` and `}` written out.
+pub fn put_expanded(text: &[u8], sheet: &mut Sheet) {
     let (front, mut unread) = cut(text, b'{');
-    let mut whole = Vec::from_slice(alloc, front)?;
+    sheet.put(front);
     while let Some(rest) = unread {
         let (marked, after) = cut(rest, b'{');
         let (inside, behind) = cut(marked, b'}');
-        add_marked(alloc, &mut whole, inside)?;
-        whole.extend_from_slice(behind.unwrap_or(b""))?;
+        put_marked(inside, sheet);
+        sheet.put(behind.unwrap_or(b""));
         unread = after;
     }
-    Ok(whole)
 }
 
-/// Adds what `article S I K`, `hex TEXT`, `FIRST-LAST TEXT` or `N TEXT` stands for.
-fn add_marked(alloc: Global, whole: &mut Vec<u8>, inside: &[u8]) -> Result<(), AllocError> {
+/// Writes what `article S I K`, `hex TEXT`, `FIRST-LAST TEXT` or `N TEXT` stands for.
+fn put_marked(inside: &[u8], sheet: &mut Sheet) {
     let (word, behind) = cut(inside, b' ');
-    if is(word, b"article") {
-        return add_article(whole, behind);
-    }
     let text = behind.unwrap_or(b"");
-    if is(word, b"hex") {
-        return add_hex(whole, text);
-    }
-    match cut(word, b'-') {
-        (first, Some(last)) => add_numbered(alloc, whole, (first, last), text),
-        (count, None) => add_repeat(whole, count, text),
+    if is(word, b"article") {
+        put_article(behind, sheet);
+    } else if is(word, b"hex") {
+        put_hex(text, sheet);
+    } else {
+        match cut(word, b'-') {
+            (first, Some(last)) => put_numbered((first, last), text, sheet),
+            (count, None) => put_repeat(count, text, sheet),
+        }
     }
 }
 
-/// Adds two digits for each octet of a text, whose lines end with CRLF there.
-fn add_hex(whole: &mut Vec<u8>, text: &[u8]) -> Result<(), AllocError> {
+/// Writes two digits for each octet of a text, whose lines end with CRLF there.
+fn put_hex(text: &[u8], sheet: &mut Sheet) {
     for octet in text {
         if *octet == b'\n' {
-            whole.extend_from_slice(b"0D")?;
+            sheet.put(b"0D");
         }
-        whole.push(DIGITS[usize::from(*octet >> 4)])?;
-        whole.push(DIGITS[usize::from(*octet & 15)])?;
+        let high = DIGITS[usize::from(*octet >> 4)];
+        let low = DIGITS[usize::from(*octet & 15)];
+        sheet.put(&[high, low]);
     }
-    Ok(())
 }
 
-/// Adds a text so many times.
-fn add_repeat(whole: &mut Vec<u8>, count: &[u8], text: &[u8]) -> Result<(), AllocError> {
-    for added in 0..number_within(0, MOST, count).unwrap_or(0) {
-        let _added = added;
-        whole.extend_from_slice(text)?;
+/// Writes a text so many times.
+fn put_repeat(count: &[u8], text: &[u8], sheet: &mut Sheet) {
+    for _time in 0..number_within(0, MOST, count).unwrap_or(0) {
+        sheet.put(text);
     }
-    Ok(())
 }
 
-/// Adds a text once for each number from the first to the last, with the number in the place of
+/// Writes a text once for each number from the first to the last, with the number in the place of
 /// each `#`.
-fn add_numbered(
-    alloc: Global,
-    whole: &mut Vec<u8>,
-    ends: (&[u8], &[u8]),
-    text: &[u8],
-) -> Result<(), AllocError> {
+fn put_numbered(ends: (&[u8], &[u8]), text: &[u8], sheet: &mut Sheet) {
     let first = number_within(0, MOST, ends.0).unwrap_or(1);
     let last = number_within(0, MOST, ends.1).unwrap_or(0);
     for number in first..=last {
-        let digits = format!(in alloc; "{number}")?;
+        let mut digits = Sheet::new(sheet.alloc);
+        digits.number(number);
         // No session is named here: a `%` stays one.
-        add_with(whole, text, b"%", digits.as_bytes())?;
+        put_with(text, b"%", digits.octets(), sheet);
     }
-    Ok(())
 }
 
-/// Adds a text with these in the place of each `%` and of each `#`.
-fn add_with(
-    whole: &mut Vec<u8>,
-    text: &[u8],
-    session: &[u8],
-    number: &[u8],
-) -> Result<(), AllocError> {
+/// Writes a text with these in the place of each `%` and of each `#`.
+fn put_with(text: &[u8], session: &[u8], number: &[u8], sheet: &mut Sheet) {
     for octet in text {
         match *octet {
-            b'%' => whole.extend_from_slice(session)?,
-            b'#' => whole.extend_from_slice(number)?,
-            other => whole.push(other)?,
+            b'%' => sheet.put(session),
+            b'#' => sheet.put(number),
+            other => sheet.put(&[other]),
         }
     }
-    Ok(())
 }
 
-/// Adds the lines that send A(I, K) by session S, the line `.` behind it too, by `S I K`.
-fn add_article(whole: &mut Vec<u8>, words: Option<&[u8]>) -> Result<(), AllocError> {
-    let Some((session, id, count)) = three_parts(words, b' ') else {
-        return Ok(());
-    };
-    add_with(whole, HEADER, session, id)?;
-    add_repeat(whole, count, b"x")?;
-    add_with(whole, b"\nsend % .", session, id)
+/// Writes the lines that send A(I, K) by session S, the line `.` behind it too, by `S I K`.
+fn put_article(words: Option<&[u8]>, sheet: &mut Sheet) {
+    if let Some((session, id, count)) = three_parts(words, b' ') {
+        put_with(HEADER, session, id, sheet);
+        put_repeat(count, b"x", sheet);
+        put_with(b"\nsend % .", session, id, sheet);
+    }
 }

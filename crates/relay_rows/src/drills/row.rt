@@ -2,20 +2,24 @@
 //! behave, and its standard input.
 use crate::drills::asker::ask;
 use crate::drills::devices::{drill_k1, failing_call};
-use crate::drills::expand::expanded;
+use crate::drills::expand::put_expanded;
 use crate::drills::machine::Machine;
-use crate::drills::manner::{Manner, add_cut, counted, joined};
-use crate::drills::server::{ending_of, serve};
+use crate::drills::manner::{Manner, put_counted};
+use crate::drills::server::serve;
 use crate::drills::streams::{Input, Output};
 use crate::drills::words::Words;
-use line_words::cut;
+use line_words::{cut, is};
 use relay_command::{Failure, gathering, print_failure, program_words, run};
-use std::alloc::{AllocError, Global};
-use std::io::{BufWriter, ErrorKind};
-use std::{io, mem};
+use row_text::Sheet;
+use std::alloc::Global;
+use std::io::BufWriter;
+use std::mem;
 
 /// The line before a script whose octets come one by one.
 const SPLIT: &[u8] = b"split 1\n";
+
+/// The line behind which stands what a row gives in pieces of one octet, where that differs.
+const IN_PIECES: &[u8] = b"-- in pieces of one octet\n";
 
 /// A row, with what it shows.
 #[derive(Drop)]
@@ -35,7 +39,7 @@ pub struct Row<'a> {
     /// How what serves or asks fails: the line behind `@`.
     server: &'a [u8],
     /// The lines below those, with an LF between each two: none stands behind the last.
-    script: Vec<u8>,
+    script: Sheet,
     /// Whether such a line was added.
     begun: bool,
 }
@@ -51,116 +55,124 @@ impl<'a> Row<'a> {
             output: b"",
             machine: b"",
             server: b"",
-            script: Vec::new(alloc),
+            script: Sheet::new(alloc),
             begun: false,
         }
     }
 
     /// Adds a line.
-    pub fn add(&mut self, line: &'a [u8]) -> Result<(), AllocError> {
+    pub fn add(&mut self, line: &'a [u8]) {
         if self.begun {
-            self.script.push(b'\n')?;
-        } else if self.is_set(line)? {
-            return Ok(());
+            self.script.put(b"\n");
+        } else if self.is_set(line) {
+            return;
         }
         self.begun = true;
-        self.script.extend_from_slice(line)
+        self.script.put(line);
     }
 
     /// Takes a line that has a mark before a space, or answers `false` for another.
-    fn is_set(&mut self, line: &'a [u8]) -> Result<bool, AllocError> {
+    fn is_set(&mut self, line: &'a [u8]) -> bool {
         let [mark, b' ', rest @ ..] = line else {
-            return Ok(false);
+            return false;
         };
         match *mark {
-            b'$' => self.words.push(rest)?,
+            b'$' => {
+                if self.words.push(rest).is_err() {
+                    self.script.lack();
+                }
+            }
             b'<' => self.input = rest,
             b'>' => self.output = rest,
             b'!' => self.machine = rest,
             b'@' => self.server = rest,
-            _ => return Ok(false),
+            _ => return false,
         }
-        Ok(true)
+        true
     }
 
-    /// What is printed of the row.
-    pub fn play(&self, rt: &HostRuntime) -> io::Result<Vec<u8>> {
-        let script = expanded(rt.alloc(), &self.script)?;
+    /// Writes what is printed of the row.
+    pub fn put(&self, rt: &HostRuntime, sheet: &mut Sheet) {
+        let mut script = Sheet::new(sheet.alloc);
+        put_expanded(self.script.octets(), &mut script);
+        self.put_script(rt, script.octets(), sheet);
+        if self.script.is_spoilt() || script.is_spoilt() {
+            sheet.lack();
+        }
+    }
+
+    /// Writes what is printed of the row with this script.
+    fn put_script(&self, rt: &HostRuntime, script: &[u8], sheet: &mut Sheet) {
         match self.manner {
-            Manner::Twice => self.play_twice(rt, &script),
-            Manner::Once => self.play_script(rt, &script),
-            Manner::Counted => Ok(counted(rt.alloc(), &self.play_script(rt, &script)?)?),
-            Manner::Cut => self.play_cuts(rt, &script),
+            Manner::Twice => self.put_twice(rt, script, sheet),
+            Manner::Cut => self.put_cuts(rt, script, sheet),
+            Manner::Once => {
+                let played = self.played(rt, &[script], sheet);
+                sheet.put(&played);
+            }
+            Manner::Counted => {
+                let played = self.played(rt, &[script], sheet);
+                put_counted(&played, sheet);
+            }
         }
     }
 
-    /// What is printed of the row as it is and in pieces of one octet.
-    fn play_twice(&self, rt: &HostRuntime, script: &[u8]) -> io::Result<Vec<u8>> {
-        let split = [SPLIT, script].concat(rt.alloc())?;
-        let whole = self.play_script(rt, script)?;
-        let pieces = self.play_script(rt, &split)?;
-        Ok(joined(whole, &pieces)?)
+    /// Writes what is printed of the row as it is and in pieces of one octet: once what both times
+    /// gave, or both.
+    fn put_twice(&self, rt: &HostRuntime, script: &[u8], sheet: &mut Sheet) {
+        let whole = self.played(rt, &[script], sheet);
+        let pieces = self.played(rt, &[SPLIT, script], sheet);
+        sheet.put(&whole);
+        if !is(&whole, &pieces) {
+            sheet.put(IN_PIECES);
+            sheet.put(&pieces);
+        }
     }
 
-    /// What is printed of the row where of the octets between the two `^`, two digits each, only
-    /// the first come: one octet, two, and so on.
-    fn play_cuts(&self, rt: &HostRuntime, script: &[u8]) -> io::Result<Vec<u8>> {
+    /// Writes what is printed of the row where of the octets between the two `^`, two digits each,
+    /// only the first come: one octet, two, and so on.
+    fn put_cuts(&self, rt: &HostRuntime, script: &[u8], sheet: &mut Sheet) {
         let (front, marked) = cut(script, b'^');
         let (digits, behind) = cut(marked.unwrap_or(b""), b'^');
-        let mut printed = Vec::new(rt.alloc());
-        let mut last = Vec::new(rt.alloc());
+        let mut last = Vec::new(sheet.alloc);
         for octets in 1..=digits.len() / 2 {
             let come = digits.get(..octets * 2).unwrap_or(b"");
-            let parts = [front, come, behind.unwrap_or(b"")];
-            self.play_cut(rt, octets, parts, &mut printed, &mut last)?;
+            let played = self.played(rt, &[front, come, behind.unwrap_or(b"")], sheet);
+            put_cut(octets, &last, &played, sheet);
+            last = played;
         }
-        Ok(printed)
     }
 
-    /// Plays the row where so many octets come, by the parts of its script, and adds what is
-    /// printed of that to what was printed of earlier cuts, of which the last one gave this.
-    fn play_cut(
-        &self,
-        rt: &HostRuntime,
-        octets: usize,
-        parts: [&[u8]; 3],
-        printed: &mut Vec<u8>,
-        last: &mut Vec<u8>,
-    ) -> io::Result<()> {
-        let script = parts.concat(rt.alloc())?;
-        let played = self.play_script(rt, &script)?;
-        add_cut(rt.alloc(), printed, octets, last, &played)?;
-        drop(mem::replace(last, played));
-        Ok(())
-    }
-
-    /// What the row gives with this script: what the program wrote, and its failure.
-    fn play_script(&self, rt: &HostRuntime, script: &[u8]) -> io::Result<Vec<u8>> {
-        match gathering(rt.alloc(), Output::new(rt.alloc(), self.output)) {
-            Ok(output) => self.play_gathering(rt, script, output),
+    /// What the row gives with the script of these parts: what the program wrote, and its failure.
+    fn played(&self, rt: &HostRuntime, parts: &[&[u8]], sheet: &mut Sheet) -> Vec<u8> {
+        let mut script = Sheet::new(sheet.alloc);
+        for part in parts {
+            script.put(part);
+        }
+        match gathering(sheet.alloc, Output::new(sheet.alloc, self.output)) {
+            Ok(output) => self.gathered(rt, &script.onto(sheet), output, sheet),
             Err(failure) => {
                 drop(failure);
-                Err(io::Error::from(ErrorKind::OutOfMemory))
+                sheet.lack();
+                Vec::new(sheet.alloc)
             }
         }
     }
 
     /// What the row gives with this script, where the program writes here.
-    fn play_gathering(
+    fn gathered(
         &self,
         rt: &HostRuntime,
         script: &[u8],
         mut output: BufWriter<Output>,
-    ) -> io::Result<Vec<u8>> {
+        sheet: &mut Sheet,
+    ) -> Vec<u8> {
         let ran = self.run_with(rt, script, &mut output);
         let (device, _unwritten) = output.into_parts();
-        let mut played = device.written;
-        let told = tell(rt.alloc(), &ran, &mut played);
+        let mut written = device.written;
+        tell(&ran, &mut written, sheet);
         drop(ran);
-        match told {
-            Ok(()) => Ok(played),
-            Err(error) => Err(error),
-        }
+        written
     }
 
     /// Does what the row's words ask for, with this script.
@@ -206,7 +218,6 @@ impl<'a> Row<'a> {
         output: &mut BufWriter<Output>,
     ) -> Result<(), Failure> {
         let manner = self.server;
-        let ending = ending_of(manner);
         run(
             machine,
             alloc,
@@ -214,19 +225,29 @@ impl<'a> Row<'a> {
             input,
             output,
             move |config, folder, sessions, fresh, writer| {
-                serve(alloc, ending, config, folder, sessions, fresh, writer)
+                serve(alloc, manner, config, folder, sessions, fresh, writer)
             },
             move |folder, request| ask(alloc, manner, folder, request),
         )
     }
 }
 
-/// Adds the text of a failure, if there is one, and its status.
-fn tell(alloc: Global, ran: &Result<(), Failure>, played: &mut Vec<u8>) -> io::Result<()> {
-    print_failure(ran, played)?;
-    if let Err(failure) = ran {
-        let status = format!(in alloc; "status {}\n", failure.status())?;
-        played.extend_from_slice(status.as_bytes())?;
+/// Writes what is printed of a row that is cut behind so many octets: nothing where it gives the
+/// same as the last one.
+fn put_cut(octets: usize, last: &[u8], played: &[u8], sheet: &mut Sheet) {
+    if !is(last, played) {
+        sheet.filled(b"-- cut behind octet #\n", &[octets as u64]);
+        sheet.put(played);
     }
-    Ok(())
+}
+
+/// Adds the text of a failure, if there is one, and its status.
+fn tell(ran: &Result<(), Failure>, written: &mut Vec<u8>, sheet: &mut Sheet) {
+    let mut status = Sheet::new(sheet.alloc);
+    if let Err(failure) = ran {
+        status.filled(b"status #\n", &[u64::from(failure.status())]);
+    }
+    if print_failure(ran, written).is_err() || written.extend_from_slice(status.octets()).is_err() {
+        sheet.lack();
+    }
 }

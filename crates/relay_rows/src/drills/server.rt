@@ -5,122 +5,22 @@ ghost use Rattle.relay_conf.specs.declared.settings.Config.{Config};
 ghost use Rattle.relay_report.specs.Figures.{name_of};
 ghost use Rattle.relay_report.specs.Serve.{AreOf, ServeGives};
 
-use crate::drills::words::behind;
 use block_shelf::BufferFigures;
 use id_history::Counts;
-use line_words::{Octets, is};
+use line_words::{Octets, cut, is};
 use relay_conf::{BufferConf, Config, Peer, Relay};
 use relay_report::{
     BufferFault, FeedFigures, Figures, LostFile, LostPort, NamedBuffer, NamedFeed, Reason,
     ServeError, StartFault, StopFault, Totals, print_totals,
 };
+use row_text::place_of;
 use std::alloc::{AllocError, Global};
 use std::io::Write;
 
-/// How what serves in a row ends.
-#[derive(Clone, Copy)]
-pub enum Ending {
-    /// The report is written.
-    Reported,
-    /// `file`: the first buffer's file can't be had.
-    File,
-    /// `port`: the port of the first peer that has one can't be had.
-    Port,
-    /// `control`: the socket by which a relay is asked can't be had.
-    Control,
-    /// `unseeded`: there are no random numbers.
-    Unseeded,
-    /// `memory`: there is no memory.
-    Memory,
-    /// `thread`: there is no thread.
-    Thread,
-    /// `unwritten`: the report takes none of its octets.
-    Unwritten,
-    /// `start NAME`: the first buffer has a fault.
-    Buffer(BufferFault),
-    /// `start History`: the history can't be read.
-    History,
-    /// `start BadHistory`: it is none.
-    BadHistory,
-    /// `start Ahead`: it speaks of articles that aren't there.
-    Ahead,
-    /// `stop NAME`: it can't be stopped.
-    Stop(StopFault),
-}
-
-/// The ending that a row's line names.
-pub fn ending_of(manner: &[u8]) -> Ending {
-    if is(manner, b"file") {
-        return Ending::File;
-    }
-    if is(manner, b"port") {
-        return Ending::Port;
-    }
-    if is(manner, b"control") {
-        return Ending::Control;
-    }
-    if is(manner, b"unseeded") {
-        return Ending::Unseeded;
-    }
-    if is(manner, b"memory") {
-        return Ending::Memory;
-    }
-    if is(manner, b"thread") {
-        return Ending::Thread;
-    }
-    if is(manner, b"unwritten") {
-        return Ending::Unwritten;
-    }
-    if let Some(fault) = behind(manner, b"start ") {
-        return start_of(fault);
-    }
-    if let Some(fault) = behind(manner, b"stop ") {
-        return stop_of(fault);
-    }
-    Ending::Reported
-}
-
-/// The ending by the fault of a start of this name.
-fn start_of(fault: &[u8]) -> Ending {
-    if is(fault, b"Device") {
-        return Ending::Buffer(BufferFault::Device);
-    }
-    if is(fault, b"NoHead") {
-        return Ending::Buffer(BufferFault::NoHead);
-    }
-    if is(fault, b"Unclosed") {
-        return Ending::Buffer(BufferFault::Unclosed);
-    }
-    if is(fault, b"Damaged") {
-        return Ending::Buffer(BufferFault::Damaged);
-    }
-    if is(fault, b"Mixed") {
-        return Ending::Buffer(BufferFault::Mixed);
-    }
-    if is(fault, b"BadHistory") {
-        return Ending::BadHistory;
-    }
-    if is(fault, b"Ahead") {
-        return Ending::Ahead;
-    }
-    Ending::History
-}
-
-/// The ending by the fault of a stop of this name.
-fn stop_of(fault: &[u8]) -> Ending {
-    if is(fault, b"NotIdle") {
-        return Ending::Stop(StopFault::NotIdle);
-    }
-    if is(fault, b"Device") {
-        return Ending::Stop(StopFault::Device);
-    }
-    Ending::Stop(StopFault::History)
-}
-
-/// Serves in a row, with this ending.
+/// Serves in a row, and fails as a line of the row says.
 pub fn serve<W: Write>(
     alloc: Global,
-    ending: Ending,
+    manner: &[u8],
     config: &Config,
     folder: &str,
     sessions: Option<u32>,
@@ -130,15 +30,15 @@ pub fn serve<W: Write>(
     ensures { ServeGives config.now result (W.contents writer.old) (W.contents writer.new) }
 {
     let totals = totals_of(alloc, config, folder, sessions, fresh)?;
-    let served = end(alloc, ending, config, &totals, writer);
+    let served = end(alloc, manner, config, &totals, writer);
     drop(totals);
     served
 }
 
-/// Ends what serves, with these totals.
+/// Ends what serves, with these totals. By `unwritten` their report takes none of its octets.
 fn end<W: Write>(
     alloc: Global,
-    ending: Ending,
+    manner: &[u8],
     config: &Config,
     totals: &Totals,
     writer: &mut W,
@@ -146,43 +46,71 @@ fn end<W: Write>(
     requires { AreOf config.now totals.now }
     ensures { ServeGives config.now result (W.contents writer.old) (W.contents writer.new) }
 {
-    if matches!(ending, Ending::Unwritten) {
+    if is(manner, b"unwritten") {
         return Err(ServeError::Unwritten);
     }
-    match failure_of(alloc, config, ending) {
+    match failure_of(alloc, config, manner) {
         Some(error) => Err(error),
         None => print_totals(alloc, totals, writer),
     }
 }
 
-/// The failure of this ending, where it is one that writes nothing.
-fn failure_of(alloc: Global, config: &Config, ending: Ending) -> Option<ServeError>
+/// The failure that a row's line names, where it is one that writes nothing: the first buffer's
+/// file, the port of the first peer that has one, or the socket by which a relay is asked can't be
+/// had; there are no random numbers, there is no memory or no thread; it can't be started or
+/// stopped.
+fn failure_of(alloc: Global, config: &Config, manner: &[u8]) -> Option<ServeError>
     ensures { IfSome result (λ error. (held : Option (List ℕ))
         → ServeGives config.now (Err error) held held) }
 {
-    match ending {
-        Ending::File => file_of(alloc, config),
-        Ending::Port => port_of(config),
-        Ending::Buffer(fault) => buffer_of(alloc, config, fault),
-        other => plain_failure(other),
+    let (word, behind) = cut(manner, b' ');
+    let fault = behind.unwrap_or(b"");
+    match place_of("file port control unseeded memory thread start stop", word)? {
+        0 => file_of(alloc, config),
+        1 => port_of(config),
+        2 => Some(ServeError::Control),
+        3 => Some(ServeError::Unseeded),
+        4 => Some(ServeError::Memory),
+        5 => Some(ServeError::NoThread),
+        6 => start_of(alloc, config, fault),
+        _ => Some(ServeError::Stop(stop_of(fault))),
     }
 }
 
-/// The failure of this ending, where it is neither a file nor a port nor a buffer.
-fn plain_failure(ending: Ending) -> Option<ServeError>
-    ensures { IfSome result (λ error. (config : Config) (held : Option (List ℕ))
-        → ServeGives config (Err error) held held) }
+/// That the relay can't start: the first buffer has the fault of this name; the history is none,
+/// speaks of articles that aren't there, or by any other name can't be read.
+fn start_of(alloc: Global, config: &Config, fault: &[u8]) -> Option<ServeError>
+    ensures { IfSome result (λ error. (held : Option (List ℕ))
+        → ServeGives config.now (Err error) held held) }
 {
-    match ending {
-        Ending::Control => Some(ServeError::Control),
-        Ending::Unseeded => Some(ServeError::Unseeded),
-        Ending::Memory => Some(ServeError::Memory),
-        Ending::Thread => Some(ServeError::NoThread),
-        Ending::History => Some(ServeError::Start(StartFault::History)),
-        Ending::BadHistory => Some(ServeError::Start(StartFault::BadHistory)),
-        Ending::Ahead => Some(ServeError::Start(StartFault::Ahead)),
-        Ending::Stop(fault) => Some(ServeError::Stop(fault)),
-        _ => None,
+    match place_of(
+        "BadHistory Ahead Device NoHead Unclosed Damaged Mixed",
+        fault,
+    ) {
+        None => Some(ServeError::Start(StartFault::History)),
+        Some(0) => Some(ServeError::Start(StartFault::BadHistory)),
+        Some(1) => Some(ServeError::Start(StartFault::Ahead)),
+        Some(place) => buffer_of(alloc, config, fault_at(place)),
+    }
+}
+
+/// The fault of a buffer whose name has this place.
+fn fault_at(place: usize) -> BufferFault {
+    match place {
+        2 => BufferFault::Device,
+        3 => BufferFault::NoHead,
+        4 => BufferFault::Unclosed,
+        5 => BufferFault::Damaged,
+        _ => BufferFault::Mixed,
+    }
+}
+
+/// The fault of a stop of this name.
+fn stop_of(fault: &[u8]) -> StopFault {
+    match place_of("NotIdle Device", fault) {
+        Some(0) => StopFault::NotIdle,
+        Some(_) => StopFault::Device,
+        None => StopFault::History,
     }
 }
 

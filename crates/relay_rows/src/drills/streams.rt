@@ -1,5 +1,6 @@
 //! The streams of a row: octets in memory, and streams that give little, break off or fill up.
 use line_words::is;
+use row_text::place_of;
 use std::alloc::Global;
 use std::io;
 use std::io::{ErrorKind, Read, Write};
@@ -65,16 +66,12 @@ impl Output {
 
 /// How many octets are taken before it fails.
 fn most_of(manner: &[u8]) -> usize {
-    if is(manner, b"closed") {
-        return 0;
+    match place_of("closed full large", manner) {
+        Some(0) => 0,
+        Some(1) => 40,
+        Some(_) => 65_600,
+        None => usize::MAX,
     }
-    if is(manner, b"full") {
-        return 40;
-    }
-    if is(manner, b"large") {
-        return 65_600;
-    }
-    usize::MAX
 }
 
 impl Write for Output {

@@ -1,11 +1,6 @@
 //! The words of a row, as a system hands them to a program: octets, which may be no UTF-8.
 use std::env::{Env, FillError};
 
-/// What stands behind this front of a line, where it has that.
-pub fn behind<'a>(line: &'a [u8], front: &[u8]) -> Option<&'a [u8]> {
-    line.strip_prefix(front)
-}
-
 /// The words behind the program's name.
 #[derive(Clone, Copy)]
 pub struct Words<'a>(pub &'a [&'a [u8]]);

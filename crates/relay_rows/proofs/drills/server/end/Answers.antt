@@ -3,8 +3,8 @@ use Rattle.relay_report.proofs.Printed.{printed}
 use Rattle.relay_rows.proofs.Serving.{takes_none}
 use Rattle.relay_rows.proofs.drills.server.end.Goals as goal
 
-pub returns-then-matches : goal.returns-then-matches
-returns-then-matches g c = (
+pub returns-then-is : goal.returns-then-is
+returns-then-is g c = (
   c.args.totals.now,
   c.requires,
   takes_none (text_of_totals c.args.totals.now) (g.W.Write.contents c.args.writer.now),
