@@ -5,7 +5,7 @@ use std::alloc::AllocError;
 
 /// A front of a buffer: what lies a whole buffer before it is gone. A buffer alone makes one, of
 /// itself.
-#[derive(Clone, Copy)]
+#[derive(Clone, Copy, Debug)]
 pub struct Front {
     pub(crate) buffer: u8,
     pub(crate) blocks: u32,
