@@ -1,5 +1,5 @@
 //! Reading a configuration (docs/PROTOCOL.md, Program; docs/FORMATS.md, Configuration).
-ghost use Rattle.std.specs.Prelude.{◌≡◌, ◌⊎◌, IfOk, IfErr, Some};
+ghost use Rattle.std.specs.Prelude.{◌≡◌, ◌⊎◌, bytes_eq, codes, IfOk, IfErr, Some};
 ghost use Rattle.relay_command.specs.Check.{IsErrorIn, IsTextOf, IsUnread, LoadGives};
 ghost use Rattle.relay_command.specs.Check.{check_text, file_name, k1_text, unread_as};
 ghost use Rattle.relay_command.specs.declared.load.CheckError.TheVariants.{Memory, Unreadable};
@@ -134,11 +134,18 @@ pub(crate) fn text_of<R: Files>(
     ensures text { IfOk result (λ text. IsTextOf folder.now file text.items) }
     ensures error { IfErr result (IsUnread folder.now file) }
 {
-    if folder == "K1" {
+    if is_built_in(folder) {
         let text = Vec::from_slice(alloc, k1_text(file))?;
         return Ok(text);
     }
     text_in(rt, alloc, folder, file)
+}
+
+/// Whether the folder is the name of the built-in configuration.
+fn is_built_in(folder: &str) -> bool
+    ensures { result ≡ bytes_eq folder.now (codes "K1") }
+{
+    folder == "K1"
 }
 
 /// The text of a file of the built-in configuration.

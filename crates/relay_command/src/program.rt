@@ -1,5 +1,5 @@
 //! Doing what the words ask for (docs/PROTOCOL.md, Program).
-ghost use Rattle.std.specs.Prelude.{◌≡◌, ◌⊎◌, map, string_bytes, IfOk, IfErr};
+ghost use Rattle.std.specs.Prelude.{◌≡◌, ◌⊎◌, map, bytes_eq, codes, string_bytes, IfOk, IfErr};
 ghost use Rattle.relay_command.specs.Ask.{Answered};
 ghost use Rattle.relay_command.specs.CommandLine.{asked};
 ghost use Rattle.std.specs.Vec.Iter.{into_iter_items};
@@ -200,7 +200,7 @@ fn drill_script<S: Files + RandomSource, R: Read, W: Write>(
     ensures { DrillsScript config script.now result (R.remaining reader.old)
         (W.contents writer.old) (W.contents writer.new) }
 {
-    if script == "stdin" {
+    if is_standard_input(script) {
         return drill(rt, alloc, config, reader, writer);
     }
     match read_file(rt, alloc, script) {
@@ -210,4 +210,11 @@ fn drill_script<S: Files + RandomSource, R: Read, W: Write>(
             Err(error)
         }
     }
+}
+
+/// Whether the script is the name of standard input.
+fn is_standard_input(script: &str) -> bool
+    ensures { result ≡ bytes_eq script.now (codes "stdin") }
+{
+    script == "stdin"
 }
