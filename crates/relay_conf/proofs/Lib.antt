@@ -6,6 +6,7 @@ pub mod FirstFaults
 pub mod JoinedLines
 pub mod LinesRead
 pub mod ListedOnce
+pub mod NameTexts
 pub mod Numbered
 pub mod OneExpression
 pub mod OneReading

@@ -186,22 +186,24 @@ module _ {E R : Type 0} (Says : Result E Fault → Type 0)
   pub step_gives : {D : Type 0} (AllSay : List (Result E Fault) → List ℕ → Result E Fault → Type 0)
       (early : List (Result E Fault) → Result E Fault → Option Fault)
       (Draws : List (Result E Fault) → D → Type 0) (said : List (Result E Fault))
-      (line : List ℕ) (after : R) (new : D) (result : Result (Unit {0}) Refusal)
+      (line : List ℕ) (after : R) (new : D) (Kept : Type 0) (result : Result (Unit {0}) Refusal)
       → ((one : Result E Fault) → Says one → AllSay said line one)
       → ((one : Result E Fault) → early said one ≡ wrong r one)
-      → ((one : E) → wrong r (Ok one) ≡ None → after ≡ next r one
+      → ((one : E) → wrong r (Ok one) ≡ None → after ≡ next r one → Kept
       → Draws (said ++ Ok one ∷ []) new)
-      → ReadingGives Says wrong next r after result
+      → ReadingGives Says wrong next r after result → OnOk result Kept
       → StepGives AllSay early Draws said line new result
-  step_gives AllSay early Draws said line after new (Ok done) says same draws gives =
+  step_gives AllSay early Draws said line after new Kept (Ok done) says same draws gives kept =
       record {
         one = Ok gives.line;
         says = says (Ok gives.line) gives.says;
         none = same (Ok gives.line) ∙ gives.none;
-        draws = draws gives.line gives.none gives.reading;
+        draws = draws gives.line gives.none gives.reading kept;
       }
-  step_gives AllSay early Draws said line after new (Err Memory) says same draws gives = tt
-  step_gives AllSay early Draws said line after new (Err (Faulty fault)) says same draws gives =
+  step_gives AllSay early Draws said line after new Kept (Err Memory) says same draws gives kept =
+      tt
+  step_gives AllSay early Draws said line after new Kept (Err (Faulty fault)) says same draws gives
+      kept =
       record {
         one = gives.said;
         says = says gives.said gives.says;

@@ -3,7 +3,7 @@ use Rattle.std.proofs.lemmas.Bool.Decides.{nat_tests}
 use Rattle.std.proofs.Common.{◌≡◌, ℕ, ◌+◌, ◌≤◌, Bool, true, false, List, [], ◌∷◌, ◌++◌, length, map}
 use Rattle.std.proofs.Common.{Option, Some, None, Result, Ok, refl, ap, ◌∙◌, sym, subst, arith}
 use Rattle.std.proofs.Common.{append_assoc, append-nil, lit≤}
-use Rattle.std.specs.Prelude.{bytes_eq, filter_map, unwrap_or}
+use Rattle.std.specs.Prelude.{bytes_eq, filter_map, unwrap_or, not, OnOk}
 use Rattle.std.specs.List.{list_any}
 use Rattle.std.specs.Option.{option_to_list}
 use Rattle.std.proofs.lemmas.List.{map-append, length-append}
@@ -27,7 +27,7 @@ use Rattle.relay_conf.specs.Relay.{remember_of, patience_of, bind_of, peer_of, c
 use Rattle.relay_conf.specs.Relay.{feed_name_of, feed_of, line_fault, early_fault, late_fault}
 use Rattle.relay_conf.specs.Relay.{unknown_fault, again_fault, no_own_fault, first_or, first_of}
 use Rattle.relay_conf.specs.Relay.{connected, each_address, relay_said, RelaySettings}
-use Rattle.relay_conf.specs.RelayDraft.{RelayStep, IsDraftOf, draft_view, Reading}
+use Rattle.relay_conf.specs.RelayDraft.{RelayStep, IsDraftOf, Lists, draft_view, Reading}
 use Rattle.relay_conf.specs.RelayDraft.{stand_view, fault_behind, after_line, named_of, named_from}
 use Rattle.relay_conf.specs.RelayDraft.{IsReadingOf, first_unknown, numbered_feed, draft_said}
 use Rattle.relay_conf.specs.RelayDraft.{nothing, named_feed_of}
@@ -124,17 +124,20 @@ reading_more said r line none reading =
 -- A step of the reading is one of the draft.
 pub relay_step : (number : ℕ) (line : List ℕ) (d after : RelayDraft)
     (result : Result (Unit {0}) Refusal)
-    → RelayStep number (draft_view d) (relay_line line) (draft_view after) result
-    → (said : List SaidLine) → length said + 1 ≡ number
+    → (Lists d → RelayStep number (draft_view d) (relay_line line) (draft_view after) result)
+    → (Lists d → OnOk result (Lists after)) → (said : List SaidLine) → length said + 1 ≡ number
     → IsDraftOf said d → StepGives LineSays early_fault IsDraftOf said line after result
-relay_step number line d after result step said n of =
+relay_step number line d after result step listed said n of =
     step_gives (RawSays (relay_line line)) fault_behind (after_line number) (draft_view d) LineSays
-    early_fault IsDraftOf said line (draft_view after) after result (λ one says. says)
-    (λ one. ap (λ (st : Stand). line_fault st one) (sym of.stand))
-    (λ one none same. subst (IsReadingOf (said ++ Ok one ∷ []))
-    (ap (λ (k : ℕ). after_line k (draft_view d) one) n ∙ sym same)
-    (reading_more said (draft_view d) one none of))
-    step
+    early_fault IsDraftOf said line (draft_view after) after (Lists after) result (λ one says. says)
+    (λ one. ap (λ (st : Stand). line_fault st one) (sym of.reading.stand))
+    (λ one none same lists. record {
+      reading = subst (IsReadingOf (said ++ Ok one ∷ []))
+          (ap (λ (k : ℕ). after_line k (draft_view d) one) n ∙ sym same)
+          (reading_more said (draft_view d) one none of.reading);
+      listed = lists;
+    })
+    (step of.listed) (listed of.listed)
 
 -- WHAT IT SAYS
 
@@ -163,14 +166,11 @@ feeds_are_numbered peers [] = refl
 feeds_are_numbered peers (line ∷ said) = grind (arith, feeds_are_numbered peers said)
 
 -- A name that is listed is Duplicate, and one that isn't is the first.
-pub name_listed : (names : List (List ℕ)) (name : List ℕ) (b : Bool)
-    → b ≡ list_any (bytes_eq name) names
-    → (b ≡ true → again_fault names name ≡ Some Duplicate)
-    × (b ≡ false → again_fault names name ≡ None)
-name_listed names name b listed = (
-  λ there. rw (sym listed ∙ there) refl,
-  λ new. rw (sym listed ∙ new) refl,
-)
+pub name_listed : (names : List (List ℕ)) (name : List ℕ) (b added : Bool)
+    → b ≡ list_any (bytes_eq name) names → added ≡ not b
+    → (added ≡ false → again_fault names name ≡ Some Duplicate)
+    × (added ≡ true → again_fault names name ≡ None)
+name_listed names name b added listed new = grind arith
 
 first_or_is : {X : Type 0} (o : Option X) (d : X) → first_or d (option_to_list o) ≡ unwrap_or o d
 first_or_is o d = grind arith
@@ -222,10 +222,13 @@ reading_says said r none reading =
     ) refl)
 
 -- The draft of no lines.
-pub no_draft : (d : RelayDraft) → draft_view d ≡ nothing → IsDraftOf [] d
-no_draft d e =
-    subst (IsReadingOf []) (sym e)
-    (record { stand = refl; feeds = refl; named = refl; few = lit≤ tt })
+pub no_draft : (d : RelayDraft) → draft_view d ≡ nothing → Lists d → IsDraftOf [] d
+no_draft d e listed =
+    record {
+      reading = subst (IsReadingOf []) (sym e)
+          (record { stand = refl; feeds = refl; named = refl; few = lit≤ tt });
+      listed = listed;
+    }
 
 -- What the draft says is what its lines say.
 pub relay_gives : (read lines : List (List ℕ)) → read ≡ lines → (d : RelayDraft)
@@ -233,4 +236,4 @@ pub relay_gives : (read lines : List (List ℕ)) → read ≡ lines → (d : Rel
     → ConfGives relay_view result (draft_said (draft_view d)) → RelayGives result lines
 relay_gives read lines same d result from gives =
     draft_answers relay_view LineSays early_fault IsDraftOf relay_said read lines same result d from
-    (λ said none of. rw (reading_says said (draft_view d) none of) gives)
+    (λ said none of. rw (reading_says said (draft_view d) none of.reading) gives)

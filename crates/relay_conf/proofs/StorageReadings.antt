@@ -1,8 +1,8 @@
 -- Readings of storage.conf, line by line.
 use Rattle.std.proofs.Common.{◌≡◌, ℕ, ◌+◌, List, [], ◌∷◌, ◌++◌, length, map, reverse, Option, Some}
-use Rattle.std.proofs.Common.{None, Result, Ok, refl, ap, ◌∙◌, sym, subst, append_assoc}
+use Rattle.std.proofs.Common.{None, Result, Ok, Err, refl, ap, ◌∙◌, sym, subst, append_assoc}
 use Rattle.std.proofs.Common.{append-nil, arith}
-use Rattle.std.specs.Prelude.{unwrap_or}
+use Rattle.std.specs.Prelude.{unwrap_or, OnOk}
 use Rattle.std.specs.Global.{Vec}
 use Rattle.std.specs.Option.{option_to_list}
 use Rattle.std.proofs.lemmas.List.{reverse-append}
@@ -134,11 +134,11 @@ pub storage_step : (number : ℕ) (line : List ℕ) (d after : StorageDraft)
 storage_step number line d after result step groups said n of =
     let r = draft_view d in
     step_gives (RawSays (storage_line d.place line)) fault_behind (after_line number) r LineSays
-    (early_fault groups) (IsDraftOf groups) said line (draft_view after) after result
+    (early_fault groups) (IsDraftOf groups) said line (draft_view after) after (Unit {0}) result
     (λ one. subst (λ (p : Place). RawSays (storage_line p line) one) of.reading.place)
     (λ one. ap (λ (gs : List Group). early_fault gs said one) (sym of.over)
     ∙ ap (λ (st : Stand). line_fault st one) (sym of.reading.stand))
-    (λ one none same.
+    (λ one none same kept.
     let is : after_line (length said + 1) r one ≡ draft_view after =
     ap (λ (k : ℕ). after_line k r one) n ∙ sym same in
     record {
@@ -147,7 +147,7 @@ storage_step number line d after result step groups said n of =
       reading = subst (IsReadingOf (said ++ Ok one ∷ [])) is (reading_more said r one none
           of.reading);
     })
-    step
+    step (elim result as (λ r. OnOk r (Unit {0})) [ Ok done ↦ tt | Err refusal ↦ tt ])
 
 -- WHAT IT SAYS
 

@@ -1,8 +1,10 @@
 -- How far the lines of relay.conf are read. No public contract cites it.
-use Rattle.std.specs.Prelude.{◌≡◌, ℕ, ◌+◌, ◌≤◌, List, [], ◌∷◌, ◌++◌, length, map}
+use Rattle.std.specs.Prelude.{◌≡◌, ℕ, ◌+◌, ◌≤◌, List, [], ◌∷◌, ◌++◌, length, map, bytes_eq}
 use Rattle.std.specs.Prelude.{filter_map, unwrap_or, Option, None, Some, Result, Ok, Err}
 use Rattle.std.specs.Prelude.{if◌then◌else◌}
+use Rattle.std.specs.List.{list_any}
 use Rattle.std.specs.Option.{option_to_list}
+use Rattle.std.specs.HashSet.{contains_text}
 use Rattle.news_terms.specs.Pattern.{Marked}
 use Rattle.relay_conf.specs.declared.faults.Fault.{Fault}
 use Rattle.relay_conf.specs.declared.faults.Fault.TheVariants.{UnknownName}
@@ -133,6 +135,24 @@ abbrev pub FeedStep : ℕ → (name : List ℕ) (ring : ℕ) (text : List ℕ) �
 FeedStep number name ring text r after result =
     RelayStep number r (Ok (FeedLine name ring text)) after result
 
+-- the set has just the names of the feeds
+abbrev pub ListsFeeds : RelayDraft → Type 0
+ListsFeeds d =
+    (name : List ℕ)
+    → contains_text d.feed_names name
+    ≡ list_any (bytes_eq name) (map (λ feed. feed.name) d.feeds.items)
+
+-- the other set has just the names of the peers whose connections are said
+abbrev pub ListsConnections : RelayDraft → Type 0
+ListsConnections d =
+    (name : List ℕ)
+    → contains_text d.connected_names name
+    ≡ list_any (bytes_eq name) (map (λ one. one.name) d.connections.items)
+
+-- the sets have just these names
+abbrev pub Lists : RelayDraft → Type 0
+Lists d = ListsFeeds d × ListsConnections d
+
 -- the feed that a line says, by the name of its peer
 abbrev pub named_feed_of : SaidLine → Option NamedFeed
 named_feed_of (Err fault) = None
@@ -178,8 +198,9 @@ pub record IsReadingOf (said : List SaidLine) (r : Reading) : Type 0 where
   pub few : length r.peers ≤ 1024
 
 -- a draft is that of these lines
-abbrev pub IsDraftOf : (said : List SaidLine) → RelayDraft → Type 0
-IsDraftOf said d = IsReadingOf said (draft_view d)
+pub record IsDraftOf (said : List SaidLine) (d : RelayDraft) : Type 0 where
+  pub reading : IsReadingOf said (draft_view d)
+  pub listed : Lists d
 
 -- the first line that says something of no peer
 abbrev pub first_unknown : List Peer → List NamedLine → Option LineFault

@@ -14,6 +14,7 @@ mod expressions;
 mod faults;
 pub mod laws;
 mod lines;
+mod names;
 mod peers;
 mod relay;
 mod relay_lines;

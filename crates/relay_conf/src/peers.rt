@@ -1,7 +1,6 @@
 //! What lines of relay.conf say of peers by their names, looked for after the last line
 //! (docs/FORMATS.md, Configuration).
-ghost use Rattle.std.specs.Prelude.{◌≡◌, ◌≤◌, bytes_eq, length, map, IfOk};
-ghost use Rattle.std.specs.List.{list_any};
+ghost use Rattle.std.specs.Prelude.{◌≡◌, ◌≤◌, length, map, IfOk};
 ghost use Rattle.relay_conf.specs.Faults.{ConfGives};
 ghost use Rattle.relay_conf.specs.Relay as terms;
 ghost use Rattle.relay_conf.specs.RelayDraft.{named_said, numbered_feed};
@@ -94,30 +93,6 @@ pub(crate) fn connected(
         made.push(peer)?;
     }
     Ok(made)
-}
-
-/// Whether it is said how many connections of the peer of a name are served at once.
-pub(crate) fn has_connections(all: &[PeerConnections], name: &[u8]) -> bool
-    ensures { result ≡ list_any (bytes_eq name.now) (map (λ one. one.name) all.now) }
-{
-    for said in all {
-        if is(name, said.name.as_slice()) {
-            return true;
-        }
-    }
-    false
-}
-
-/// Whether there is a feed of the peer of a name.
-pub(crate) fn has_feed(feeds: &[NamedFeed], name: &[u8]) -> bool
-    ensures { result ≡ list_any (bytes_eq name.now) (map (λ feed. feed.name) feeds.now) }
-{
-    for feed in feeds {
-        if is(name, feed.name.as_slice()) {
-            return true;
-        }
-    }
-    false
 }
 
 /// How many connections of the peer of a name are served at once.

@@ -3,7 +3,7 @@ ghost use Rattle.std.specs.Prelude.{◌≡◌, ◌≤◌, ◌∷◌, ◌++◌, [
 ghost use Rattle.relay_conf.specs.Faults.{ConfGives, LineGives};
 ghost use Rattle.relay_conf.specs.Lines.{lines_of};
 ghost use Rattle.relay_conf.specs.Relay.{RelaySettings, peer_fault};
-ghost use Rattle.relay_conf.specs.RelayDraft.{RelayStep, ConnectionsStep, FeedStep, nothing};
+ghost use Rattle.relay_conf.specs.RelayDraft.{RelayStep, ConnectionsStep, FeedStep, Lists, nothing};
 ghost use Rattle.relay_conf.specs.RelayDraft.{draft_view, draft_said, with_peers};
 ghost use Rattle.relay_conf.specs.RelayViews.{relay_view, raw_view, RelayGives};
 ghost use Rattle.relay_conf.specs.SoundRelay.{IsSoundRelay};
@@ -12,11 +12,13 @@ use crate::drafts::{LineByLine, read_lines, set_once};
 use crate::expressions::expression_of;
 use crate::faults::{ConfError, Fault, LineFault, Refusal};
 use crate::lines::lines_of;
-use crate::peers::{connected, has_connections, has_feed, is_peer, known_names, numbered};
+use crate::names::add_name;
+use crate::peers::{connected, is_peer, known_names, numbered};
 use crate::relay_lines::{Line, relay_line};
 use crate::settings::Relay;
 use line_words::Octets;
 use std::alloc::{AllocError, Global};
+use std::collections::HashSet;
 use std::net::Ipv4Addr;
 use uwild::Expr;
 
@@ -81,6 +83,10 @@ pub(crate) struct RelayDraft {
     feeds: Vec<NamedFeed>,
     /// The names of peers that lines say something of.
     named: Vec<NamedLine>,
+    /// The names of the connections.
+    connected_names: HashSet<String>,
+    /// The names of the feeds.
+    feed_names: HashSet<String>,
 }
 
 /// The number of a line, and the name of the peer that it says something of.
@@ -123,7 +129,8 @@ impl LineByLine for RelayDraft {
 
 impl RelayDraft {
     fn new(alloc: Global) -> RelayDraft
-        ensures { draft_view result ≡ nothing }
+        ensures stand { draft_view result ≡ nothing }
+        ensures listed { Lists result }
     {
         RelayDraft {
             own: None,
@@ -136,13 +143,16 @@ impl RelayDraft {
             connections: Vec::new(alloc),
             feeds: Vec::new(alloc),
             named: Vec::new(alloc),
+            connected_names: HashSet::new(alloc),
+            feed_names: HashSet::new(alloc),
         }
     }
 
     /// Adds what the line of this number says.
     fn add(&mut self, alloc: Global, number: usize, said: Line<'_>) -> Result<(), Refusal>
-        ensures { RelayStep number (draft_view self.old) (Ok (raw_view said.entry))
-            (draft_view self.new) result }
+        ensures step { Lists self.old → RelayStep number (draft_view self.old)
+            (Ok (raw_view said.entry)) (draft_view self.new) result }
+        ensures listed { Lists self.old → OnOk result (Lists self.new) }
     {
         match said {
             Line::Skipped => Ok(()),
@@ -173,6 +183,8 @@ impl RelayDraft {
             (self.old.peers.items
             ++ record { name = name.now; identity = identity.now; port = port; connections = 1 }
             ∷ [])) }
+        ensures names { OnOk result (self.new.feed_names ≡ self.old.feed_names) }
+        ensures connected { OnOk result (self.new.connected_names ≡ self.old.connected_names) }
     {
         if self.peers.len() >= 1_024 {
             return Err(Refusal::Faulty(Fault::Number));
@@ -189,15 +201,17 @@ impl RelayDraft {
         &mut self,
         alloc: Global,
         line: usize,
-        name: &[u8],
+        name: &str,
         connections: u32,
     ) -> Result<(), Refusal>
-        ensures { ConnectionsStep line name.now connections (draft_view self.old)
-            (draft_view self.new) result }
+        ensures step { Lists self.old → ConnectionsStep line name.now connections
+            (draft_view self.old) (draft_view self.new) result }
+        ensures listed { Lists self.old → OnOk result (Lists self.new) }
     {
-        if has_connections(&self.connections, name) {
+        if !add_name(alloc, &mut self.connected_names, name)? {
             return Err(Refusal::Faulty(Fault::Duplicate));
         }
+        let name = name.as_bytes();
         push_connections(alloc, &mut self.connections, name, connections)?;
         push_named(alloc, &mut self.named, line, name)?;
         Ok(())
@@ -208,17 +222,19 @@ impl RelayDraft {
         &mut self,
         alloc: Global,
         line: usize,
-        name: &[u8],
+        name: &str,
         ring: u32,
         text: &[u8],
     ) -> Result<(), Refusal>
-        ensures { FeedStep line name.now ring text.now (draft_view self.old)
+        ensures step { Lists self.old → FeedStep line name.now ring text.now (draft_view self.old)
             (draft_view self.new) result }
+        ensures listed { Lists self.old → OnOk result (Lists self.new) }
     {
         let expression = expression_of(alloc, text)?;
-        if has_feed(&self.feeds, name) {
+        if !add_name(alloc, &mut self.feed_names, name)? {
             return Err(Refusal::Faulty(Fault::Duplicate));
         }
+        let name = name.as_bytes();
         push_feed(alloc, &mut self.feeds, name, ring, expression)?;
         push_named(alloc, &mut self.named, line, name)?;
         Ok(())
@@ -315,7 +331,11 @@ fn finished(alloc: Global, draft: RelayDraft) -> Result<Relay, ConfError>
         connections,
         feeds,
         named,
+        connected_names,
+        feed_names,
     } = draft;
+    drop(connected_names);
+    drop(feed_names);
     let Some(own) = own else {
         return Err(ConfError::Faulty(LineFault {
             line: 0,

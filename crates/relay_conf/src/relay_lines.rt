@@ -6,6 +6,7 @@ ghost use Rattle.relay_conf.specs.RelayViews.{raw_by};
 ghost use Rattle.relay_conf.specs.Words.{words};
 
 use crate::faults::Fault;
+use crate::names::name_of;
 use crate::words::{first_word, is_identity, is_name, one_word, three_words, two_words};
 use line_words::{cut, is, is_skipped, number_within, three_parts, trim};
 
@@ -29,9 +30,9 @@ pub(crate) enum Line<'a> {
     /// A peer: its name, its identity and its port.
     Peer(&'a [u8], &'a [u8], u16),
     /// The name of a peer and how many of its connections are served at once.
-    Connections(&'a [u8], u32),
+    Connections(&'a str, u32),
     /// A feed: the name of its peer, its ring and the text of its expression.
-    Feed(&'a [u8], u32, &'a [u8]),
+    Feed(&'a str, u32, &'a [u8]),
 }
 
 /// Reads a line alone, but for the expression of a feed.
@@ -165,9 +166,9 @@ fn connections_line(rest: &[u8]) -> Result<Line<'_>, Fault>
     let Some((name, connections)) = two_words(rest) else {
         return Err(Fault::Syntax);
     };
-    if !is_name(name) {
+    let Some(name) = name_of(name) else {
         return Err(Fault::Syntax);
-    }
+    };
     match number_within(1, 64, connections) {
         Some(connections) => Ok(Line::Connections(name, connections as u32)),
         None => Err(Fault::Number),
@@ -181,9 +182,9 @@ fn feed_line(rest: &[u8]) -> Result<Line<'_>, Fault>
     let Some((name, ring, text)) = three_words(rest) else {
         return Err(Fault::Syntax);
     };
-    if !is_name(name) {
+    let Some(name) = name_of(name) else {
         return Err(Fault::Syntax);
-    }
+    };
     match number_within(1, 65_536, ring) {
         Some(ring) => Ok(Line::Feed(name, ring as u32, text)),
         None => Err(Fault::Number),

@@ -5,7 +5,7 @@ use Rattle.relay_conf.proofs.relay.RelayDraftLineByLine.add_line.Goals as goal
 pub returns-in-Ok : goal.returns-in-Ok
 returns-in-Ok c = λ known.
     relay_step c.args.number c.args.line.now c.args.self.now c.add.new.self c.add.result
-    (rw (← c.in-Ok.ensures) c.add.ensures)
+    (rw (← c.in-Ok.ensures) c.add.ensures.step) c.add.ensures.listed
 
 pub returns-in-Err : goal.returns-in-Err
 returns-in-Err c = λ known said number of. record {
