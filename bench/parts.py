@@ -96,7 +96,7 @@ TABLES = {
             MILLION // 2,
         ),
         ("storage.conf of 20,000 entries", "storage", 0, ENTRIES, MILLION // 50),
-        ("relay.conf of 1,024 feeds", "relay", 0, feeds, 1024),
+        ("relay.conf of 100,000 feeds", "relay", 0, feeds, MILLION // 10),
         (
             "relay.conf with one expression of 500,000 patterns",
             "relay",
