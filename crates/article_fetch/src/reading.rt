@@ -26,7 +26,6 @@ use stream_cut::stuffed_room;
 
 /// A fetch in progress, with the octets that it has gathered. In each turn it is prepared, and then
 /// hears what was read of the next block, until it answers; behind its answer it is of no use.
-#[derive(Drop)]
 pub struct Reading {
     alloc: Global,
     asked: Asked,
@@ -38,6 +37,21 @@ pub struct Reading {
     room: Vec<u8>,
     /// Whether memory is there for whatever comes of the next block.
     prepared: bool,
+}
+
+// Written out, so that no crate above proves anew how each part is let go.
+impl Drop for Reading {
+    fn drop(self) {
+        let Reading {
+            alloc: _,
+            asked: _,
+            token: _,
+            had: _,
+            gathered: _,
+            room: _,
+            prepared: _,
+        } = self;
+    }
 }
 
 impl Model for Reading {

@@ -6,7 +6,6 @@ use line_words::Octets;
 use nntp_text::MsgId;
 
 /// An article that was judged and accepted, with the text that is stored.
-#[derive(Drop)]
 pub struct Accepted {
     /// The number of its storage class.
     pub class: u8,
@@ -19,6 +18,18 @@ pub struct Accepted {
     ghost has_length: { length text < 2 ^ 32 },
     // What is stored is an article, whatever was received.
     ghost is_article: { ∥ IsArticle text ∥₁ },
+}
+
+// Written out, so that no crate above proves anew how each part is let go.
+impl Drop for Accepted {
+    fn drop(self) {
+        let Accepted {
+            class: _,
+            group: _,
+            permitted: _,
+            text: _,
+        } = self;
+    }
 }
 
 impl Accepted {

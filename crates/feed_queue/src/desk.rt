@@ -23,12 +23,21 @@ use id_history::{KeptFeed, Settled};
 use std::alloc::{AllocError, Global};
 
 /// What is taken of a feed's ring.
-#[derive(Drop)]
 pub struct Taken {
     /// How many tokens were overwritten untaken since the last take.
     pub missed: u64,
     /// The tokens, the oldest first, each with its number in the feed's list, which counts from 1.
     pub items: Vec<(u64, Token)>,
+}
+
+// Written out, so that no crate above proves anew how each part is let go.
+impl Drop for Taken {
+    fn drop(self) {
+        let Taken {
+            missed: _,
+            items: _,
+        } = self;
+    }
 }
 
 /// The counts of a feed, in tokens.
@@ -45,9 +54,15 @@ pub struct Counts {
 }
 
 /// The rings of all feeds, which are numbered from 0 in the order of the configuration.
-#[derive(Drop)]
 pub struct FeedDesk {
     rings: Vec<Ring>,
+}
+
+// Written out, so that no crate above proves anew how each part is let go.
+impl Drop for FeedDesk {
+    fn drop(self) {
+        let FeedDesk { rings: _ } = self;
+    }
 }
 
 impl FeedDesk {

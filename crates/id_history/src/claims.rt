@@ -141,11 +141,20 @@ impl Entry {
 /// What is known of message-ids (docs/PROTOCOL.md, Claims). Sessions go by their numbers, moments
 /// are seconds since 1970-01-01 00:00:00 UTC. The hasher has random keys, since peers choose the
 /// message-ids.
-#[derive(Drop)]
 pub struct Shard {
     entries: HashMap<String, Entry, RandomState>,
     alloc: Global,
     ghost ids: { OnlyIds entries },
+}
+
+// Written out, so that no crate above proves anew how each part is let go.
+impl Drop for Shard {
+    fn drop(self) {
+        let Shard {
+            entries: _,
+            alloc: _,
+        } = self;
+    }
 }
 
 impl Shard {

@@ -39,9 +39,16 @@ impl From<AllocError> for IdError {
 }
 
 /// A message-id (RFC 3977 section 3.6). Two of them are the same where their octets are.
-#[derive(Debug, Drop)]
+#[derive(Debug)]
 pub struct MsgId {
     text: String,
+}
+
+// Written out, so that no crate above proves anew how each part is let go.
+impl Drop for MsgId {
+    fn drop(self) {
+        let MsgId { text: _ } = self;
+    }
 }
 
 impl Model for MsgId {
@@ -101,7 +108,8 @@ impl MsgId {
     pub fn into_string(self) -> String
         ensures { string_bytes result ≡ self }
     {
-        self.text
+        let MsgId { text } = self;
+        text
     }
 }
 

@@ -35,7 +35,6 @@ use stream_cut::Cutter;
 /// A session of a peer (RFC 3977, RFC 4644; docs/PROTOCOL.md, Sessions). It is the same machine for
 /// every command, and touches nothing that is shared: `plan` names one step of that, somebody does
 /// it, and `absorb` is told the answer.
-#[derive(Drop)]
 pub struct Session {
     pub(crate) alloc: Global,
     pub(crate) peer: usize,
@@ -45,6 +44,21 @@ pub struct Session {
     /// The accepted article that isn't pushed yet.
     pub(crate) hand: Option<Job>,
     pub(crate) planned: Plan,
+}
+
+// Written out, so that no crate above proves anew how each part is let go.
+impl Drop for Session {
+    fn drop(self) {
+        let Session {
+            alloc: _,
+            peer: _,
+            cutter: _,
+            offers: _,
+            phase: _,
+            hand: _,
+            planned: _,
+        } = self;
+    }
 }
 
 impl Session {

@@ -16,7 +16,6 @@ use uwild::Expr;
 
 /// The settings of cycbuff.conf. Buffers and groups are numbered from 0, each in the order of their
 /// lines.
-#[derive(Drop)]
 pub struct Buffers {
     pub buffers: Vec<BufferConf>,
     pub groups: Vec<GroupConf>,
@@ -24,6 +23,16 @@ pub struct Buffers {
         (groups_over buffers.items (map group_view groups.items)) } by { AreSound-prop _ _ },
     pub ghost few_buffers: { length buffers.items ≤ 256 },
     pub ghost few_groups: { length groups.items ≤ 256 },
+}
+
+// Written out, so that no crate above proves anew how each part is let go.
+impl Drop for Buffers {
+    fn drop(self) {
+        let Buffers {
+            buffers: _,
+            groups: _,
+        } = self;
+    }
 }
 
 /// An entry of storage.conf: the articles that it takes, their class, and the number of the group
@@ -70,11 +79,21 @@ pub struct Relay {
 }
 
 /// The settings of the three files.
-#[derive(Drop)]
 pub struct Config {
     pub buffers: Buffers,
     pub storage_entries: Vec<StorageEntry>,
     pub relay: Relay,
     pub ghost grouped: { All (λ storage_entry. storage_entry.group < length buffers.groups.items)
         storage_entries.items },
+}
+
+// Written out, so that no crate above proves anew how each part is let go.
+impl Drop for Config {
+    fn drop(self) {
+        let Config {
+            buffers: _,
+            storage_entries: _,
+            relay: _,
+        } = self;
+    }
 }

@@ -54,7 +54,6 @@ pub enum Block {
 /// through for a line or a block isn't looked through again for it, so the work is linear in the
 /// octets; only a line that is cut where a block was awaited makes the next look for a block begin
 /// anew. Where a block is being passed (`is_passing`) no line may be wanted before its end.
-#[derive(Drop)]
 pub struct Cutter {
     alloc: Global,
     /// What was fed. The octets before `start` are cut, or gone.
@@ -68,6 +67,22 @@ pub struct Cutter {
     progress: Progress,
     max_block: usize,
     overlong: bool,
+}
+
+// Written out, so that no crate above proves anew how each part is let go.
+impl Drop for Cutter {
+    fn drop(self) {
+        let Cutter {
+            alloc: _,
+            octets: _,
+            start: _,
+            gone: _,
+            passing: _,
+            progress: _,
+            max_block: _,
+            overlong: _,
+        } = self;
+    }
 }
 
 impl Model for Cutter {

@@ -4,7 +4,9 @@ ghost use Rattle.std.specs.Prelude.{◌≡◌, length, map, IfOk};
 use crate::bench::events::add;
 use crate::bench::loads::{Ids, Load, read};
 use cyc_block::{BlockStore, FailAt, MemoryBlocks};
-use relay_conf::{BufferConf, Buffers, Config, read_cycbuff};
+use relay_conf::{
+    BufferConf, ConfError, Config, K1_RELAY, K1_STORAGE, read_cycbuff, read_relay, read_storage,
+};
 use relay_core::{Event, Output, System};
 use std::alloc::{AllocError, Global};
 use std::io::ErrorKind;
@@ -70,7 +72,7 @@ impl Counts {
 
 /// Has one relay serve the load that each word names, in order.
 pub fn serve_all(rt: &HostRuntime, words: &[String]) -> io::Result<()> {
-    let Some(config) = config(rt.alloc()) else {
+    let Ok(config) = config(rt.alloc()) else {
         return Err(io::Error::from(ErrorKind::InvalidData));
     };
     let Ok(stores) = stores_of(rt.alloc(), &config.buffers.buffers) else {
@@ -183,33 +185,10 @@ fn stores_of(alloc: Global, buffers: &[BufferConf]) -> Result<Vec<FailAt<MemoryB
     Ok(stores)
 }
 
-/// K1, but for its buffers. `None` where memory is refused.
-fn config(alloc: Global) -> Option<Config> {
-    let Ok(k1) = Config::k1(alloc) else {
-        return None;
-    };
-    match read_cycbuff(alloc, CYCBUFF) {
-        Ok(ring) => with_buffers(k1, ring),
-        Err(_) => {
-            drop(k1);
-            None
-        }
-    }
-}
-
-/// A configuration, but for its buffers, in whose place are these; none where they have not as many
-/// groups.
-fn with_buffers(config: Config, ring: Buffers) -> Option<Config> {
-    if ring.groups.len() != config.buffers.groups.len() {
-        drop(ring);
-        drop(config);
-        return None;
-    }
-    let Config {
-        buffers,
-        storage_entries,
-        relay,
-    } = config;
-    drop(buffers);
-    Some(Config::new(ring, storage_entries, relay))
+/// K1, but for its buffers. Its texts have no fault: what fails is memory.
+fn config(alloc: Global) -> Result<Config, ConfError> {
+    let buffers = read_cycbuff(alloc, CYCBUFF)?;
+    let storage_entries = read_storage(alloc, K1_STORAGE, &buffers)?;
+    let relay = read_relay(alloc, K1_RELAY)?;
+    Ok(Config::new(buffers, storage_entries, relay))
 }
