@@ -36,22 +36,13 @@ at year month day hour minute second = record {
   second = second;
 }
 
-pub returns-clause-first : goal.returns-clause-first
+-- Days are counted year by year, so the four moments are shown together: what one counts, the next
+-- doesn't count again.
+pub returns : goal.returns
 unfolding at days_from_civil day_count days_of_years days_of_months
-returns-clause-first c =
-    shown 0 (at 1970 1 1 0 0 0) _ (search rules) (search rules) refl refl
-
-pub returns-clause-new_year : goal.returns-clause-new_year
-unfolding at days_from_civil day_count days_of_years days_of_months
-returns-clause-new_year c =
-    shown 1609459200 (at 2021 1 1 0 0 0) _ (search rules) (search rules) refl refl
-
-pub returns-clause-leap_day : goal.returns-clause-leap_day
-unfolding at days_from_civil day_count days_of_years days_of_months
-returns-clause-leap_day c =
-    shown 1709164800 (at 2024 2 29 0 0 0) _ (search rules) (search rules) refl refl
-
-pub returns-clause-last : goal.returns-clause-last
-unfolding at days_from_civil day_count days_of_years days_of_months
-returns-clause-last c =
-    shown 253370764799 (at 9998 12 31 23 59 59) _ (search rules) (search rules) refl refl
+returns c = record {
+  first = shown 0 (at 1970 1 1 0 0 0) _ (search rules) (search rules) refl refl;
+  new_year = shown 1609459200 (at 2021 1 1 0 0 0) _ (search rules) (search rules) refl refl;
+  leap_day = shown 1709164800 (at 2024 2 29 0 0 0) _ (search rules) (search rules) refl refl;
+  last = shown 253370764799 (at 9998 12 31 23 59 59) _ (search rules) (search rules) refl refl;
+}
