@@ -192,14 +192,6 @@ number_told errors.NoHead number = Some number
 number_told errors.Unclosed number = Some number
 number_told errors.Damaged number = Some number
 
--- the error is that the device failed
-abbrev pub IsOfDevice : StartError → Type 0
-IsOfDevice errors.Memory = ⊥
-IsOfDevice errors.Device = Unit {0}
-IsOfDevice errors.NoHead = ⊥
-IsOfDevice errors.Unclosed = ⊥
-IsOfDevice errors.Damaged = ⊥
-
 -- an honest store of each buffer before this one can be started
 abbrev pub EarlierStart : {S : Type 0} → Ghosts S → List S → (place : ℕ) → Type 0
 EarlierStart {S} g stores place =

@@ -97,12 +97,6 @@ Shows found.Unknown slice (Chunk octets) = ⊥
 Shows found.Unknown slice (Gone front) = ⊥
 Shows found.Unknown slice Unknown = Unit {0}
 
--- what the numbers decide is answered so, without a fault
-abbrev pub IsDecided : Result Found BufError → List ℕ → Option Answer → Type 0
-IsDecided result slice None = Unit {0}
-IsDecided (Ok found) slice (Some answer) = Shows found slice answer
-IsDecided (Err e) slice (Some answer) = ⊥
-
 -- a chunk has no more octets than a block holds
 abbrev pub HasRoom : Found → Type 0
 HasRoom (found.Chunk n) = n ≤ chunk_size
