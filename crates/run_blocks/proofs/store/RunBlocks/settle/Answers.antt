@@ -1,5 +1,6 @@
 -- Where the run isn't written its last block is taken back.
-use Rattle.std.proofs.Common.{◌∙◌, ◌+◌, ℕ, sym, ap, subst}
+use Rattle.std.proofs.Common.{◌∙◌, ◌+◌, ℕ, sym, ap, subst, arith}
+use Rattle.std.proofs.lemmas.Bool.{le-leb}
 use Rattle.cyc_block.specs.Store.{ChangesOnly}
 use Rattle.file_blocks.specs.Blocks.{blocks_of}
 use Rattle.run_blocks.specs.Overlay.{overlaid}
@@ -34,3 +35,7 @@ pub returns-in-Err-clause-file : goal.returns-in-Err-clause-file
 returns-in-Err-clause-file g c =
     let asks = c.in-Err.ensures.file in
     record { calls = asks.calls; failed = asks.failed; no_failure = asks.no_failure }
+
+pub returns-in-Err-clause-aside : goal.returns-in-Err-clause-aside
+returns-in-Err-clause-aside g c = λ j held.
+    le-leb 1 c.give_back.new.self.count (omega (arith, held.0, held.1))
