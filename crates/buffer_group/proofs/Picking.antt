@@ -1,9 +1,9 @@
 -- What a group picks, by what its code keeps.
-use Rattle.std.proofs.Common.{◌≡◌, ◌∙◌, ℕ, ◌+◌, ◌≤◌, nat_le, List, [], ◌∷◌, ◌++◌, length, get_or}
-use Rattle.std.proofs.Common.{slice_get, Option, None, Some, refl, sym, ap, arith, true, false}
-use Rattle.std.proofs.Common.{true≢false, ◌⊎◌, inl, inr}
+use Rattle.std.proofs.Common.{◌≡◌, ◌∙◌, ℕ, ◌+◌, ◌≤◌, ◌<◌, nat_le, List, [], ◌∷◌, ◌++◌, length}
+use Rattle.std.proofs.Common.{get_or, slice_get, Option, None, Some, refl, sym, ap, arith, true}
+use Rattle.std.proofs.Common.{false, true≢false, ◌⊎◌, inl, inr}
 use Rattle.std.specs.Prelude.{option_map, unwrap_or}
-use Rattle.std.proofs.lemmas.Bool.{cases_Bool, cond-true, cond-false, leb-true}
+use Rattle.std.proofs.lemmas.Bool.{cases_Bool, cond-true, cond-false, leb-true, le-leb, lt-leb}
 use Rattle.std.proofs.Math.Nat.{zero-mod}
 use Rattle.std.proofs.lemmas.List.{length-map}
 use Rattle.std.proofs.lemmas.Option.{slice_get-map, unwrap_or-slice_get}
@@ -16,6 +16,7 @@ use Rattle.news_terms.specs.Picks.{pick_of}
 use Rattle.news_terms.specs.Places as places
 use Rattle.news_terms.specs.Places.{blocks_of}
 use Rattle.news_terms.specs.Positions.{position_by, position_of, pick_at, position_past}
+use Rattle.news_terms.specs.Positions.{index_after}
 
 -- there are as many buffers
 pub same_count : (code : Group) (group : places.Group) (begun : List ℕ)
@@ -51,6 +52,63 @@ room_here code group begun i keeps =
     ∙ unwrap_or-slice_get (blocks_in group.buffers) i 0
     ∙ ap (λ bs. get_or bs i 0) (sym keeps.blocks)
 
+-- Sequential: what is picked, by what the code keeps
+picked_in_run : (code : Group) (group : places.Group) (begun : List ℕ) (size : ℕ)
+    → KeepsPlaces code group begun → code.mode ≡ modes.Sequential
+    → pick_of group begun size ≡ pick_at group.mode group.buffers (position_of group begun) size
+    → pick_of group begun size
+    ≡ pick_at places.Sequential group.buffers (position_view code) size
+picked_in_run code group begun size keeps sequential law =
+    pick_here code group begun size keeps law
+    ∙ ap (λ m. pick_at (mode_view m) group.buffers (position_view code) size) sequential
+
+-- a group has some buffer
+some_buffer : (code : Group) (group : places.Group) (begun : List ℕ)
+    → KeepsPlaces code group begun → 0 < length group.buffers
+some_buffer code group begun keeps =
+    let inside : code.position < length code.blocks.items = code.within in
+    omega (arith, inside, same_count code group begun keeps)
+
+-- how many blocks the current buffer has
+room_told : (code : Group) (group : places.Group) (begun : List ℕ) (room : ℕ)
+    → KeepsPlaces code group begun → slice_get code.blocks.items code.position ≡ Some room
+    → blocks_of (slice_get group.buffers code.position) ≡ room
+room_told code group begun room keeps there =
+    room_here code group begun code.position keeps
+    ∙ sym (unwrap_or-slice_get code.blocks.items code.position 0)
+    ∙ ap (λ o. unwrap_or o 0) there
+
+-- Sequential: an article that fits the current run goes on in it
+pub fits_here : (code : Group) (group : places.Group) (begun : List ℕ) (size room : ℕ)
+    → KeepsPlaces code group begun → code.mode ≡ modes.Sequential
+    → (0 < length group.buffers → pick_of group begun size
+    ≡ pick_at group.mode group.buffers (position_of group begun) size)
+    → slice_get code.blocks.items code.position ≡ Some room → code.used + size ≤ room
+    → record { index = code.position; fresh = false } ≡ pick_of group begun size
+fits_here code group begun size room keeps sequential law there fits =
+    let here = room_told code group begun room keeps there in
+    let blocks : ℕ = blocks_of (slice_get group.buffers code.position) in
+    sym (picked_in_run code group begun size keeps sequential
+    (law (some_buffer code group begun keeps))
+    ∙ cond-true _ _ _ (le-leb (code.used + size) blocks (omega (arith, fits, here))))
+
+-- Sequential: one that doesn't fit goes to the front of the next buffer's
+pub goes_on : (code : Group) (group : places.Group) (begun : List ℕ) (size room : ℕ)
+    → KeepsPlaces code group begun → code.mode ≡ modes.Sequential
+    → (0 < length group.buffers → pick_of group begun size
+    ≡ pick_at group.mode group.buffers (position_of group begun) size)
+    → slice_get code.blocks.items code.position ≡ Some room → room < code.used + size
+    → record { index = index_after (length code.blocks.items) code.position; fresh = true }
+    ≡ pick_of group begun size
+goes_on code group begun size room keeps sequential law there full =
+    let here = room_told code group begun room keeps there in
+    let blocks : ℕ = blocks_of (slice_get group.buffers code.position) in
+    ap (λ n. record { index = index_after n code.position; fresh = true })
+    (same_count code group begun keeps)
+    ∙ sym (picked_in_run code group begun size keeps sequential
+    (law (some_buffer code group begun keeps))
+    ∙ cond-false _ _ _ (lt-leb (code.used + size) blocks (omega (arith, full, here))))
+
 -- Sequential, where the pick isn't fresh: the article fits the current run, and the position stays
 -- in it
 pub stays_here : (code : Group) (group : places.Group) (begun : List ℕ) (size : ℕ)
@@ -69,9 +127,7 @@ stays_here code group begun size keeps sequential law moves plain =
   where
     picked : pick_of group begun size
         ≡ pick_at places.Sequential group.buffers (position_view code) size
-    picked =
-        pick_here code group begun size keeps law
-        ∙ ap (λ m. pick_at (mode_view m) group.buffers (position_view code) size) sequential
+    picked = picked_in_run code group begun size keeps sequential law
 
     by_test : (nat_le (code.used + size) (blocks_of (slice_get group.buffers code.position)) ≡ true)
         ⊎ (nat_le (code.used + size) (blocks_of (slice_get group.buffers code.position)) ≡ false)
