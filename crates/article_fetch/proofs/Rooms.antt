@@ -80,10 +80,10 @@ lengths_other : (names : List (List ℕ)) (name : List ℕ) (f : Field) (fields 
 lengths_other [] name f fields h none = refl
 lengths_other (other ∷ names) name f fields h none = ⊎_elim
     (λ t. absurd (both_ways _ none.0 (same_name f.name name other h t)))
-    (λ o. cc (
-      ap (λ (x : Option (List ℕ)). length (unwrap_or x [])) (first_other other f fields o),
-      lengths_other names name f fields h none.1,
-    ))
+    (λ o. ap (λ (x : Option (List ℕ)). length (unwrap_or x []) + lengths names (f ∷ fields))
+    (first_other other f fields o)
+    ∙ ap (λ rest. length (content_or_empty other fields) + rest)
+    (lengths_other names name f fields h none.1))
     (cases_Bool (str_eq_ignore_ascii_case f.name other))
 
 -- a field adds its content at most once

@@ -3,6 +3,7 @@ use Rattle.std.proofs.Math.Seq.{drop-append_seam}
 use Rattle.news_terms.specs.Article.{Article, IsLaidOut}
 use Rattle.news_terms.specs.Overview.{overview_line}
 use Rattle.news_terms.specs.Reply.{DeviceFault, OverviewFollows, line_of}
+use Rattle.article_fetch.proofs.Lines.{ok_no_err}
 use Rattle.article_fetch.proofs.Overviews.{line_said, no_article_in, rest_fits, some_line}
 use Rattle.article_fetch.proofs.shown.overview_reply.Goals as goal
 
@@ -24,7 +25,7 @@ put_octets-requires-in-Ok c =
       put.capacity,
     ))
     put.line
-    (λ none. let e = put.no_article.1 none in absurd (cc)) in
+    (λ none. ok_no_err _ _ (put.no_article.1 none)) in
     omega (arith, fits, after.ok)
 
 pub returns-in-Ok-clause-given : goal.returns-in-Ok-clause-given
@@ -34,7 +35,7 @@ returns-in-Ok-clause-given c =
     let put = c.in-Ok.ensures in
     let line = drop (length front) after in
     let some : ((a : Article) → IsLaidOut c.args.text.now a → ⊥) → ⊥ =
-    λ none. let e = put.no_article.1 none in absurd (cc) in (
+    λ none. ok_no_err _ _ (put.no_article.1 none) in (
       OverviewFollows line,
       inr (
         line,
