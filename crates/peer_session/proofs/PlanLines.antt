@@ -1,7 +1,7 @@
 -- What is due of a session that reads a command, by the line at the front of its unread octets.
 use Rattle.std.proofs.Common.{arith, ◌≡◌, ◌∙◌, ◌+◌, nat_lt, true, false, ap, refl, sym, subst}
-use Rattle.std.proofs.Common.{inr, take, drop, ℕ}
-use Rattle.std.proofs.Common.{List, Option, Result, Ok}
+use Rattle.std.proofs.Common.{inr, take, drop, ℕ, if◌then◌else◌}
+use Rattle.std.proofs.Common.{Bool, List, Option, Result, Ok}
 use Rattle.std.proofs.lemmas.Bool.{ltb-true, ltb-false}
 use Rattle.cyc_token.specs.Token.{token_view}
 use Rattle.news_terms.specs.Command.{Command, CommandFault, command_of}
@@ -18,7 +18,7 @@ use Rattle.relay_model.specs.Terms.{Terms}
 use Rattle.stream_cut.specs.Stream.{Stream, ShowsLine}
 use Rattle.peer_session.specs.Answers.{AsksOf}
 use Rattle.peer_session.specs.Asking.{AskedFor, IsAskedBy, IsFetching, IsLeaving, IsLooking}
-use Rattle.peer_session.specs.Asking.{IsSaying, IsNone, IsToken}
+use Rattle.peer_session.specs.Asking.{IsFull, IsNone, IsOffered, IsOffering, IsSaying, IsToken}
 use Rattle.peer_session.specs.Planning.{PlanFor, Plans}
 use Rattle.peer_session.specs.Session.{HasAll, HasReadNone, gathered_of, passed, phase_view}
 use Rattle.peer_session.specs.Session.{session_view}
@@ -48,12 +48,13 @@ ready_passed read session ready =
 -- a line that is answered by this reply and nothing more
 pub said_asked : (w : Terms) (now : ℕ) (session : Session)
     (asked : Result Command CommandFault) (reply : Reply) (one : Todo × Step)
-    → ((m : model.Session) → IsDueOfLine w m now asked (due_as (asks.Says reply) m))
+    → ((read : ℕ) → IsDueOfLine w (passed read session) now asked
+    (due_as (asks.Says reply) (passed read session)))
     → IsSaying reply one → IsAskedBy w now session asked one
 said_asked w now session asked reply one due saying read ready =
     subst (AskedFor w now read session asked) (sym saying.is) (record {
       due = due_as (asks.Says reply) (passed read session);
-      is_due = due (passed read session);
+      is_due = due read;
       due_is = (
         reply,
         saying.said,
@@ -103,6 +104,45 @@ look_asked_so w now session part id one looking read ready =
       due_is = refl;
       fits = ready;
       is_step = (part_view part, refl);
+      asks_of = tt;
+    })
+
+-- what is due of an id that is offered, by whether a further offer may be opened
+abbrev by_full : model.Transfer → List ℕ → model.Session → (full : Bool) → Due
+by_full transfer id m full =
+    due_as (if full then asks.Says (asks.later transfer id) else asks.Offers transfer id) m
+
+-- CHECK
+pub check_asked_so : (w : Terms) (now : ℕ) (session : Session) (id : List ℕ) (one : Todo × Step)
+    → IsOffering session.offers model.TakesThis id one
+    → IsAskedBy w now session (Ok (commands.Check id)) one
+check_asked_so w now session id one (IsFull full saying) read ready =
+    said_asked w now session (Ok (commands.Check id)) (asks.later model.TakesThis id) one
+    (λ read. ap (by_full model.TakesThis id (passed read session)) (sym full)) saying read ready
+check_asked_so w now session id one (IsOffered free is) read ready =
+    subst (AskedFor w now read session (Ok (commands.Check id))) (sym is) (record {
+      due = due_as (asks.Offers model.TakesThis id) (passed read session);
+      is_due = ap (by_full model.TakesThis id (passed read session)) (sym free);
+      due_is = (free, refl);
+      fits = ready;
+      is_step = (model.TakesThis, refl);
+      asks_of = tt;
+    })
+
+-- IHAVE
+pub ihave_asked_so : (w : Terms) (now : ℕ) (session : Session) (id : List ℕ) (one : Todo × Step)
+    → IsOffering session.offers model.Has id one
+    → IsAskedBy w now session (Ok (commands.Ihave id)) one
+ihave_asked_so w now session id one (IsFull full saying) read ready =
+    said_asked w now session (Ok (commands.Ihave id)) (asks.later model.Has id) one
+    (λ read. ap (by_full model.Has id (passed read session)) (sym full)) saying read ready
+ihave_asked_so w now session id one (IsOffered free is) read ready =
+    subst (AskedFor w now read session (Ok (commands.Ihave id))) (sym is) (record {
+      due = due_as (asks.Offers model.Has id) (passed read session);
+      is_due = ap (by_full model.Has id (passed read session)) (sym free);
+      due_is = (free, refl, refl);
+      fits = ready;
+      is_step = (model.Has, refl);
       asks_of = tt;
     })
 

@@ -1,6 +1,6 @@
 -- What the parts of a plan are. No public contract cites it.
-use Rattle.std.specs.Prelude.{◌≡◌, ℕ, ◌+◌, List, [], ◌∷◌, drop, true}
-use Rattle.std.specs.Prelude.{Option, None, Some, Result, Ok, Err}
+use Rattle.std.specs.Prelude.{◌≡◌, ℕ, ◌+◌, List, [], ◌∷◌, drop, true, false}
+use Rattle.std.specs.Prelude.{Option, None, Some, Result, Ok, Err, vec_capacity}
 use Rattle.std.specs.Global.{Vec}
 use Rattle.article_fetch.specs.Fetch.{Fetch, prepared_fetch}
 use Rattle.buffer_group.specs.Jobs.{article_view}
@@ -12,8 +12,9 @@ use Rattle.news_terms.specs.Blocks.{next_block}
 use Rattle.news_terms.specs.Blocks as blocks
 use Rattle.news_terms.specs.Command.{Command, CommandFault}
 use Rattle.news_terms.specs.Reply.{Reply, SyntaxError}
+use Rattle.nntp_text.specs.Reply.{reply_room}
 use Rattle.nntp_text.specs.declared.command.Part.{Part}
-use Rattle.relay_model.specs.Asks.{Due, IsDueOfLine, TokenAsked}
+use Rattle.relay_model.specs.Asks.{Due, IsDueOfLine, TokenAsked, is_full}
 use Rattle.relay_model.specs.Asks as asks
 use Rattle.relay_model.specs.Judging.{Judges}
 use Rattle.relay_model.specs.State as model
@@ -48,17 +49,32 @@ abbrev pub IsAskedBy : Terms → ℕ → Session → Result Command CommandFault
 IsAskedBy w now session asked one =
     (read : ℕ) → session.phase ≡ phases.Ready → AskedFor w now read session asked one
 
--- this is said, and nothing is shared
+-- this is said, in room that shows no items, and nothing is shared
 pub record IsSaying (reply : Reply) (one : Todo × Step) : Type 0 where
   pub octets : Vec ℕ
   pub said : IsReply octets.items reply
+  pub room : vec_capacity octets ≡ reply_room
   pub is : one ≡ (todos.Say octets, steps.Nothing)
 
--- this is said, and the session leaves
+-- this is said, in room that shows no items, and the session leaves
 pub record IsLeaving (reply : Reply) (one : Todo × Step) : Type 0 where
   pub octets : Vec ℕ
   pub said : IsReply octets.items reply
+  pub room : vec_capacity octets ≡ reply_room
   pub is : one ≡ (todos.Leave octets, steps.Nothing)
+
+-- what is planned where an id is offered; the reply has room for no items
+abbrev pub offer_planned : model.Transfer → List ℕ → Todo
+offer_planned model.TakesThis id = todos.Check id 0
+offer_planned model.Has id = todos.Ihave id id 0
+
+-- the id is offered, where these offers are open; where no further one may be opened, that is said
+pub data IsOffering (offers : List (List ℕ)) (transfer : model.Transfer) (id : List ℕ)
+    (one : Todo × Step) : Type 0 where
+  IsFull : is_full offers id ≡ true → IsSaying (asks.later transfer id) one
+      → IsOffering offers transfer id one
+  IsOffered : is_full offers id ≡ false → one ≡ (offer_planned transfer id, steps.Offer id)
+      → IsOffering offers transfer id one
 
 -- the id is looked up for this part, and the reply has room for no items
 abbrev pub IsLooking : Part → List ℕ → Todo × Step → Type 0

@@ -13,9 +13,10 @@ ghost use Rattle.relay_model.specs.Asks.{feed_of, is_full, without_offer};
 ghost use Rattle.relay_model.specs.Hears.{offer_heard, says};
 ghost use Rattle.relay_model.specs.State as model;
 ghost use Rattle.relay_model.specs.State.{with_offers};
-ghost use Rattle.relay_model.specs.Terms.{FeedTerms, Terms, last_moment};
+ghost use Rattle.relay_model.specs.Terms.{FeedTerms, last_moment};
 ghost use Rattle.stream_cut.specs.Stream.{ShowsLine};
-ghost use Rattle.peer_session.specs.Asking.{IsAskedBy, IsFetching, IsLeaving, IsLooking, IsSaying};
+ghost use Rattle.peer_session.specs.Asking.{IsAskedBy, IsFetching, IsLeaving, IsLooking};
+ghost use Rattle.peer_session.specs.Asking.{IsOffering, IsSaying};
 ghost use Rattle.peer_session.specs.Hearing.{HeardIs};
 ghost use Rattle.peer_session.specs.Planning.{Plans};
 ghost use Rattle.peer_session.specs.Session.{StandsAsBefore, passed, session_view};
@@ -233,8 +234,7 @@ pub(crate) fn room_and_copy(alloc: Global, id: &MsgId) -> Result<(Room, MsgId), 
 
 /// CHECK of an id, where these offers are open.
 fn check_asked(alloc: Global, offers: &OpenOffers, id: MsgId) -> Result<(Todo, Step), AllocError>
-    ensures { IfOk result (λ one. (w : Terms) (now : ℕ) (session : Session)
-        → session.offers ≡ offers.now → IsAskedBy w now session (Ok (commands.Check id)) one) }
+    ensures { IfOk result (IsOffering offers.now model.TakesThis id) }
 {
     if offers.is_full(&id) {
         return said(alloc, &Reply::AskLater(&id));
@@ -245,8 +245,7 @@ fn check_asked(alloc: Global, offers: &OpenOffers, id: MsgId) -> Result<(Todo, S
 
 /// IHAVE of an id, where these offers are open.
 fn ihave_asked(alloc: Global, offers: &OpenOffers, id: MsgId) -> Result<(Todo, Step), AllocError>
-    ensures { IfOk result (λ one. (w : Terms) (now : ℕ) (session : Session)
-        → session.offers ≡ offers.now → IsAskedBy w now session (Ok (commands.Ihave id)) one) }
+    ensures { IfOk result (IsOffering offers.now model.Has id) }
 {
     if offers.is_full(&id) {
         return said(alloc, &Reply::IhaveLater);

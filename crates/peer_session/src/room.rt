@@ -1,5 +1,5 @@
 //! Room for a reply, which is taken before it is known what the reply says.
-ghost use Rattle.std.specs.Prelude.{◌≡◌, ◌≤◌, length, map, IfOk};
+ghost use Rattle.std.specs.Prelude.{◌≡◌, ◌+◌, ◌*◌, ◌≤◌, length, map, vec_capacity, IfOk};
 ghost use Rattle.news_terms.specs.Reply.{QueueFollows, reply_text};
 ghost use Rattle.nntp_text.specs.Reply.{item_view, reply_room, reply_view, room_of};
 ghost use Rattle.peer_session.specs.Said.{IsReply};
@@ -41,7 +41,8 @@ impl Room {
     /// The octets of a reply that shows no article and no queue.
     pub(crate) fn say(self, reply: &Reply) -> Vec<u8>
         requires { room_of reply.now ≡ reply_room }
-        ensures { IsReply result.items (reply_view reply.now) }
+        ensures octets { IsReply result.items (reply_view reply.now) }
+        ensures room { vec_capacity result ≡ reply_room + 53 * self }
     {
         let mut octets = self.octets;
         put_reply(&mut octets, reply);

@@ -5,7 +5,8 @@ use Rattle.nntp_text.specs.Command.{command_view}
 use Rattle.article_verdict.specs.Config.{terms_of}
 use Rattle.peer_session.specs.Asking.{IsAskedBy}
 use Rattle.peer_session.proofs.PlanCommon.{if_ok}
-use Rattle.peer_session.proofs.PlanLines.{fetch_asked, left_asked, look_asked_so, said_asked}
+use Rattle.peer_session.proofs.PlanLines.{check_asked_so, fetch_asked, ihave_asked_so, left_asked}
+use Rattle.peer_session.proofs.PlanLines.{look_asked_so, said_asked}
 use Rattle.peer_session.proofs.session.Session.asked.Goals as goal
 
 pub returns-in-Fetch : goal.returns-in-Fetch
@@ -86,17 +87,19 @@ returns-in-ModeReader c =
 
 pub returns-in-Check : goal.returns-in-Check
 returns-in-Check c =
-    if_ok _ _ c.check_asked.result (λ one asked.
+    if_ok _ _ c.check_asked.result (λ one offering.
     subst (λ command. IsAskedBy (terms_of c.args.config.now) c.args.now c.args.self.now
     (Ok (command_view command)) one) (sym c.in-Check.is)
-    (asked (terms_of c.args.config.now) c.args.now c.args.self.now refl)) c.check_asked.ensures
+    (check_asked_so (terms_of c.args.config.now) c.args.now c.args.self.now c.in-Check.id one
+    offering)) c.check_asked.ensures
 
 pub returns-in-Ihave : goal.returns-in-Ihave
 returns-in-Ihave c =
-    if_ok _ _ c.ihave_asked.result (λ one asked.
+    if_ok _ _ c.ihave_asked.result (λ one offering.
     subst (λ command. IsAskedBy (terms_of c.args.config.now) c.args.now c.args.self.now
     (Ok (command_view command)) one) (sym c.in-Ihave.is)
-    (asked (terms_of c.args.config.now) c.args.now c.args.self.now refl)) c.ihave_asked.ensures
+    (ihave_asked_so (terms_of c.args.config.now) c.args.now c.args.self.now c.in-Ihave.id one
+    offering)) c.ihave_asked.ensures
 
 pub returns-in-TakeQueue : goal.returns-in-TakeQueue
 returns-in-TakeQueue c =
