@@ -2,6 +2,9 @@
 use Rattle.std.proofs.Common.{◌≡◌, ◌∙◌, ℕ, ◌+◌, ◌*◌, ◌<◌, ◌≤◌, refl, sym, ap, subst, arith}
 use Rattle.std.proofs.Common.{Bool, true, false, true≢false, not, nat_lt, nat_le, ◌==◌, ◌||◌}
 use Rattle.std.proofs.Common.{List, take, None, Some, Ok, Result}
+use Rattle.std.specs.Global.{Vec}
+use Rattle.std.specs.Prelude.{Err, IsErr}
+use Rattle.std.specs.Result.{IsErrAnd}
 use Rattle.std.proofs.lemmas.Bool.{cond-false, eq-eqb, ne_eqb, le-ltb, lt-leb}
 use Rattle.std.proofs.Math.Logic.{∥∥₁_elim}
 use Rattle.article_parse.specs.Faults.{IsFaultOf}
@@ -22,7 +25,7 @@ use Rattle.cyc_buffer.specs.Answers as answers
 use Rattle.cyc_buffer.specs.Calls.{ReadsBlock}
 use Rattle.cyc_buffer.specs.History.{History, front_of, text_under}
 use Rattle.cyc_buffer.specs.Head.{stop_of}
-use Rattle.cyc_buffer.specs.Reads.{StaysHeld}
+use Rattle.cyc_buffer.specs.Reads.{IsBlamed, StaysHeld}
 use Rattle.cyc_buffer.specs.BufferState.{Keeps}
 use Rattle.cyc_buffer.specs.Stopped.{IsLiveToken}
 use Rattle.cyc_buffer.specs.declared.answers.BufError.{BufError}
@@ -35,10 +38,12 @@ use Rattle.cyc_buffer.specs.declared.buffer.Buffer.{Buffer}
 use Rattle.cyc_buffer.specs.declared.buffer_state.BufferState.{BufferState}
 use Rattle.cyc_buffer.proofs.Finished.{lies}
 use Rattle.cyc_buffer.proofs.Reading.{is_under}
-use Rattle.cyc_buffer.proofs.Refusals.{held_on}
+use Rattle.cyc_buffer.proofs.Refusals.{blamed_on, held_on}
 use Rattle.cyc_token.specs.Token.{token_view}
 use Rattle.cyc_token.specs.declared.Token as codes
-use Rattle.live_store.specs.Started.{IsMerelyRead, IsNoArticle, IsToldAs, IsUnentered}
+use Rattle.boxcar.specs.Table.{Shelves}
+use Rattle.live_store.specs.Started.{EntersArticle, IsMerelyRead, IsNoArticle, IsToldAs}
+use Rattle.live_store.specs.Started.{IsUnentered, ReadsArticles, ReadsText}
 use Rattle.live_store.proofs.OpenLemmas.{no_prop}
 
 neither : (a b : Bool) → a ≡ false → b ≡ false → a || b ≡ false
@@ -190,3 +195,96 @@ unentered_by A B errors.Device f is = tt
 unentered_by A B errors.NoHead f is = is
 unentered_by A B errors.Unclosed f is = is
 unentered_by A B errors.Damaged f is = λ b. is (f b)
+
+-- a refusal that is passed on is what it was
+pub refused_as : {A : Type 0} (P : Result A StartError → Type 0) (r : Result A StartError)
+    (e : StartError)
+    → IsErr r × IsErrAnd r (λ made. made ≡ e) → P (Err e) → P r
+refused_as P (Ok x) e told is = absurd told.1
+refused_as P (Err made) e told is = subst (λ x. P (Err x)) (sym told.1) is
+
+no_article_unentered : (text : List ℕ) (e : StartError) → IsNoArticle text e → IsUnentered ⊥ e
+no_article_unentered text errors.Memory none = tt
+no_article_unentered text errors.Device none = tt
+no_article_unentered text errors.NoHead none = none
+no_article_unentered text errors.Unclosed none = none
+no_article_unentered text errors.Damaged none = λ never. never
+
+no_article_blamed : {S : Type 0} (g : Ghosts S) (old new : S) (text : List ℕ) (e : StartError)
+    → g.failures new ≡ g.failures old → IsNoArticle text e → IsBlamed g old new e
+no_article_blamed g old new text errors.Memory same none = same
+no_article_blamed g old new text errors.Device same none = absurd none
+no_article_blamed g old new text errors.NoHead same none = same
+no_article_blamed g old new text errors.Unclosed same none = same
+no_article_blamed g old new text errors.Damaged same none = same
+
+module _ {S : Type 0} {g : Ghosts S} where
+  -- a reading of articles that is refused
+  pub refused_reads : {A : Type 0} (a b : Buffer S g) (e : StartError) → IsMerelyRead a b
+      → IsUnentered ⊥ e → IsBlamed g (store_of a) (store_of b) e
+      → ReadsArticles {A = A} a b (Err e)
+  refused_reads a b e read fault failed = record {
+    read = read;
+    fault = fault;
+    failed = failed;
+    no_failure = tt;
+  }
+
+  -- what the reading of one is refused for, so is that of all
+  pub refused_after : {A B : Type 0} (a b c : Buffer S g) (e : StartError) → IsMerelyRead a b
+      → g.failures (store_of b) ≡ g.failures (store_of a) → ReadsArticles {A = B} b c (Err e)
+      → ReadsArticles {A = A} a c (Err e)
+  refused_after a b c e before same reads =
+      refused_reads a c e (merely_next a b c before reads.read) reads.fault
+      (blamed_on g (store_of a) (store_of b) (store_of c) e same reads.failed)
+
+  -- a text that isn't read
+  pub refused_text : (a b : Buffer S g) (token : codes.Token) (e : StartError)
+      → ((h : History) → Agrees true a h → IsLiveToken h (token_view token)
+      → IsUnentered (Unit {0}) e)
+      → ReadsArticles {A = Vec ℕ} a b (Err e) → ReadsText a b token (Err e)
+  refused_text a b token e refused reads = record {
+    text = tt;
+    refused = refused;
+    reads = reads;
+  }
+
+  -- no record is entered where the text isn't read
+  pub unread_article : (register : Shelves) (a b : Buffer S g) (token : codes.Token)
+      (e : StartError)
+      → ReadsText a b token (Err e) → EntersArticle register a b token (Err e)
+  unread_article register a b token e unread = record {
+    shown = tt;
+    named = tt;
+    text = tt;
+    refused = λ h agrees live. unentered_by (Unit {0}) ∥ IsArticle live.article.text ∥₁ e (λ _. tt)
+        (unread.refused h agrees live);
+    reads = refused_reads a b e unread.reads.read unread.reads.fault unread.reads.failed;
+  }
+
+  -- nor where it is no article
+  pub unjudged_article : (register : Shelves) (a b : Buffer S g) (token : codes.Token)
+      (text : Vec ℕ) (e : StartError)
+      → ReadsText a b token (Ok text) → IsNoArticle text.items e
+      → EntersArticle register a b token (Err e)
+  unjudged_article register a b token text e read none = record {
+    shown = tt;
+    named = tt;
+    text = tt;
+    refused = λ h agrees live. article_unentered text.items live.article.text e
+        (read.text h agrees live) none;
+    reads = refused_reads a b e read.reads.read (no_article_unentered text.items e none)
+        (no_article_blamed g (store_of a) (store_of b) text.items e read.reads.no_failure none);
+  }
+
+  -- nor where memory is refused for it
+  pub unentered_article : (register : Shelves) (a b : Buffer S g) (token : codes.Token)
+      (text : Vec ℕ)
+      → ReadsText a b token (Ok text) → EntersArticle register a b token (Err errors.Memory)
+  unentered_article register a b token text read = record {
+    shown = tt;
+    named = tt;
+    text = tt;
+    refused = λ h agrees live. tt;
+    reads = refused_reads a b errors.Memory read.reads.read tt read.reads.no_failure;
+  }

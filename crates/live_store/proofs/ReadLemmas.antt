@@ -1,6 +1,7 @@
 -- What a read under the lock finds.
 use Rattle.std.proofs.Common.{◌≡◌, ◌∙◌, ℕ, ◌+◌, ◌<◌, ◌≤◌, inl, inr, refl, sym, ap, subst, arith}
-use Rattle.std.specs.Prelude.{IsSomeAnd}
+use Rattle.std.specs.Option.{ForSome}
+use Rattle.std.specs.Prelude.{IfSome, IsSomeAnd}
 use Rattle.std.proofs.Common.{Bool, true, false, not, cond, nat_lt, nat_le, ◌==◌, ◌||◌, List}
 use Rattle.std.proofs.Common.{length, take}
 use Rattle.std.proofs.Common.{Option, None, Some, Ok}
@@ -34,8 +35,11 @@ use Rattle.cyc_buffer.proofs.Places.{chosen}
 use Rattle.cyc_buffer.proofs.Reading.{under}
 use Rattle.live_store.specs.declared.open_write.OpenWrite.{OpenWrite}
 use Rattle.live_store.specs.declared.writing.entering.Record.{Record}
-use Rattle.live_store.specs.Tied.{Tied, IsKnown, HasRecord, IsFirstAt, number_at, token_in, text_in}
-use Rattle.live_store.specs.Steps.{IsChunkOf, IsGoneBy, IsReadFault}
+use Rattle.live_store.specs.Tied.{Tied, IsKnown, HasRecord, IsFirstAt, IsSameRecord, number_at}
+use Rattle.live_store.specs.Tied.{token_in, text_in}
+use Rattle.live_store.specs.Steps.{IsChunkOf, IsGoneBy, IsReadFault, IsReading, IsRecordAfter}
+use Rattle.live_store.specs.declared.answers.Reading.{Reading}
+use Rattle.live_store.specs.declared.answers.Reading.TheVariants as readings
 use Rattle.live_store.proofs.OpenLemmas.{device_fault_is, no_prop}
 
 -- what is known where a chunk is shown
@@ -204,3 +208,30 @@ pub read_fails : {S : Type 0} {g : Ghosts S} (old : Buffer S g) (token : codes.T
 read_fails old token e f unread is =
     device_fault_is (place_of old) kinds.Read token.length e f unread.fault is
     ∙ ap (λ n. record { kind = kinds.Read; buffer = n; length = token.length }) (sym unread.number)
+
+-- a chunk of a record is one of the reads whose record that is
+pub chunk_of_own : (register : Shelves) (token : Token) (k n : ℕ) (slice : List ℕ)
+    (reading : Reading) (shown : Where Record) (own : Option (Where Record))
+    → reading ≡ readings.Chunk n shown → IsReading register token k slice reading
+    → IsSomeAnd own (IsSameRecord shown) → ForSome own (λ w. Shows register w)
+    → IsSomeAnd own (IsChunkOf register token k (take n slice))
+chunk_of_own register token k n slice reading shown None is reads same here = absurd same
+chunk_of_own register token k n slice reading shown (Some w) is reads same here =
+    let chunk_is = subst (IsReading register token k slice) is reads in record {
+      shows = here w refl;
+      named = ap (λ (r : Record). token_view r.token.value) (sym same.1) ∙ chunk_is.named;
+      length = ap (λ (r : Record). length r.text.value.items) (sym same.1) ∙ chunk_is.length;
+      inside = chunk_is.inside;
+      chunk = chunk_is.chunk ∙ ap (λ (r : Record). chunk k r.text.value.items) same.1;
+    }
+
+-- reads that have a record still have it
+pub still_own : (own : Option (Where Record)) → IfSome own (λ w. own ≡ Some w)
+still_own None = tt
+still_own (Some w) = refl
+
+-- with a chunk there is a record
+pub record_after : (n : ℕ) (old new : Option (Where Record)) (shown : Where Record)
+    → IsSomeAnd new (IsSameRecord shown) → IsRecordAfter (Ok (found.Chunk n)) old new
+record_after n old None shown same = absurd same
+record_after n old (Some w) shown same = refl

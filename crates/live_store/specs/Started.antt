@@ -1,6 +1,7 @@
 -- What a stop and a start have to do with the register (docs/PROTOCOL.md, Clean stop and start).
 use Rattle.std.specs.Prelude.{◌≡◌, ℕ, ◌<◌, Bool, true, List, length, slice_index_or, Option, None}
-use Rattle.std.specs.Prelude.{◌⊎◌, Some, IsSomeAnd}
+use Rattle.std.specs.Prelude.{◌⊎◌, Some, IsSomeAnd, Result, IfErr, IfOk, OnOk, Vec}
+use Rattle.std.specs.declared.alloc.Global.{Global}
 use Rattle.article_parse.specs.declared.faults.ArtError.{ArtError}
 use Rattle.article_parse.specs.declared.faults.ArtError.TheVariants as faults
 use Rattle.boxcar.specs.Table.{Shelves, Where, Shows}
@@ -8,18 +9,20 @@ use Rattle.cyc_block.specs.declared.store.BlockStore.{Ghosts}
 use Rattle.cyc_buffer.specs.Agreement.{Agrees, Follows, buffer_state_of, store_of}
 use Rattle.cyc_buffer.specs.Head.{has_open_head, stop_of}
 use Rattle.cyc_buffer.specs.History.{History, Article, finished_at, front_of}
-use Rattle.cyc_buffer.specs.Reads.{StaysHeld}
+use Rattle.cyc_buffer.specs.Reads.{IsBlamed, StaysHeld}
 use Rattle.cyc_buffer.specs.Starting.{IsReason, ListsLive, Starts}
 use Rattle.cyc_buffer.specs.Stopped.{HoldsStopped, IsLiveToken}
 use Rattle.cyc_buffer.specs.declared.answers.StartError.{StartError}
 use Rattle.cyc_buffer.specs.declared.answers.StartError.TheVariants as errors
 use Rattle.cyc_buffer.specs.declared.buffer.Buffer.{Buffer}
 use Rattle.cyc_buffer.specs.declared.unopened.Unopened.{Unopened}
+use Rattle.cyc_token.specs.Token.{token_view}
 use Rattle.cyc_token.specs.declared.Token as codes
 use Rattle.live_store.specs.declared.record.StorePremises as store_premises
 use Rattle.live_store.specs.declared.unopened.UnopenedNumbered.{UnopenedNumbered}
 use Rattle.live_store.specs.declared.writing.entering.Record.{Record}
-use Rattle.live_store.specs.Tied.{AreNumbered, HasRecord, IsFirstAt, number_at, text_in, token_in}
+use Rattle.live_store.specs.Tied.{AreNumbered, HasRecord, IsFirstAt, named_in, number_at}
+use Rattle.live_store.specs.Tied.{text_in, token_in}
 use Rattle.news_terms.specs.ArticleTexts.{IsArticle}
 use Rattle.news_terms.specs.Places as places
 use Rattle.news_terms.specs.Places.{IsLive, on_line}
@@ -86,6 +89,41 @@ IsUnentered sound errors.Device = Unit {0}
 IsUnentered sound errors.NoHead = ⊥
 IsUnentered sound errors.Unclosed = ⊥
 IsUnentered sound errors.Damaged = sound → ⊥
+
+-- What a reading of articles leaves of a buffer, and what it is refused for: the buffer was merely
+-- read; it is refused for memory, the device or damage, and for the device where that failed, and
+-- only there.
+pub record ReadsArticles {S A : Type 0} {g : Ghosts S} (old new : Buffer S g)
+    (result : Result A StartError)
+    : Type 0 where
+  pub read : IsMerelyRead old new
+  pub fault : IfErr result (IsUnentered ⊥)
+  pub failed : IfErr result (IsBlamed g (store_of old) (store_of new))
+  pub no_failure : OnOk result (g.failures (store_of new) ≡ g.failures (store_of old))
+
+-- the text of the article under a token is read, if that is live; a live article is refused for
+-- want of memory alone, or where a read of the device failed
+pub record ReadsText {S : Type 0} {g : Ghosts S} (old new : Buffer S g) (token : codes.Token)
+    (result : Result (Vec ℕ Global) StartError)
+    : Type 0 where
+  pub text : IfOk result (λ text. (h : History) → Agrees true old h
+      → IsTextOfLive h (token_view token) text.items)
+  pub refused : (h : History) → Agrees true old h → IsLiveToken h (token_view token)
+      → IfErr result (IsUnentered (Unit {0}))
+  pub reads : ReadsArticles old new result
+
+-- a record is entered for the article under a token, with its text, if that is live; a live one
+-- whose text is an article isn't damaged
+pub record EntersArticle {S : Type 0} {g : Ghosts S} (register : Shelves) (old new : Buffer S g)
+    (token : codes.Token) (result : Result (Where Record) StartError)
+    : Type 0 where
+  pub shown : IfOk result (Shows register)
+  pub named : IfOk result (λ shown. named_in shown ≡ token)
+  pub text : IfOk result (λ shown. (h : History) → Agrees true old h
+      → IsTextOfLive h (token_view token) (text_in shown))
+  pub refused : (h : History) → Agrees true old h → (live : IsLiveToken h (token_view token))
+      → IfErr result (IsUnentered ∥ IsArticle live.article.text ∥₁)
+  pub reads : ReadsArticles old new result
 
 -- a text is refused for want of memory, or as it is no article
 abbrev pub IsNoArticle : (text : List ℕ) → StartError → Type 0

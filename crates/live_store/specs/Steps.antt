@@ -1,10 +1,12 @@
 -- What the steps under a buffer's lock answer.
 use Rattle.std.specs.Prelude.{◌≡◌, ℕ, ◌+◌, ◌<◌, ◌≤◌, Bool, false, List, length, take, Option}
 use Rattle.std.specs.Prelude.{true, None, Some, Result, Ok, Err, is_none, IsSome, IsSomeAnd}
+use Rattle.std.specs.Prelude.{IfErr, IfOk, IfSome}
 use Rattle.boxcar.specs.Table.{Shelves, Where, Shows}
 use Rattle.cyc_block.specs.declared.store.BlockStore.{Ghosts}
 use Rattle.cyc_buffer.specs.Agreement.{CanWrite, length_of, token_of}
-use Rattle.cyc_buffer.specs.Calls.{WritesNext, LeavesDevice}
+use Rattle.cyc_buffer.specs.Answers.{HasRoom}
+use Rattle.cyc_buffer.specs.Calls.{ReadsBlock, WritesNext, LeavesDevice}
 use Rattle.cyc_buffer.specs.declared.answers.BufError.{BufError}
 use Rattle.cyc_buffer.specs.declared.answers.BufError.TheVariants as errors
 use Rattle.cyc_buffer.specs.declared.answers.Fault.{Fault}
@@ -202,10 +204,40 @@ IsFoundGone token (found.Chunk n) = Unit {0}
 IsFoundGone token (found.Gone front) = IsGoneBy front token
 IsFoundGone token found.Unknown = Unit {0}
 
+-- What reads that had the record `old` are told of a reading: a chunk of their record, which they
+-- have from then on, is one; and what is gone is so.
+pub record TellsRead (register : Shelves) (reading : Reading) (old : Option (Where Record))
+    (found : Found) (new : Option (Where Record))
+    : Type 0 where
+  pub chunk : (token : Token) (k : ℕ) (slice : List ℕ) → IsReading register token k slice reading
+      → IsFoundIn register token k slice new found
+  pub kept : IfSome old (λ w. new ≡ Some w)
+  pub after : IsRecordAfter (Ok found) old new
+  pub room : HasOctets reading → HasRoom found
+  pub gone : (token : Token) → IsPassed token reading → IsFoundGone token found
+
 -- the fault is the device's at a read of the token's article
 abbrev pub IsReadFault : Token → Fault → Type 0
 IsReadFault token fault =
     fault ≡ record { kind = kinds.Read; buffer = token.buffer; length = token.length }
+
+-- What a read of block k under a token comes to, with the number that stands at the token's first
+-- block: a chunk is that of the number's record, which has the token; it is the buffer's own read,
+-- and what stands beside the buffer stays.
+pub record ReadsNumbered {S : Type 0} {s : Ghosts S} {J : Type 0} {j : store_premises.Ghosts J}
+    (trusted : Bool) (register : Shelves) (old : NumberedBuffer S J s j) (token : codes.Token)
+    (k : ℕ) (before : List ℕ) (result : Result Reading Fault) (after : List ℕ)
+    (new : NumberedBuffer S J s j)
+    : Type 0 where
+  pub chunk : trusted ≡ true → IfOk result (IsReading register (token_view token) k after)
+  pub shown : IfOk result (IsShown register)
+  pub number : IfOk result (IsNumberedAt (numbers_of old) token.first)
+  pub room : IfOk result HasOctets
+  pub gone : IfOk result (IsPassed (token_view token))
+  pub fault : IfErr result (IsReadFault (token_view token))
+  pub reads : ReadsBlock (buffer_of old) token k before (as_found result) after (buffer_of new)
+  pub open_write : open_write_of new ≡ open_write_of old
+  pub numbers : numbers_of new ≡ numbers_of old
 
 -- the device failed
 abbrev pub IsDevice : BufError → Type 0

@@ -29,6 +29,7 @@ impl<J: StorePremises> OneRecord<J> {
     ghost use Rattle.cyc_buffer.specs.Answers.{HasRoom};
     ghost use Rattle.cyc_token.specs.Token.{token_view};
     ghost use Rattle.live_store.specs.Steps.{IsFoundIn, IsFoundGone, IsReadFault, IsRecordAfter};
+    ghost use Rattle.live_store.specs.Steps.{IsShown, TellsRead};
     ghost use Rattle.live_store.specs.Tied.{IsSameRecord};
 
     /// Nothing is read yet.
@@ -64,16 +65,26 @@ impl<J: StorePremises> OneRecord<J> {
         ensures gone { IfOk result (IsFoundGone (token_view token.now)) }
         ensures fault { IfErr result (IsReadFault (token_view token.now)) }
     {
-        match buffer.lock(rt).read(token, k, chunk)? {
+        let reading = buffer.lock(rt).read(token, k, chunk)?;
+        Ok(self.tell(register, reading))
+    }
+
+    /// What a reading is to these reads: a chunk of another record than theirs is Unknown.
+    fn tell(&mut self, register: &ArticleLog, reading: Reading) -> Found
+        requires register { register.now ≡ J.register }
+        requires shown { IsShown J.register reading }
+        ensures { TellsRead J.register reading self.old.shown result self.new.shown }
+    {
+        match reading {
             Reading::Chunk(octets, shown) => {
                 if self.takes(register, shown) {
-                    Ok(Found::Chunk(octets))
+                    Found::Chunk(octets)
                 } else {
-                    Ok(Found::Unknown)
+                    Found::Unknown
                 }
             }
-            Reading::Gone(front) => Ok(Found::Gone(front)),
-            Reading::Unknown => Ok(Found::Unknown),
+            Reading::Gone(front) => Found::Gone(front),
+            Reading::Unknown => Found::Unknown,
         }
     }
 

@@ -7,7 +7,7 @@ ghost use Rattle.cyc_buffer.specs.History.{History};
 ghost use Rattle.cyc_buffer.specs.Reads.{IsBlamed};
 ghost use Rattle.cyc_buffer.specs.Remembered.{AreWithin};
 ghost use Rattle.cyc_buffer.specs.Starting.{ListsLive};
-ghost use Rattle.live_store.specs.Started.{AreArticles, HaveFirsts, IsMerelyRead, IsUnentered};
+ghost use Rattle.live_store.specs.Started.{AreArticles, HaveFirsts, IsUnentered, ReadsArticles};
 ghost use Rattle.live_store.specs.Tied.{AreNumbered, AreShown};
 
 use crate::figures::no_numbers;
@@ -279,14 +279,9 @@ fn numbers_of_articles<S: BlockStore, R: Wait>(
         HaveFirsts tokens.now (length tokens.now) numbers.items) }
     ensures length { IfOk result (λ numbers. length numbers.items
         ≡ length (S.blocks (store_of (inside buffer.old)))) }
-    ensures read { IsMerelyRead (inside buffer.old) (inside buffer.new) }
+    ensures reads { ReadsArticles (inside buffer.old) (inside buffer.new) result }
     ensures refused { (h : History) → Agrees true (inside buffer.old) h
         → ListsLive tokens.now h → IfErr result (IsUnentered (AreArticles h)) }
-    ensures fault { IfErr result (IsUnentered ⊥) }
-    ensures failed { IfErr result (IsBlamed S.BlockStore (store_of (inside buffer.old))
-        (store_of (inside buffer.new))) }
-    ensures no_failure { OnOk result (S.failures (store_of (inside buffer.new))
-        ≡ S.failures (store_of (inside buffer.old))) }
 {
     let mut numbers = match no_numbers(alloc, buffer.buffer().blocks()) {
         Ok(numbers) => numbers,

@@ -39,7 +39,7 @@ impl<S: BlockStore, J: StorePremises> NumberedBuffer<S, J> {
     ghost use Rattle.live_store.specs.Steps.{WritesOrConflicts, CanWriteFor, IsNumberedAt};
     ghost use Rattle.live_store.specs.Steps.{CanFinishFor, IsOfWrite, IsReading, IsPassed};
     ghost use Rattle.live_store.specs.Steps.{IsReadFault, HasOctets, IsShown, IsBeginFault};
-    ghost use Rattle.live_store.specs.Steps.{IsWriteFault, as_found, IsConflict};
+    ghost use Rattle.live_store.specs.Steps.{IsWriteFault, as_found, IsConflict, ReadsNumbered};
     ghost use Rattle.live_store.specs.Handles.{begun_token, begun_fresh, shown_of};
     ghost use Rattle.live_store.specs.Stores.{receipt_token};
 
@@ -270,6 +270,19 @@ impl<S: BlockStore, J: StorePremises> NumberedBuffer<S, J> {
             chunk.new (buffer_of self.new) }
         ensures open_write { open_write_of self.new ≡ open_write_of self.old }
         ensures numbers { numbers_of self.new ≡ numbers_of self.old }
+    {
+        self.read_numbered(token, k, chunk)
+    }
+
+    /// The same, where the number of a chunk is that of the block where its article begins.
+    fn read_numbered(
+        &mut self,
+        token: &Token,
+        k: u32,
+        chunk: &mut [u8; CHUNK_OCTETS],
+    ) -> Result<Reading, Fault>
+        ensures { ReadsNumbered J.trusted J.register self.old token.now k chunk.old result
+            chunk.new self.new }
     {
         match self.buffer.read_block(token, k, chunk) {
             Ok(Found::Chunk(octets)) => match number_at(&self.numbers, token.first) {

@@ -1,17 +1,14 @@
 //! What a start reads of the articles that are live, and enters in the register.
-ghost use Rattle.std.specs.Prelude.{◌≡◌, ℕ, Bool, true, length, IfErr, IfOk, OnOk};
-ghost use Rattle.boxcar.specs.Table.{Shows};
-ghost use Rattle.cyc_buffer.specs.Agreement.{Agrees, store_of};
+ghost use Rattle.std.specs.Prelude.{◌≡◌, ℕ, Bool, length, IfErr, OnOk, true};
+ghost use Rattle.cyc_buffer.specs.Agreement.{Agrees};
 ghost use Rattle.cyc_buffer.specs.Head.{inside};
 ghost use Rattle.cyc_buffer.specs.History.{History};
-ghost use Rattle.cyc_buffer.specs.Reads.{IsBlamed};
 ghost use Rattle.cyc_buffer.specs.Remembered.{AreWithin};
 ghost use Rattle.cyc_buffer.specs.Starting.{ListsLive};
-ghost use Rattle.cyc_buffer.specs.Stopped.{IsLiveToken};
-ghost use Rattle.cyc_token.specs.Token.{token_view};
-ghost use Rattle.live_store.specs.Started.{AreArticles, AreNumberedTo, HaveFirsts, IsMerelyRead};
-ghost use Rattle.live_store.specs.Started.{IsNoArticle, IsTextOfLive, IsToldAs, IsUnentered};
-ghost use Rattle.live_store.specs.Tied.{AreShown, named_in, text_in};
+ghost use Rattle.live_store.specs.Started.{AreArticles, AreNumberedTo, EntersArticle, HaveFirsts};
+ghost use Rattle.live_store.specs.Started.{IsNoArticle, IsToldAs, IsUnentered, ReadsArticles};
+ghost use Rattle.live_store.specs.Started.{ReadsText};
+ghost use Rattle.live_store.specs.Tied.{AreShown};
 ghost use Rattle.news_terms.specs.ArticleTexts.{IsArticle};
 
 use super::entering::Record;
@@ -43,15 +40,10 @@ pub(crate) fn enter_articles<S: BlockStore, R: Wait>(
     ensures firsts { OnOk result (HaveFirsts tokens.now (length tokens.now)
         numbers.new.items) }
     ensures length { OnOk result (length numbers.new.items ≡ length numbers.old.items) }
-    ensures read { IsMerelyRead (inside buffer.old) (inside buffer.new) }
+    ensures reads { ReadsArticles (inside buffer.old) (inside buffer.new) result }
     // Only what holds no article under a token, or not all of it, is damaged.
     ensures refused { (h : History) → Agrees true (inside buffer.old) h
         → ListsLive tokens.now h → IfErr result (IsUnentered (AreArticles h)) }
-    ensures fault { IfErr result (IsUnentered ⊥) }
-    ensures failed { IfErr result (IsBlamed S.BlockStore (store_of (inside buffer.old))
-        (store_of (inside buffer.new))) }
-    ensures no_failure { OnOk result (S.failures (store_of (inside buffer.new))
-        ≡ S.failures (store_of (inside buffer.old))) }
 {
     for token in tokens {
         let shown = enter_article(rt, alloc, register, buffer, token)?;
@@ -68,19 +60,7 @@ fn enter_article<S: BlockStore, R: Wait>(
     buffer: &mut Unopened<S>,
     token: &Token,
 ) -> Result<RecordNumber, StartError>
-    ensures shown { IfOk result (Shows register.now) }
-    ensures named { IfOk result (λ shown. named_in shown ≡ token.now) }
-    ensures text { IfOk result (λ shown. (h : History) → Agrees true (inside buffer.old) h
-        → IsTextOfLive h (token_view token.now) (text_in shown)) }
-    ensures read { IsMerelyRead (inside buffer.old) (inside buffer.new) }
-    ensures refused { (h : History) → Agrees true (inside buffer.old) h
-        → (live : IsLiveToken h (token_view token.now))
-        → IfErr result (IsUnentered ∥ IsArticle live.article.text ∥₁) }
-    ensures fault { IfErr result (IsUnentered ⊥) }
-    ensures failed { IfErr result (IsBlamed S.BlockStore (store_of (inside buffer.old))
-        (store_of (inside buffer.new))) }
-    ensures no_failure { OnOk result (S.failures (store_of (inside buffer.new))
-        ≡ S.failures (store_of (inside buffer.old))) }
+    ensures { EntersArticle register.now (inside buffer.old) (inside buffer.new) token.now result }
 {
     let text = read_text(alloc, buffer, token)?;
     judge(alloc, &text)?;
@@ -96,17 +76,7 @@ fn read_text<S: BlockStore>(
     buffer: &mut Unopened<S>,
     token: &Token,
 ) -> Result<Vec<u8>, StartError>
-    ensures text { IfOk result (λ text. (h : History) → Agrees true (inside buffer.old) h
-        → IsTextOfLive h (token_view token.now) text.items) }
-    ensures read { IsMerelyRead (inside buffer.old) (inside buffer.new) }
-    // A live article is refused for want of memory alone, or where a read of the device failed.
-    ensures refused { (h : History) → Agrees true (inside buffer.old) h
-        → IsLiveToken h (token_view token.now) → IfErr result (IsUnentered (Unit {0})) }
-    ensures fault { IfErr result (IsUnentered ⊥) }
-    ensures failed { IfErr result (IsBlamed S.BlockStore (store_of (inside buffer.old))
-        (store_of (inside buffer.new))) }
-    ensures no_failure { OnOk result (S.failures (store_of (inside buffer.new))
-        ≡ S.failures (store_of (inside buffer.old))) }
+    ensures { ReadsText (inside buffer.old) (inside buffer.new) token.now result }
 {
     let mut text = Vec::with_capacity(alloc, token.length as usize)?;
     let mut chunk = [0; CHUNK_OCTETS];

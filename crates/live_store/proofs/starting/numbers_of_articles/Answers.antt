@@ -2,7 +2,8 @@ use Rattle.std.proofs.Common.{◌∙◌, ap, length, refl, subst, sym}
 use Rattle.cyc_buffer.specs.Agreement.{store_of}
 use Rattle.cyc_buffer.specs.Head.{inside}
 use Rattle.cyc_buffer.specs.Remembered.{AreWithin}
-use Rattle.live_store.proofs.ReadBackLemmas.{merely_none}
+use Rattle.cyc_buffer.specs.declared.answers.StartError.TheVariants as errors
+use Rattle.live_store.proofs.ReadBackLemmas.{merely_none, refused_reads}
 use Rattle.live_store.proofs.StartLemmas.{all_numbered, as_many}
 use Rattle.live_store.proofs.TiedLemmas.{none_shown}
 use Rattle.live_store.proofs.starting.numbers_of_articles.Goals as goal
@@ -17,14 +18,13 @@ enter_articles-requires g c = record {
       c.requires.within;
 }
 
-pub returns-in-Err-clause-read : goal.returns-in-Err-clause-read
-returns-in-Err-clause-read g c = merely_none (inside c.args.buffer.now)
+pub returns-in-Err-clause-reads : goal.returns-in-Err-clause-reads
+returns-in-Err-clause-reads g c =
+    let a = inside c.args.buffer.now in
+    refused_reads a a errors.Memory (merely_none a) tt refl
 
 pub returns-in-Err-clause-refused : goal.returns-in-Err-clause-refused
 returns-in-Err-clause-refused g c h agrees lists = tt
-
-pub returns-in-Err-clause-failed : goal.returns-in-Err-clause-failed
-returns-in-Err-clause-failed g c = refl
 
 pub returns-in-Ok-enter_articles-clause-numbered : goal.returns-in-Ok-enter_articles-clause-numbered
 returns-in-Ok-enter_articles-clause-numbered g c trusted h agrees lists =
@@ -47,8 +47,10 @@ returns-in-Ok-enter_articles-clause-length g c =
     (c.blocks-2.ensures.store
     ∙ ap (λ b. length (g.S.BlockStore.blocks (store_of b))) c.buffer.ensures)
 
-pub returns-in-Ok-enter_articles-clause-read : goal.returns-in-Ok-enter_articles-clause-read
-returns-in-Ok-enter_articles-clause-read g c = c.in-Ok-enter_articles.ensures.read
+pub returns-in-Ok-enter_articles-clause-reads : goal.returns-in-Ok-enter_articles-clause-reads
+returns-in-Ok-enter_articles-clause-reads g c =
+    let was = c.in-Ok-enter_articles.ensures.reads in
+    record { read = was.read; fault = tt; failed = tt; no_failure = was.no_failure }
 
 pub returns-in-Ok-enter_articles-clause-refused : goal.returns-in-Ok-enter_articles-clause-refused
 returns-in-Ok-enter_articles-clause-refused g c h agrees lists = tt
@@ -56,5 +58,8 @@ returns-in-Ok-enter_articles-clause-refused g c h agrees lists = tt
 pub returns-in-Err-enter_articles-clause-refused : goal.returns-in-Err-enter_articles-clause-refused
 returns-in-Err-enter_articles-clause-refused g c = c.in-Err-enter_articles.ensures.refused
 
-pub returns-in-Err-enter_articles-clause-failed : goal.returns-in-Err-enter_articles-clause-failed
-returns-in-Err-enter_articles-clause-failed g c = c.in-Err-enter_articles.ensures.failed
+pub returns-in-Err-enter_articles-clause-reads : goal.returns-in-Err-enter_articles-clause-reads
+returns-in-Err-enter_articles-clause-reads g c =
+    let was = c.in-Err-enter_articles.ensures.reads in
+    refused_reads (inside c.args.buffer.now) (inside c.enter_articles.new.buffer)
+    c.in-Err-enter_articles.error was.read was.fault was.failed

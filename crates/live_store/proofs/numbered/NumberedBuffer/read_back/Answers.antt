@@ -13,7 +13,7 @@ invariant_of-result g c = record {
       (inside c.args.started.buffer)
       (inside c.numbers_of_articles.new.buffer) c.in-Ok.numbers.items
       c.args.started.tokens.items c.requires.started c.requires.idle
-      c.numbers_of_articles.ensures.read
+      c.numbers_of_articles.ensures.reads.read
       (have_numbers (inside c.args.started.buffer) c.args.started.tokens.items
       c.in-Ok.numbers.items c.requires.listed c.in-Ok.ensures.length
       (subst (λ tokens. HaveFirsts tokens (length tokens) c.in-Ok.numbers.items)

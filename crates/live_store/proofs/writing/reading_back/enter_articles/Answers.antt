@@ -6,16 +6,29 @@ use Rattle.cyc_buffer.proofs.Refusals.{passed_on}
 use Rattle.cyc_buffer.specs.Agreement.{Agrees}
 use Rattle.cyc_buffer.specs.Head.{inside}
 use Rattle.cyc_token.specs.declared.Token as codes
-use Rattle.live_store.specs.Started.{AreArticles, IsUnentered}
+use Rattle.live_store.specs.Started.{AreArticles, IsUnentered, ReadsArticles}
 use Rattle.live_store.proofs.NumberLemmas.{shown_set}
-use Rattle.live_store.proofs.ReadBackLemmas.{merely_next, unentered_by}
+use Rattle.live_store.proofs.ReadBackLemmas.{merely_next, refused_after, refused_as}
+use Rattle.live_store.proofs.ReadBackLemmas.{unentered_by}
 use Rattle.live_store.proofs.StartLemmas.{firsts_item, live_at, none_token, numbered_item}
 use Rattle.live_store.proofs.writing.reading_back.enter_articles.Goals as goal
 
-pub returns-in_err-shown-clause-read : goal.returns-in_err-shown-clause-read
-returns-in_err-shown-clause-read g c = merely_next (inside c.args.buffer.now)
-    (inside c.loop-token.buffer) (inside c.enter_article.new.buffer) c.loop-token.invariant.read
-    c.enter_article.ensures.read
+pub returns-in_err-shown-clause-reads : goal.returns-in_err-shown-clause-reads
+returns-in_err-shown-clause-reads g c =
+    let a = inside c.args.buffer.now in
+    let b = inside c.loop-token.buffer in
+    let d = inside c.enter_article.new.buffer in
+    refused_as (ReadsArticles a d) _ _ c.from_residual.ensures
+    (refused_after a b d c.in_err-shown.field-0.0 c.loop-token.invariant.read
+    c.loop-token.invariant.failures c.in_err-shown.ensures.reads)
+
+pub returns-clause-reads : goal.returns-clause-reads
+returns-clause-reads g c = record {
+  read = c.loop-token.invariant.read;
+  fault = tt;
+  failed = tt;
+  no_failure = c.loop-token.invariant.failures;
+}
 
 pub returns-in_err-shown-clause-refused : goal.returns-in_err-shown-clause-refused
 returns-in_err-shown-clause-refused g c h agrees lists =
@@ -41,8 +54,8 @@ loop-token-preserved g c =
     omega (arith, c.requires.within n none_token c.loop-token-test.true, was.room) in
     record {
       read = merely_next (inside c.args.buffer.now) (inside c.loop-token.buffer)
-          (inside c.enter_article.new.buffer) was.read now.read;
-      failures = now.no_failure ∙ was.failures;
+          (inside c.enter_article.new.buffer) was.read now.reads.read;
+      failures = now.reads.no_failure ∙ was.failures;
       firsts = firsts_item items n none_token c.in_ok-shown.shown numbers c.loop-token-test.true
           (ap (λ (t : codes.Token). t.first) now.named) within was.firsts;
       room = length-set numbers token.first (Some c.in_ok-shown.shown) ∙ was.room;
