@@ -1,4 +1,4 @@
-use Rattle.std.proofs.Common.{◌∙◌, ◌++◌, ◌∷◌, [], ap, arith, false, sym, subst, length, List}
+use Rattle.std.proofs.Common.{◌∙◌, ◌++◌, ◌∷◌, [], ap, arith, false, sym, subst, length, List, map}
 use Rattle.std.proofs.lemmas.List.{length-replicate}
 use Rattle.std.specs.Prelude.{slice_get}
 use Rattle.crossbeam_queue.specs.Passes.{IsPassOf}
@@ -24,6 +24,11 @@ add_channel-requires-clause-fit g c =
 pub new_writer-writer-requires-clause-none : goal.new_writer-writer-requires-clause-none
 new_writer-writer-requires-clause-none g c = λ e at.
     no_flags c.args.ends e (ap (λ l. slice_get l e) (sym c.in_ok-closed.ensures) ∙ at)
+
+pub returns-clause-services : goal.returns-clause-services
+returns-clause-services g c =
+    c.in_ok-channel.ensures.services
+    ∙ ap (λ (plans : List (Plan _)). map (λ p. p.service) plans) c.reserve_group.ensures.same.2
 
 -- the channel, its first pass and its writer stand behind those of the groups before
 pub returns-clause-fit : goal.returns-clause-fit

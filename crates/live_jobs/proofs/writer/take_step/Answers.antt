@@ -1,4 +1,5 @@
-use Rattle.std.proofs.Common.{List, [], ◌∷◌, ◌++◌, ap, ◌∙◌, refl, arith}
+use Rattle.std.proofs.Common.{Bool, List, [], ◌∷◌, ◌++◌, ap, ◌∙◌, refl, arith, length, true}
+use Rattle.live_jobs.proofs.Passes.{length_set}
 use Rattle.live_jobs.specs.declared.outcome.FinishedJob.{FinishedJob}
 use Rattle.live_jobs.specs.Taken.{worth}
 use Rattle.live_jobs.proofs.Taken.{takes_job, takes_mark, kept_more, kept_within, worth_one}
@@ -53,3 +54,20 @@ invariant_of-seat-in-Mark-clause-took g c =
 pub invariant_of-seat-in-Mark-clause-counted : goal.invariant_of-seat-in-Mark-clause-counted
 invariant_of-seat-in-Mark-clause-counted g c =
     rw c.reserve_one.ensures.items c.args.seat.now.counted
+
+pub returns-in-Job-clause-pass : goal.returns-in-Job-clause-pass
+returns-in-Job-clause-pass g c = c.take.ensures.pass
+
+pub returns-in-Job-clause-here : goal.returns-in-Job-clause-here
+returns-in-Job-clause-here g c = c.requires.here
+
+pub returns-in-Job-clause-ends : goal.returns-in-Job-clause-ends
+returns-in-Job-clause-ends g c = refl
+
+pub returns-in-Mark-clause-here : goal.returns-in-Mark-clause-here
+returns-in-Mark-clause-here g c = c.requires.here
+
+pub returns-in-Mark-clause-ends : goal.returns-in-Mark-clause-ends
+returns-in-Mark-clause-ends g c =
+    ap (λ (l : List Bool). length l) c.close_flag.ensures
+    ∙ length_set c.args.seat.now.closed.items c.in-Mark.end true

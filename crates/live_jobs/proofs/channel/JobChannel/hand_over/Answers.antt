@@ -31,6 +31,9 @@ loop-preserved g c =
       again.0 ∙ once.0 ∙ c.loop.invariant.2,
     )
 
+pub returns-in-Ok-clause-pass : goal.returns-in-Ok-clause-pass
+returns-in-Ok-clause-pass g c = c.try_often.ensures.pass
+
 pub returns-in-Ok-clause-open : goal.returns-in-Ok-clause-open
 returns-in-Ok-clause-open g c =
     subst (λ (j : Handed). IsOpen j.end (view c.try_often.new.pass)) c.loop.invariant.2
@@ -42,6 +45,9 @@ returns-in-Ok-clause-taken g c =
     subst (λ before. HasHanded before (parcels.Job c.args.job) after) c.loop.invariant.1
     (subst (λ j. HasHanded (view c.loop.pass) (parcels.Job j) after) c.loop.invariant.2
     c.in-Ok.ensures.taken)
+
+pub returns-in-Ok-try_hand_over-clause-pass : goal.returns-in-Ok-try_hand_over-clause-pass
+returns-in-Ok-try_hand_over-clause-pass g c = c.try_hand_over.ensures.pass
 
 pub returns-in-Ok-try_hand_over-clause-open : goal.returns-in-Ok-try_hand_over-clause-open
 returns-in-Ok-try_hand_over-clause-open g c =

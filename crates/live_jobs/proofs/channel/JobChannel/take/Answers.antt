@@ -22,10 +22,22 @@ loop-preserved g c = (
       ∙ c.loop.invariant.1,
 )
 
+pub returns-in-Some-take_soon-clause-pass : goal.returns-in-Some-take_soon-clause-pass
+returns-in-Some-take_soon-clause-pass g c = c.take_soon.ensures.pass
+
+pub returns-in-Some-take_soon-clause-writer : goal.returns-in-Some-take_soon-clause-writer
+returns-in-Some-take_soon-clause-writer g c = c.take_soon.ensures.writer
+
 pub returns-in-Some-take_soon-clause-taken : goal.returns-in-Some-take_soon-clause-taken
 returns-in-Some-take_soon-clause-taken g c =
     subst (λ before. HasTaken before c.in-Some-take_soon.parcel (view c.take_soon.new.pass))
     c.loop.invariant.1 c.in-Some-take_soon.ensures.taken
+
+pub returns-in-Some-try_take-clause-pass : goal.returns-in-Some-try_take-clause-pass
+returns-in-Some-try_take-clause-pass g c = c.try_take.ensures.pass
+
+pub returns-in-Some-try_take-clause-writer : goal.returns-in-Some-try_take-clause-writer
+returns-in-Some-try_take-clause-writer g c = c.try_take.ensures.writer
 
 pub returns-in-Some-try_take-clause-taken : goal.returns-in-Some-try_take-clause-taken
 returns-in-Some-try_take-clause-taken g c =

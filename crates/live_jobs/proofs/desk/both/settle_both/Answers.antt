@@ -1,4 +1,4 @@
-use Rattle.std.proofs.Common.{◌≡◌, ◌∙◌, ℕ, List, false, inl, inr, refl, sym, ap, subst}
+use Rattle.std.proofs.Common.{◌≡◌, ◌∙◌, ℕ, List, None, Some, false, inl, inr, refl, sym, ap, subst}
 use Rattle.std.proofs.lemmas.Bool.{cases_Bool}
 use Rattle.std.proofs.lemmas.Slice.Eq.{bytes_eq-Decides}
 use Rattle.std.specs.Str.{bytes_eq}
@@ -43,6 +43,23 @@ put_same claims id claim same other = elim (cases_Bool (bytes_eq other id)) [
   | inl equal ↦ rw equal (same ∙ ap claims (sym ((bytes_eq-Decides other id).0 equal)))
   | inr differs ↦ rw differs refl
 ]
+
+-- what is there isn't missing
+never_none : {A B : Type 0} (x : A) → Some x ≡ None → B
+never_none x none = absurd (cc)
+
+pub returns-in-Some-clause-why : goal.returns-in-Some-clause-why
+returns-in-Some-clause-why g c none = never_none _ none
+
+pub returns-in-Some-clause-same : goal.returns-in-Some-clause-same
+returns-in-Some-clause-same g c none = never_none _ none
+
+pub returns-then-is_full-clause-why : goal.returns-then-is_full-clause-why
+returns-then-is_full-clause-why g c none = inl (c.is_full.ensures.0 c.if-is_full.true)
+
+pub returns-in-None-clause-why : goal.returns-in-None-clause-why
+returns-in-None-clause-why g c none =
+    inr (λ claims keeps. sym (c.in-None.ensures.answer claims keeps))
 
 -- what isn't settled stays
 pub returns-in-None-clause-same : goal.returns-in-None-clause-same
