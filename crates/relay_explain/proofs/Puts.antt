@@ -1,35 +1,60 @@
 -- Texts that are put one behind the other.
-use Rattle.std.proofs.Common.{◌≡◌, ◌∙◌, ap, List, ℕ, ◌++◌, append_assoc, Result, Ok, Err, OnOk}
+use Rattle.std.proofs.Common.{◌≡◌, ◌∙◌, ap, sym, List, ℕ, [], ◌∷◌, ◌++◌, append_assoc, append-nil}
+use Rattle.std.proofs.Common.{fold, refl, subst, is_ok, Option, None, Some, Result, Ok, Err, IfOk}
+use Rattle.std.specs.Global.{Vec}
+use Rattle.std.specs.Prelude.{if◌then◌else◌}
+use Rattle.relay_explain.specs.Lines.{joined}
+use Rattle.relay_explain.specs.Text.{Adds}
 
--- What follows from what was put, where it was.
-pub on_ok : {E P Q : Type 0} (r : Result (Unit {0}) E) → (P → Q) → OnOk r P → OnOk r Q
-on_ok (Ok done) then held = then held
-on_ok (Err error) then held = tt
+-- Nothing is put.
+pub nothing : (text : Option (List ℕ)) → Adds text text []
+nothing None = record { adds = tt }
+nothing (Some text) = record { adds = sym (append-nil text) }
 
--- Two texts that were put are one.
-pub two : (old first last a b : List ℕ) → first ≡ old ++ a → last ≡ first ++ b
-    → last ≡ old ++ (a ++ b)
-two old first last a b one next = next ∙ ap (λ text. text ++ b) one ∙ append_assoc old a b
+-- Two texts that are put are one.
+put_two : (old first last : Option (List ℕ)) (a b : List ℕ) → Adds old first a → Adds first last b
+    → Adds old last (a ++ b)
+put_two old first None a b one next = record { adds = tt }
+put_two old None (Some last) a b one next = absurd next.adds
+put_two None (Some first) (Some last) a b one next = absurd one.adds
+put_two (Some old) (Some first) (Some last) a b one next = record {
+  adds = next.adds ∙ ap (λ text. text ++ b) one.adds ∙ append_assoc old a b;
+}
 
--- So are three,
-pub three : (old first second last a b c : List ℕ) → first ≡ old ++ a → second ≡ first ++ b
-    → last ≡ second ++ c → last ≡ old ++ (a ++ b ++ c)
-three old first second last a b c one next end =
-    two old second last (a ++ b) c (two old first second a b one next) end
+pub two : {old first last : Option (List ℕ)} {a b : List ℕ} → Adds old first a
+    → Adds first last b → Adds old last (a ++ b)
+two one next = put_two _ _ _ _ _ one next
 
--- four,
-pub four : (old first second third last a b c d : List ℕ) → first ≡ old ++ a
-    → second ≡ first ++ b → third ≡ second ++ c → last ≡ third ++ d
-    → last ≡ old ++ (a ++ b ++ c ++ d)
-four old first second third last a b c d one next third_is end =
-    two old third last (a ++ b ++ c) d (three old first second third a b c one next third_is) end
+-- Octets are put behind what is there, where there is memory for them.
+pub added : {E : Type 0} (r : Result (Unit {0}) E) (old now more : List ℕ)
+    → now ≡ (if is_ok r then old ++ more else old)
+    → Adds (Some old) (if is_ok r then Some now else None) more
+added (Ok done) old now more is = record { adds = is }
+added (Err error) old now more is = record { adds = tt }
 
--- and six, the last two as one.
-pub six : (old first second third fourth last a b c d e f : List ℕ) → first ≡ old ++ a
-    → second ≡ first ++ b → third ≡ second ++ c → fourth ≡ third ++ d
-    → last ≡ fourth ++ e ++ f → last ≡ old ++ (a ++ b ++ c ++ d ++ e ++ f)
-six old first second third fourth last a b c d e f one next third_is fourth_is end =
-    end ∙ ap (λ text. text ++ e ++ f) (four old first second third fourth a b c d one next third_is
-    fourth_is)
-    ∙ ap (λ text. text ++ f) (append_assoc old (a ++ b ++ c ++ d) e)
-    ∙ append_assoc old (a ++ b ++ c ++ d ++ e) f
+-- Texts that are put behind a first one.
+behind : (first some : List ℕ) (parts : List (List ℕ)) → first ++ fold ◌++◌ some parts
+    ≡ fold ◌++◌ (first ++ some) parts
+behind first some [] = refl
+behind first some (part ∷ parts) =
+    behind first (some ++ part) parts
+    ∙ ap (λ text. fold ◌++◌ text parts) (sym (append_assoc first some part))
+
+pub and_parts : {old mid last : Option (List ℕ)} {first : List ℕ} (parts : List (List ℕ))
+    → Adds old mid first → Adds mid last (joined parts) → Adds old last (fold ◌++◌ first parts)
+and_parts {old} {mid} {last} {first} parts one next =
+    subst (λ text. Adds old last text)
+    (behind first [] parts ∙ ap (λ text. fold ◌++◌ text parts) (append-nil first)) (two one next)
+
+-- A text that was put, and two behind it, are three.
+pub and_two : {old first last : Option (List ℕ)} {a : List ℕ} (b c : List ℕ) → Adds old first a
+    → Adds first last (b ++ c) → Adds old last (a ++ b ++ c)
+and_two {old} {first} {last} {a} b c one next =
+    subst (λ text. Adds old last text) (sym (append_assoc a b c)) (two one next)
+
+-- What is there at the end is all that was put.
+pub all : {E : Type 0} (r : Result (Vec ℕ) E) (new text : Option (List ℕ)) (told : List ℕ)
+    → new ≡ Some [] → Adds new text told → IfOk r (λ whole. text ≡ Some whole.items)
+    → IfOk r (λ whole. whole.items ≡ told)
+all (Ok whole) new text told empty adds is = rw (empty, is) at adds.adds
+all (Err error) new text told empty adds is = tt

@@ -8,3 +8,4 @@ pub mod Patterns
 pub mod Peers
 pub mod Settings
 pub mod Sums
+pub mod Text

@@ -61,10 +61,13 @@ line_at number lines = unwrap_or (slice_get lines number) []
 abbrev pub joined : (parts : List (List ℕ)) → List ℕ
 joined parts = fold ◌++◌ [] parts
 
+-- what it begins with where that tells of a line of a file: `cycbuff.conf:2: `
+abbrev pub line_head : (file : List ℕ) → (line : ℕ) → List ℕ
+line_head file line = file ++ codes ":" ++ decimal line ++ codes ": "
+
 -- what is told of what a line of a file says: `cycbuff.conf:2: group G`
 unfoldable pub told_line : (file : List ℕ) → (line : ℕ) → (told : List ℕ) → List ℕ
-told_line file line told =
-    file ++ codes ":" ++ decimal line ++ codes ": " ++ told ++ codes "\n"
+told_line file line told = line_head file line ++ told ++ codes "\n"
 
 -- what is odd in what a line of a file says, where that is so: `cycbuff.conf:2: odd: no room`
 unfoldable pub odd_line : (is_odd : Bool) → (file : List ℕ) → (line : ℕ) → (told : List ℕ) → List ℕ

@@ -1,19 +1,19 @@
 //! What is told of the buffers of cycbuff.conf.
-ghost use Rattle.std.specs.Prelude.{◌≡◌, ◌++◌, map, IfOk, OnOk};
+ghost use Rattle.std.specs.Prelude.{◌≡◌, map};
 ghost use Rattle.std.specs.Option.{option_copied};
 ghost use Rattle.relay_explain.specs.Found.{cycbuff};
 ghost use Rattle.relay_explain.specs.Lines.{told_line};
+ghost use Rattle.relay_explain.specs.Text.{Adds};
 ghost use Rattle.relay_explain.specs.Buffers as terms;
 
 use crate::found::{CYCBUFF, Found, put_found};
 use crate::lines::named_line;
 use crate::rows::first_ones;
-use crate::text::{put, put_line, put_odd, put_shared};
+use crate::text::{Text, begin_line, put, put_odd, put_shared};
 use cyc_block::head_count;
 use itoa::Buffer;
 use line_words::is;
 use relay_conf::{BufferConf, Config, GroupConf};
-use std::alloc::{AllocError, Global};
 
 /// The octets of an article that a block holds.
 const BLOCK_ROOM: u64 = 480;
@@ -50,78 +50,56 @@ pub(crate) fn largest_stored(config: &Config) -> u64
 
 /// Puts what is told of all buffers, with what lies where their files are to be.
 #[tactic(auto, unfolding(crate::specs::Buffers::buffers_text))]
-pub(crate) fn put_buffers(
-    alloc: Global,
-    text: &mut Vec<u8>,
-    config: &Config,
-    lines: &[&[u8]],
-    found: &[Found],
-) -> Result<(), AllocError>
-    ensures { OnOk result (text.new.items ≡ text.old.items
-        ++ terms.buffers_text config.now (map (λ line. line.now) lines.now) found.now) }
+pub(crate) fn put_buffers(text: &mut Text, config: &Config, lines: &[&[u8]], found: &[Found])
+    ensures { Adds text.old text.new
+        (terms.buffers_text config.now (map (λ line. line.now) lines.now) found.now) }
 {
     for (number, buffer) in config.buffers.buffers.iter().enumerate() {
-        put_buffer(alloc, text, config, lines, found, number, buffer)?;
+        put_buffer(text, config, lines, found, number, buffer);
     }
-    Ok(())
 }
 
 /// Puts what is told of the buffer of this number.
 fn put_buffer(
-    alloc: Global,
-    text: &mut Vec<u8>,
+    text: &mut Text,
     config: &Config,
     lines: &[&[u8]],
     found: &[Found],
     number: usize,
     buffer: &BufferConf,
-) -> Result<(), AllocError>
-    ensures { OnOk result (text.new.items ≡ text.old.items
-        ++ terms.buffer_text config.now (map (λ line. line.now) lines.now) found.now
-        (number, buffer.now)) }
+)
+    ensures { Adds text.old text.new
+        (terms.buffer_text config.now (map (λ line. line.now) lines.now) found.now (
+          number,
+          buffer.now,
+        )) }
 {
     let line = named_line(lines, b"cycbuff", buffer.name.as_slice());
-    put_buffer_line(alloc, text, line, buffer)?;
-    put_found(text, line, buffer.file.as_slice(), found.get(number))?;
-    put_odds(text, config, line, number, buffer)
+    put_buffer_line(text, line, buffer);
+    put_found(text, line, buffer.file.as_slice(), found.get(number));
+    put_odds(text, config, line, number, buffer);
 }
 
 /// Puts the line of a buffer.
 #[tactic(auto, unfolding(crate::specs::Buffers::buffer_told))]
-fn put_buffer_line(
-    alloc: Global,
-    text: &mut Vec<u8>,
-    line: usize,
-    buffer: &BufferConf,
-) -> Result<(), AllocError>
-    ensures { OnOk result (text.new.items ≡ text.old.items
-        ++ told_line cycbuff line (terms.buffer_told buffer.now)) }
+fn put_buffer_line(text: &mut Text, line: usize, buffer: &BufferConf)
+    ensures { Adds text.old text.new (told_line cycbuff line (terms.buffer_told buffer.now)) }
 {
-    let sizes = sizes_text(alloc, buffer.blocks)?;
-    put_line(
-        text,
-        CYCBUFF,
-        line,
-        &[
-            b"buffer ",
-            buffer.name.as_slice(),
-            b", file ",
-            buffer.file.as_slice(),
-            b": ",
-            &sizes,
-        ],
-    )
+    let (name, file) = (buffer.name.as_slice(), buffer.file.as_slice());
+    begin_line(text, CYCBUFF, line);
+    put(text, &[b"buffer ", name, b", file ", file, b": "]);
+    put_sizes(text, buffer.blocks);
+    text.add(b"\n");
 }
 
-/// What so many blocks are and hold.
+/// Puts what so many blocks are and hold.
 #[tactic(auto, unfolding(crate::specs::Buffers::sizes_text))]
-fn sizes_text(alloc: Global, blocks: u32) -> Result<Vec<u8>, AllocError>
-    ensures { IfOk result (λ text. text.items ≡ terms.sizes_text blocks) }
+fn put_sizes(text: &mut Text, blocks: u32)
+    ensures { Adds text.old text.new (terms.sizes_text blocks) }
 {
     let (mut count, mut room, mut octets) = (Buffer::new(), Buffer::new(), Buffer::new());
-    let mut text = Vec::new(alloc);
     put(
-        &mut text,
+        text,
         &[
             count.format(blocks).as_bytes(),
             b" blocks, ",
@@ -130,21 +108,13 @@ fn sizes_text(alloc: Global, blocks: u32) -> Result<Vec<u8>, AllocError>
             octets.format(file_octets(blocks)).as_bytes(),
             b" octets of disk",
         ],
-    )?;
-    Ok(text)
+    );
 }
 
 /// Puts what is odd in a buffer of this number.
 #[tactic(auto, unfolding(crate::specs::Buffers::buffer_odds))]
-fn put_odds(
-    text: &mut Vec<u8>,
-    config: &Config,
-    line: usize,
-    number: usize,
-    buffer: &BufferConf,
-) -> Result<(), AllocError>
-    ensures { OnOk result (text.new.items
-        ≡ text.old.items ++ terms.buffer_odds config.now line number buffer.now) }
+fn put_odds(text: &mut Text, config: &Config, line: usize, number: usize, buffer: &BufferConf)
+    ensures { Adds text.old text.new (terms.buffer_odds config.now line number buffer.now) }
 {
     let file = buffer.file.as_slice();
     let first = first_with(first_ones(&config.buffers.buffers, number), file);
@@ -156,8 +126,8 @@ fn put_odds(
         CYCBUFF,
         line,
         &[b"the buffer is in no group: it takes no article"],
-    )?;
-    put_shared(text, CYCBUFF, line, b"the file is that of buffer ", first)?;
+    );
+    put_shared(text, CYCBUFF, line, b"the file is that of buffer ", first);
     put_odd(
         text,
         room_of(buffer.blocks) < largest,
@@ -168,7 +138,7 @@ fn put_odds(
             octets.format(largest).as_bytes(),
             b" octets",
         ],
-    )
+    );
 }
 
 /// Whether a group has the buffer of this number.

@@ -1,15 +1,15 @@
 //! Where an article goes, by its newsgroups and its size.
 ghost use Rattle.std.specs.Prelude.{◌≡◌, ◌++◌, codes, decimal, map, option_map, slice_get, IfOk};
-ghost use Rattle.std.specs.Prelude.{OnOk};
 ghost use Rattle.std.specs.Option.{option_copied};
 ghost use Rattle.line_words.specs.Parts.{parts};
 ghost use Rattle.news_terms.specs.StorageClass.{chosen_entry};
 ghost use Rattle.relay_conf.specs.Choice.{given};
 ghost use Rattle.relay_conf.specs.Storage.{entry_view};
 ghost use Rattle.relay_explain.specs.Choice as terms;
+ghost use Rattle.relay_explain.specs.Text.{Adds};
 
-use crate::groups::group_told;
-use crate::text::put;
+use crate::groups::put_group_told;
+use crate::text::{Text, put};
 use itoa::Buffer;
 use line_words::cut;
 use relay_conf::{BufferConf, Config, GroupConf, choose};
@@ -27,10 +27,10 @@ pub fn explain_choice(
         ≡ terms.choice_text config.now newsgroups.now size) }
 {
     let taken = taken_of(alloc, config, newsgroups, size)?;
-    let mut text = Vec::new(alloc);
-    put_article(&mut text, newsgroups, size)?;
-    put_taken(alloc, &mut text, config, taken)?;
-    Ok(text)
+    let mut text = Text::new(alloc);
+    put_article(&mut text, newsgroups, size);
+    put_taken(&mut text, config, taken);
+    text.whole()
 }
 
 /// The class and the group that an article is given of these newsgroups, with commas between them,
@@ -49,9 +49,9 @@ fn taken_of(
 }
 
 /// Puts of which article it is told where it goes.
-fn put_article(text: &mut Vec<u8>, newsgroups: &[u8], size: u64) -> Result<(), AllocError>
-    ensures { OnOk result (text.new.items ≡ text.old.items
-        ++ (newsgroups.now ++ codes ", " ++ decimal size ++ codes " octets: ")) }
+fn put_article(text: &mut Text, newsgroups: &[u8], size: u64)
+    ensures { Adds text.old text.new
+        (newsgroups.now ++ codes ", " ++ decimal size ++ codes " octets: ") }
 {
     let mut number = Buffer::new();
     put(
@@ -62,7 +62,7 @@ fn put_article(text: &mut Vec<u8>, newsgroups: &[u8], size: u64) -> Result<(), A
             number.format(size).as_bytes(),
             b" octets: ",
         ],
-    )
+    );
 }
 
 /// The parts of a text between commas.
@@ -81,40 +81,24 @@ fn parts_of(alloc: Global, text: &[u8]) -> Result<Vec<&[u8]>, AllocError>
 
 /// Puts what is told of the entry that takes an article, by its class and its group.
 #[tactic(auto, unfolding(crate::specs::Choice::taken_text))]
-fn put_taken(
-    alloc: Global,
-    text: &mut Vec<u8>,
-    config: &Config,
-    taken: Option<(u8, u16)>,
-) -> Result<(), AllocError>
-    ensures { OnOk result (text.new.items ≡ text.old.items ++ terms.taken_text config.now taken) }
+fn put_taken(text: &mut Text, config: &Config, taken: Option<(u8, u16)>)
+    ensures { Adds text.old text.new (terms.taken_text config.now taken) }
 {
     match taken {
-        None => text.extend_from_slice(b"no entry takes it, so it is refused\n"),
-        Some((class, group)) => put_class(alloc, text, config, class, group),
+        None => text.add(b"no entry takes it, so it is refused\n"),
+        Some((class, group)) => put_class(text, config, class, group),
     }
 }
 
 /// Puts a class, and the group of this number with its buffers.
-fn put_class(
-    alloc: Global,
-    text: &mut Vec<u8>,
-    config: &Config,
-    class: u8,
-    group: u16,
-) -> Result<(), AllocError>
-    ensures { OnOk result (text.new.items ≡ text.old.items ++ (codes "class " ++ decimal class
-        ++ terms.group_end config.now.buffers.buffers.items
-        (slice_get config.now.buffers.groups.items group))) }
+fn put_class(text: &mut Text, config: &Config, class: u8, group: u16)
+    ensures { Adds text.old text.new
+        (codes "class " ++ decimal class ++ terms.group_end config.now.buffers.buffers.items
+        (slice_get config.now.buffers.groups.items group)) }
 {
     let mut number = Buffer::new();
-    put(text, &[b"class ", number.format(class).as_bytes()])?;
-    put_group_end(
-        alloc,
-        text,
-        &config.buffers.buffers,
-        group_at(config, group),
-    )
+    put(text, &[b"class ", number.format(class).as_bytes()]);
+    put_group_end(text, &config.buffers.buffers, group_at(config, group));
 }
 
 /// The group of this number, where it is there.
@@ -126,18 +110,15 @@ pub(crate) fn group_at(config: &Config, group: u16) -> Option<&GroupConf>
 
 /// Puts a group and its buffers, where it is there.
 #[tactic(auto, unfolding(crate::specs::Choice::group_end))]
-fn put_group_end(
-    alloc: Global,
-    text: &mut Vec<u8>,
-    buffers: &[BufferConf],
-    group: Option<&GroupConf>,
-) -> Result<(), AllocError>
-    ensures { OnOk result (text.new.items
-        ≡ text.old.items ++ terms.group_end buffers.now (option_copied group.entry)) }
+fn put_group_end(text: &mut Text, buffers: &[BufferConf], group: Option<&GroupConf>)
+    ensures { Adds text.old text.new (terms.group_end buffers.now (option_copied group.entry)) }
 {
-    let Some(group) = group else {
-        return text.extend_from_slice(b"\n");
-    };
-    let told = group_told(alloc, buffers, group)?;
-    put(text, &[b", ", &told, b"\n"])
+    match group {
+        None => text.add(b"\n"),
+        Some(group) => {
+            text.add(b", ");
+            put_group_told(text, buffers, group);
+            text.add(b"\n");
+        }
+    }
 }

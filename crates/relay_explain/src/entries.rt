@@ -1,14 +1,15 @@
 //! What is told of the entries of storage.conf, in the order in which they are tried.
-ghost use Rattle.std.specs.Prelude.{◌≡◌, ◌++◌, find, flat_map, map, slice_get, IfOk, OnOk};
+ghost use Rattle.std.specs.Prelude.{◌≡◌, find, flat_map, map, slice_get, OnOk};
 ghost use Rattle.std.specs.Option.{option_copied};
 ghost use Rattle.relay_explain.specs.Entries as terms;
 ghost use Rattle.relay_explain.specs.Lines.{told_line};
+ghost use Rattle.relay_explain.specs.Text.{Adds};
 
 use crate::buffers::largest_stored;
 use crate::choice::group_at;
 use crate::patterns::put_pattern_odds;
 use crate::rows::{Row, rows_of};
-use crate::text::{put, put_line, put_odd};
+use crate::text::{Text, begin_line, put, put_odd};
 use itoa::Buffer;
 use line_words::is;
 use relay_conf::{Config, StorageEntry};
@@ -21,112 +22,90 @@ const STORAGE: &[u8] = b"storage.conf";
 #[tactic(auto, unfolding(crate::specs::Entries::entries_text))]
 pub(crate) fn put_entries(
     alloc: Global,
-    text: &mut Vec<u8>,
+    text: &mut Text,
     config: &Config,
     lines: &[&[u8]],
 ) -> Result<(), AllocError>
-    ensures { OnOk result (text.new.items ≡ text.old.items
-        ++ terms.entries_text config.now (map (λ line. line.now) lines.now)) }
+    ensures { OnOk result (Adds text.old text.new
+        (terms.entries_text config.now (map (λ line. line.now) lines.now))) }
 {
     let rows = rows_of(alloc, &config.storage_entries, lines)?;
-    put_rows(alloc, text, config, &rows)?;
-    put_no_entries(text, &rows)
-}
-
-/// Puts what is told of each entry.
-fn put_rows(
-    alloc: Global,
-    text: &mut Vec<u8>,
-    config: &Config,
-    rows: &[Row<'_>],
-) -> Result<(), AllocError>
-    ensures { OnOk result (text.new.items
-        ≡ text.old.items ++ flat_map (terms.entry_text config.now rows.now) rows.now) }
-{
-    for row in rows {
-        put_entry(alloc, text, config, rows, row)?;
-    }
+    put_rows(text, config, &rows);
+    put_no_entries(text, &rows);
     Ok(())
 }
 
+/// Puts what is told of each entry.
+fn put_rows(text: &mut Text, config: &Config, rows: &[Row<'_>])
+    ensures { Adds text.old text.new (flat_map (terms.entry_text config.now rows.now) rows.now) }
+{
+    for row in rows {
+        put_entry(text, config, rows, row);
+    }
+}
+
 /// Puts what is told where there is no entry.
-fn put_no_entries(text: &mut Vec<u8>, rows: &[Row<'_>]) -> Result<(), AllocError>
-    ensures { OnOk result (text.new.items ≡ text.old.items ++ terms.no_entries rows.now) }
+fn put_no_entries(text: &mut Text, rows: &[Row<'_>])
+    ensures { Adds text.old text.new (terms.no_entries rows.now) }
 {
     if rows.len() > 0 {
-        return Ok(());
+        return;
     }
-    text.extend_from_slice(b"storage.conf: odd: there is no entry: each article is refused\n")
+    text.add(b"storage.conf: odd: there is no entry: each article is refused\n");
 }
 
 /// Puts what is told of an entry, among all.
-fn put_entry(
-    alloc: Global,
-    text: &mut Vec<u8>,
-    config: &Config,
-    rows: &[Row<'_>],
-    row: &Row<'_>,
-) -> Result<(), AllocError>
-    ensures { OnOk result (text.new.items
-        ≡ text.old.items ++ terms.entry_text config.now rows.now row.now) }
+fn put_entry(text: &mut Text, config: &Config, rows: &[Row<'_>], row: &Row<'_>)
+    ensures { Adds text.old text.new (terms.entry_text config.now rows.now row.now) }
 {
-    put_entry_line(alloc, text, config, row)?;
-    put_pattern_odds(text, STORAGE, row.line, row.newsgroups)?;
+    put_entry_line(text, config, row);
+    put_pattern_odds(text, STORAGE, row.line, row.newsgroups);
     put_odd(
         text,
         takes_no_size(largest_stored(config), row.entry),
         STORAGE,
         row.line,
         &[b"no article has such a size"],
-    )?;
-    put_shadow_odd(text, row.line, shadow_of(rows, row))
+    );
+    put_shadow_odd(text, row.line, shadow_of(rows, row));
 }
 
 /// Puts the line of an entry.
 #[tactic(auto, unfolding(crate::specs::Entries::entry_told))]
-fn put_entry_line(
-    alloc: Global,
-    text: &mut Vec<u8>,
-    config: &Config,
-    row: &Row<'_>,
-) -> Result<(), AllocError>
-    ensures { OnOk result (text.new.items ≡ text.old.items
-        ++ told_line terms.storage row.now.line (terms.entry_told config.now row.now)) }
+fn put_entry_line(text: &mut Text, config: &Config, row: &Row<'_>)
+    ensures { Adds text.old text.new
+        (told_line terms.storage row.now.line (terms.entry_told config.now row.now)) }
 {
-    let taken = taken_text(alloc, row)?;
     let (mut number, mut class) = (Buffer::new(), Buffer::new());
-    put_line(
+    let number = number.format(row.number).as_bytes();
+    begin_line(text, STORAGE, row.line);
+    put(text, &[b"entry ", number, b" takes articles of "]);
+    put_taken(text, row);
+    put(
         text,
-        STORAGE,
-        row.line,
         &[
-            b"entry ",
-            number.format(row.number).as_bytes(),
-            b" takes articles of ",
-            &taken,
             b": class ",
             class.format(row.entry.class).as_bytes(),
             b", group ",
             group_name(config, row.entry.group),
         ],
-    )
+    );
+    text.add(b"\n");
 }
 
-/// The articles that an entry takes: their sizes, their newsgroups, and how many of these have to
-/// match.
+/// Puts the articles that an entry takes: their sizes, their newsgroups, and how many of these have
+/// to match.
 #[tactic(auto, unfolding(crate::specs::Entries::taken_text))]
-fn taken_text(alloc: Global, row: &Row<'_>) -> Result<Vec<u8>, AllocError>
-    ensures { IfOk result (λ text. text.items ≡ terms.taken_text row.now) }
+fn put_taken(text: &mut Text, row: &Row<'_>)
+    ensures { Adds text.old text.new (terms.taken_text row.now) }
 {
-    let mut text = Vec::new(alloc);
-    put_sizes(&mut text, row.entry.smallest, row.entry.largest)?;
-    put_newsgroups(&mut text, row)?;
-    Ok(text)
+    put_sizes(text, row.entry.smallest, row.entry.largest);
+    put_newsgroups(text, row);
 }
 
 /// Puts the newsgroups that an entry takes, and how many of an article's have to match.
-fn put_newsgroups(text: &mut Vec<u8>, row: &Row<'_>) -> Result<(), AllocError>
-    ensures { OnOk result (text.new.items ≡ text.old.items ++ terms.newsgroups_text row.now) }
+fn put_newsgroups(text: &mut Text, row: &Row<'_>)
+    ensures { Adds text.old text.new (terms.newsgroups_text row.now) }
 {
     if row.entry.exactmatch {
         return put(
@@ -137,13 +116,13 @@ fn put_newsgroups(text: &mut Vec<u8>, row: &Row<'_>) -> Result<(), AllocError>
     put(
         text,
         &[b" in newsgroups ", row.newsgroups, b" (one of them)"],
-    )
+    );
 }
 
 /// Puts the sizes that an entry takes.
 #[tactic(auto, unfolding(crate::specs::Entries::sizes_text))]
-fn put_sizes(text: &mut Vec<u8>, smallest: u64, largest: Option<u64>) -> Result<(), AllocError>
-    ensures { OnOk result (text.new.items ≡ text.old.items ++ terms.sizes_text smallest largest) }
+fn put_sizes(text: &mut Text, smallest: u64, largest: Option<u64>)
+    ensures { Adds text.old text.new (terms.sizes_text smallest largest) }
 {
     let (mut least, mut most) = (Buffer::new(), Buffer::new());
     let least = least.format(smallest).as_bytes();
@@ -177,16 +156,11 @@ fn takes_no_size(largest_stored: u64, entry: &StorageEntry) -> bool
 
 /// Puts what is odd in an entry that an earlier one, the first of these, shadows.
 #[tactic(auto, unfolding(crate::specs::Entries::shadow_odd))]
-fn put_shadow_odd(
-    text: &mut Vec<u8>,
-    line: usize,
-    first: Option<&Row<'_>>,
-) -> Result<(), AllocError>
-    ensures { OnOk result (text.new.items
-        ≡ text.old.items ++ terms.shadow_odd line (option_copied first.entry)) }
+fn put_shadow_odd(text: &mut Text, line: usize, first: Option<&Row<'_>>)
+    ensures { Adds text.old text.new (terms.shadow_odd line (option_copied first.entry)) }
 {
     match first {
-        None => Ok(()),
+        None => {}
         Some(first) => {
             let mut number = Buffer::new();
             put_odd(
@@ -198,7 +172,7 @@ fn put_shadow_odd(
                     b"the entry takes nothing: all of it is taken by entry ",
                     number.format(first.number).as_bytes(),
                 ],
-            )
+            );
         }
     }
 }

@@ -1,51 +1,41 @@
 //! What is told of the feeds of relay.conf.
-ghost use Rattle.std.specs.Prelude.{◌≡◌, ◌++◌, drop, map, slice_get, OnOk};
+ghost use Rattle.std.specs.Prelude.{◌≡◌, drop, map, slice_get};
 ghost use Rattle.std.specs.Option.{option_copied};
 ghost use Rattle.line_words.specs.Words.{words};
 ghost use Rattle.line_words.specs.declared.words.Between.TheVariants.{Spaces};
 ghost use Rattle.relay_explain.specs.Lines.{line_at, told_line};
 ghost use Rattle.relay_explain.specs.Peers as terms;
 ghost use Rattle.relay_explain.specs.Settings.{relay_conf};
+ghost use Rattle.relay_explain.specs.Text.{Adds};
 
 use crate::lines::{line_at, peer_line};
 use crate::patterns::put_pattern_odds;
 use crate::settings::RELAY;
-use crate::text::{put_line, put_odd};
+use crate::text::{Text, put_line, put_odd};
 use itoa::Buffer;
 use line_words::{Between, first_word, trim};
 use relay_conf::{Feed, Peer, Relay};
-use std::alloc::AllocError;
 
 /// Puts what is told of all feeds.
 #[tactic(auto, unfolding(crate::specs::Peers::feeds_text))]
-pub(crate) fn put_feeds(
-    text: &mut Vec<u8>,
-    relay: &Relay,
-    lines: &[&[u8]],
-) -> Result<(), AllocError>
-    ensures { OnOk result (text.new.items ≡ text.old.items
-        ++ terms.feeds_text relay.now (map (λ line. line.now) lines.now)) }
+pub(crate) fn put_feeds(text: &mut Text, relay: &Relay, lines: &[&[u8]])
+    ensures { Adds text.old text.new
+        (terms.feeds_text relay.now (map (λ line. line.now) lines.now)) }
 {
     for feed in &relay.feeds {
-        put_feed(text, relay, lines, feed)?;
+        put_feed(text, relay, lines, feed);
     }
-    Ok(())
 }
 
 /// Puts what is told of a feed.
-fn put_feed(
-    text: &mut Vec<u8>,
-    relay: &Relay,
-    lines: &[&[u8]],
-    feed: &Feed,
-) -> Result<(), AllocError>
-    ensures { OnOk result (text.new.items ≡ text.old.items
-        ++ terms.feed_text relay.now (map (λ line. line.now) lines.now) feed.now) }
+fn put_feed(text: &mut Text, relay: &Relay, lines: &[&[u8]], feed: &Feed)
+    ensures { Adds text.old text.new
+        (terms.feed_text relay.now (map (λ line. line.now) lines.now) feed.now) }
 {
     let peer = peer_at(relay, feed.peer);
     let line = peer_line(lines, b"feed", name_of(peer));
     let newsgroups = newsgroups_at(lines, line);
-    put_told_on(text, line, newsgroups, peer, feed)
+    put_told_on(text, line, newsgroups, peer, feed);
 }
 
 /// The peer of this number, where it is there.
@@ -65,45 +55,33 @@ fn newsgroups_at<'a>(lines: &[&'a [u8]], line: usize) -> &'a [u8]
 
 /// Puts what is told of a feed of this peer, which this line says with these newsgroups.
 #[tactic(auto, unfolding(crate::specs::Peers::feed_told_on))]
-fn put_told_on(
-    text: &mut Vec<u8>,
-    line: usize,
-    newsgroups: &[u8],
-    peer: Option<&Peer>,
-    feed: &Feed,
-) -> Result<(), AllocError>
-    ensures { OnOk result (text.new.items ≡ text.old.items
-        ++ terms.feed_told_on line newsgroups.now (option_copied peer.entry) feed.now) }
+fn put_told_on(text: &mut Text, line: usize, newsgroups: &[u8], peer: Option<&Peer>, feed: &Feed)
+    ensures { Adds text.old text.new
+        (terms.feed_told_on line newsgroups.now (option_copied peer.entry) feed.now) }
 {
-    put_feed_line(text, line, newsgroups, name_of(peer), feed.ring)?;
-    put_pattern_odds(text, RELAY, line, newsgroups)?;
+    put_feed_line(text, line, newsgroups, name_of(peer), feed.ring);
+    put_pattern_odds(text, RELAY, line, newsgroups);
     put_odd(
         text,
         port_of(peer) == 0,
         RELAY,
         line,
         &[b"the peer has no port, so nobody takes the feed"],
-    )?;
+    );
     put_odd(
         text,
         feed.ring == 1,
         RELAY,
         line,
         &[b"of a ring of 1 only the newest token is ever there"],
-    )
+    );
 }
 
 /// Puts the line of a feed of the peer of this name.
 #[tactic(auto, unfolding(crate::specs::Peers::feed_told))]
-fn put_feed_line(
-    text: &mut Vec<u8>,
-    line: usize,
-    newsgroups: &[u8],
-    name: &[u8],
-    ring: u32,
-) -> Result<(), AllocError>
-    ensures { OnOk result (text.new.items ≡ text.old.items
-        ++ told_line relay_conf line (terms.feed_told name.now newsgroups.now ring)) }
+fn put_feed_line(text: &mut Text, line: usize, newsgroups: &[u8], name: &[u8], ring: u32)
+    ensures { Adds text.old text.new
+        (told_line relay_conf line (terms.feed_told name.now newsgroups.now ring)) }
 {
     let mut digits = Buffer::new();
     put_line(
@@ -118,7 +96,7 @@ fn put_feed_line(
             b", tokens that wait at most: ",
             digits.format(ring).as_bytes(),
         ],
-    )
+    );
 }
 
 /// The name of a peer; one that isn't there has none.

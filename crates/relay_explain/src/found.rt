@@ -1,12 +1,12 @@
 //! What lies where the file of a buffer is to be.
-ghost use Rattle.std.specs.Prelude.{◌≡◌, ◌==◌, ◌++◌, OnOk, Some};
+ghost use Rattle.std.specs.Prelude.{◌≡◌, ◌==◌, Some};
 ghost use Rattle.std.specs.List.{list_all};
 ghost use Rattle.std.specs.Option.{option_copied};
 ghost use Rattle.relay_explain.specs.Found.{found_text, odd_file};
 ghost use Rattle.relay_explain.specs.Found as terms;
+ghost use Rattle.relay_explain.specs.Text.{Adds};
 
-use crate::text::{put_line, put_odd};
-use std::alloc::AllocError;
+use crate::text::{Text, put_line, put_odd};
 
 /// The file in which buffers and groups are said.
 pub(crate) const CYCBUFF: &[u8] = b"cycbuff.conf";
@@ -57,29 +57,22 @@ fn has_zeros_alone(front: &[u8]) -> bool
 
 /// Puts what is told of the file of a buffer, which this line names, by what lies there.
 #[tactic(auto, unfolding(crate::specs::Found::found_text))]
-pub(crate) fn put_found(
-    text: &mut Vec<u8>,
-    line: usize,
-    file: &[u8],
-    found: Option<&Found>,
-) -> Result<(), AllocError>
-    ensures { OnOk result (text.new.items
-        ≡ text.old.items ++ found_text line file.now (option_copied found.entry)) }
+pub(crate) fn put_found(text: &mut Text, line: usize, file: &[u8], found: Option<&Found>)
+    ensures { Adds text.old text.new (found_text line file.now (option_copied found.entry)) }
 {
     match found {
-        None => Ok(()),
+        None => {}
         Some(found) => put_lying(text, line, file, *found),
     }
 }
 
 /// Puts what is told of the file of a buffer, which this line names, where this lies there.
 #[tactic(auto, unfolding(crate::specs::Found::found_text))]
-fn put_lying(text: &mut Vec<u8>, line: usize, file: &[u8], found: Found) -> Result<(), AllocError>
-    ensures { OnOk result (text.new.items
-        ≡ text.old.items ++ found_text line file.now (Some found)) }
+fn put_lying(text: &mut Text, line: usize, file: &[u8], found: Found)
+    ensures { Adds text.old text.new (found_text line file.now (Some found)) }
 {
     match found {
-        Found::Fit => Ok(()),
+        Found::Fit => {}
         Found::Absent => {
             let told = b" isn't there: a start makes it".as_slice();
             put_line(text, CYCBUFF, line, &[b"file ", file, told])
@@ -105,9 +98,8 @@ fn put_lying(text: &mut Vec<u8>, line: usize, file: &[u8], found: Found) -> Resu
 }
 
 /// Puts what is odd of the file of a buffer, which this line names.
-fn put_odd_file(text: &mut Vec<u8>, line: usize, file: &[u8], told: &[u8]) -> Result<(), AllocError>
-    ensures { OnOk result (text.new.items
-        ≡ text.old.items ++ odd_file line file.now told.now) }
+fn put_odd_file(text: &mut Text, line: usize, file: &[u8], told: &[u8])
+    ensures { Adds text.old text.new (odd_file line file.now told.now) }
 {
-    put_odd(text, true, CYCBUFF, line, &[b"file ", file, told])
+    put_odd(text, true, CYCBUFF, line, &[b"file ", file, told]);
 }

@@ -1,66 +1,49 @@
 //! What is told of the groups of cycbuff.conf.
-ghost use Rattle.std.specs.Prelude.{◌≡◌, ◌++◌, codes, flat_map, map, slice_get, IfOk, OnOk};
+ghost use Rattle.std.specs.Prelude.{◌≡◌, ◌++◌, codes, flat_map, map, slice_get};
 ghost use Rattle.relay_explain.specs.Buffers as terms;
+ghost use Rattle.relay_explain.specs.Text.{Adds};
 
 use crate::found::CYCBUFF;
 use crate::lines::named_line;
-use crate::text::{put, put_line};
+use crate::text::{Text, begin_line, put};
 use relay_conf::{BufferConf, Config, GroupConf, Mode};
-use std::alloc::{AllocError, Global};
 
 /// Puts what is told of all groups.
 #[tactic(auto, unfolding(crate::specs::Buffers::groups_text))]
-pub(crate) fn put_groups(
-    alloc: Global,
-    text: &mut Vec<u8>,
-    config: &Config,
-    lines: &[&[u8]],
-) -> Result<(), AllocError>
-    ensures { OnOk result (text.new.items ≡ text.old.items
-        ++ terms.groups_text config.now (map (λ line. line.now) lines.now)) }
+pub(crate) fn put_groups(text: &mut Text, config: &Config, lines: &[&[u8]])
+    ensures { Adds text.old text.new
+        (terms.groups_text config.now (map (λ line. line.now) lines.now)) }
 {
     for group in &config.buffers.groups {
-        put_group(alloc, text, config, lines, group)?;
+        put_group(text, config, lines, group);
     }
-    Ok(())
 }
 
 /// Puts what is told of a group.
-fn put_group(
-    alloc: Global,
-    text: &mut Vec<u8>,
-    config: &Config,
-    lines: &[&[u8]],
-    group: &GroupConf,
-) -> Result<(), AllocError>
-    ensures { OnOk result (text.new.items ≡ text.old.items
-        ++ terms.group_text config.now (map (λ line. line.now) lines.now) group.now) }
+fn put_group(text: &mut Text, config: &Config, lines: &[&[u8]], group: &GroupConf)
+    ensures { Adds text.old text.new
+        (terms.group_text config.now (map (λ line. line.now) lines.now) group.now) }
 {
-    let told = group_told(alloc, &config.buffers.buffers, group)?;
     let line = named_line(lines, b"metacycbuff", group.name.as_slice());
-    put_line(text, CYCBUFF, line, &[&told])
+    begin_line(text, CYCBUFF, line);
+    put_group_told(text, &config.buffers.buffers, group);
+    text.add(b"\n");
 }
 
-/// A group, its mode, and its buffers in their order.
+/// Puts a group, its mode, and its buffers in their order.
 #[tactic(auto, unfolding(crate::specs::Buffers::group_told))]
-pub(crate) fn group_told(
-    alloc: Global,
-    buffers: &[BufferConf],
-    group: &GroupConf,
-) -> Result<Vec<u8>, AllocError>
-    ensures { IfOk result (λ told. told.items ≡ terms.group_told buffers.now group.now) }
+pub(crate) fn put_group_told(text: &mut Text, buffers: &[BufferConf], group: &GroupConf)
+    ensures { Adds text.old text.new (terms.group_told buffers.now group.now) }
 {
-    let mut told = Vec::new(alloc);
-    put_mode(&mut told, group)?;
-    put_members(&mut told, buffers, &group.buffers)?;
-    Ok(told)
+    put_mode(text, group);
+    put_members(text, buffers, &group.buffers);
 }
 
 /// Puts a group and how it fills its buffers.
 #[tactic(auto, unfolding(crate::specs::Buffers::mode_text))]
-fn put_mode(text: &mut Vec<u8>, group: &GroupConf) -> Result<(), AllocError>
-    ensures { OnOk result (text.new.items ≡ text.old.items
-        ++ (codes "group " ++ group.now.name ++ terms.mode_text group.now.mode)) }
+fn put_mode(text: &mut Text, group: &GroupConf)
+    ensures { Adds text.old text.new
+        (codes "group " ++ group.now.name ++ terms.mode_text group.now.mode) }
 {
     let name = group.name.as_slice();
     match group.mode {
@@ -73,18 +56,12 @@ fn put_mode(text: &mut Vec<u8>, group: &GroupConf) -> Result<(), AllocError>
 }
 
 /// Puts the names of the buffers of these numbers.
-fn put_members(
-    text: &mut Vec<u8>,
-    buffers: &[BufferConf],
-    numbers: &[usize],
-) -> Result<(), AllocError>
-    ensures { OnOk result (text.new.items
-        ≡ text.old.items ++ flat_map (terms.member_text buffers.now) numbers.now) }
+fn put_members(text: &mut Text, buffers: &[BufferConf], numbers: &[usize])
+    ensures { Adds text.old text.new (flat_map (terms.member_text buffers.now) numbers.now) }
 {
     for number in numbers {
-        put(text, &[b" ", buffer_name(buffers, *number)])?;
+        put(text, &[b" ", buffer_name(buffers, *number)]);
     }
-    Ok(())
 }
 
 /// The name of the buffer of this number; one that isn't there has none.

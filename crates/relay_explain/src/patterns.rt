@@ -1,11 +1,11 @@
 //! What is odd in the text of an expression over newsgroups.
-ghost use Rattle.std.specs.Prelude.{◌≡◌, ◌++◌, OnOk};
+ghost use Rattle.std.specs.Prelude.{◌≡◌};
 ghost use Rattle.std.specs.Option.{option_copied};
 ghost use Rattle.relay_explain.specs.Patterns as terms;
+ghost use Rattle.relay_explain.specs.Text.{Adds};
 
-use crate::text::put_odd;
+use crate::text::{Text, put_odd};
 use itoa::Buffer;
-use std::alloc::AllocError;
 
 /// The octets of a name that are no letters and no digits.
 const NAME_MARKS: &[u8] = b"+-_.";
@@ -28,38 +28,26 @@ pub(crate) enum Place {
 
 /// Puts what is odd in the text of an expression.
 #[tactic(auto, unfolding(crate::specs::Patterns::pattern_odds))]
-pub(crate) fn put_pattern_odds(
-    text: &mut Vec<u8>,
-    file: &[u8],
-    line: usize,
-    expression: &[u8],
-) -> Result<(), AllocError>
-    ensures { OnOk result (text.new.items
-        ≡ text.old.items ++ terms.pattern_odds file.now line expression.now) }
+pub(crate) fn put_pattern_odds(text: &mut Text, file: &[u8], line: usize, expression: &[u8])
+    ensures { Adds text.old text.new (terms.pattern_odds file.now line expression.now) }
 {
-    put_octet(text, file, line, odd_octet(expression))?;
+    put_octet(text, file, line, odd_octet(expression));
     put_odd(
         text,
         !has_taking(expression),
         file,
         line,
         &[b"no newsgroup matches"],
-    )
+    );
 }
 
 /// Puts what is told of an octet that no newsgroup's name has.
 #[tactic(auto, unfolding(crate::specs::Patterns::octet_text))]
-fn put_octet(
-    text: &mut Vec<u8>,
-    file: &[u8],
-    line: usize,
-    octet: Option<&u8>,
-) -> Result<(), AllocError>
-    ensures { OnOk result (text.new.items
-        ≡ text.old.items ++ terms.octet_text file.now line (option_copied octet.entry)) }
+fn put_octet(text: &mut Text, file: &[u8], line: usize, octet: Option<&u8>)
+    ensures { Adds text.old text.new (terms.octet_text file.now line (option_copied octet.entry)) }
 {
     let Some(octet) = octet else {
-        return Ok(());
+        return;
     };
     let mut number = Buffer::new();
     put_odd(
@@ -72,7 +60,7 @@ fn put_octet(
             number.format(*octet).as_bytes(),
             b", which no newsgroup has: it matches none by it",
         ],
-    )
+    );
 }
 
 /// The first octet of an expression that neither a name nor a pattern has.

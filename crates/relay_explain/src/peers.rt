@@ -1,56 +1,44 @@
 //! What is told of the peers of relay.conf.
-ghost use Rattle.std.specs.Prelude.{◌≡◌, ◌++◌, map, take, OnOk};
+ghost use Rattle.std.specs.Prelude.{◌≡◌, map, take};
 ghost use Rattle.std.specs.Option.{option_copied};
 ghost use Rattle.relay_explain.specs.Lines.{told_line};
 ghost use Rattle.relay_explain.specs.Peers as terms;
 ghost use Rattle.relay_explain.specs.Settings.{relay_conf};
+ghost use Rattle.relay_explain.specs.Text.{Adds};
 
 use crate::lines::peer_line;
 use crate::rows::first_ones;
 use crate::settings::RELAY;
-use crate::text::{put_line, put_odd, put_shared};
+use crate::text::{Text, put_line, put_odd, put_shared};
 use itoa::Buffer;
 use line_words::is;
 use relay_conf::{Peer, Relay};
-use std::alloc::AllocError;
 
 /// Puts what is told of all peers.
 #[tactic(auto, unfolding(crate::specs::Peers::peers_text))]
-pub(crate) fn put_peers(
-    text: &mut Vec<u8>,
-    relay: &Relay,
-    lines: &[&[u8]],
-) -> Result<(), AllocError>
-    ensures { OnOk result (text.new.items ≡ text.old.items
-        ++ terms.peers_text relay.now (map (λ line. line.now) lines.now)) }
+pub(crate) fn put_peers(text: &mut Text, relay: &Relay, lines: &[&[u8]])
+    ensures { Adds text.old text.new
+        (terms.peers_text relay.now (map (λ line. line.now) lines.now)) }
 {
     for (number, peer) in relay.peers.iter().enumerate() {
-        put_peer(text, relay, lines, number, peer)?;
+        put_peer(text, relay, lines, number, peer);
     }
-    Ok(())
 }
 
 /// Puts what is told of the peer of this number.
-fn put_peer(
-    text: &mut Vec<u8>,
-    relay: &Relay,
-    lines: &[&[u8]],
-    number: usize,
-    peer: &Peer,
-) -> Result<(), AllocError>
-    ensures { OnOk result (text.new.items ≡ text.old.items
-        ++ terms.peer_text relay.now (map (λ line. line.now) lines.now) (number, peer.now)) }
+fn put_peer(text: &mut Text, relay: &Relay, lines: &[&[u8]], number: usize, peer: &Peer)
+    ensures { Adds text.old text.new
+        (terms.peer_text relay.now (map (λ line. line.now) lines.now) (number, peer.now)) }
 {
     let line = peer_line(lines, b"peer", peer.name.as_slice());
-    put_peer_line(text, line, peer)?;
-    put_odds(text, relay, line, number, peer)
+    put_peer_line(text, line, peer);
+    put_odds(text, relay, line, number, peer);
 }
 
 /// Puts the line of a peer.
 #[tactic(auto, unfolding(crate::specs::Peers::peer_told, crate::specs::Peers::port_text))]
-fn put_peer_line(text: &mut Vec<u8>, line: usize, peer: &Peer) -> Result<(), AllocError>
-    ensures { OnOk result (text.new.items
-        ≡ text.old.items ++ told_line relay_conf line (terms.peer_told peer.now)) }
+fn put_peer_line(text: &mut Text, line: usize, peer: &Peer)
+    ensures { Adds text.old text.new (told_line relay_conf line (terms.peer_told peer.now)) }
 {
     let (name, identity) = (peer.name.as_slice(), peer.identity.as_slice());
     if peer.port == 0 {
@@ -78,20 +66,13 @@ fn put_peer_line(text: &mut Vec<u8>, line: usize, peer: &Peer) -> Result<(), All
             b", connections at once: ",
             connections.format(peer.connections).as_bytes(),
         ],
-    )
+    );
 }
 
 /// Puts what is odd in a peer of this number.
 #[tactic(auto, unfolding(crate::specs::Peers::peer_odds))]
-fn put_odds(
-    text: &mut Vec<u8>,
-    relay: &Relay,
-    line: usize,
-    number: usize,
-    peer: &Peer,
-) -> Result<(), AllocError>
-    ensures { OnOk result (text.new.items
-        ≡ text.old.items ++ terms.peer_odds relay.now line number peer.now) }
+fn put_odds(text: &mut Text, relay: &Relay, line: usize, number: usize, peer: &Peer)
+    ensures { Adds text.old text.new (terms.peer_odds relay.now line number peer.now) }
 {
     let identity = peer.identity.as_slice();
     put_shared(
@@ -100,21 +81,21 @@ fn put_odds(
         line,
         b"the port is taken: no start serves it beside that of peer ",
         first_on(&relay.peers, number, peer.port),
-    )?;
+    );
     put_shared(
         text,
         RELAY,
         line,
         b"the identity is that of peer ",
         first_known_as(first_ones(&relay.peers, number), identity),
-    )?;
+    );
     put_odd(
         text,
         is(identity, relay.own.as_slice()),
         RELAY,
         line,
         &[b"the identity is the relay's own"],
-    )
+    );
 }
 
 /// The name of the first of so many peers that is served on this port.

@@ -3,9 +3,10 @@ ghost use Rattle.std.specs.Prelude.{◌≡◌, ◌++◌, codes, decimal, map, st
 ghost use Rattle.std.specs.Net.Addr.{ipv4_octets};
 ghost use Rattle.std.specs.Net.Text.{ipv4_text};
 ghost use Rattle.relay_explain.specs.Settings as terms;
+ghost use Rattle.relay_explain.specs.Text.{Adds};
 
 use crate::lines::key_line;
-use crate::text::{put, put_line, put_odd};
+use crate::text::{Text, put, put_line, put_odd};
 use itoa::Buffer;
 use relay_conf::Relay;
 use std::alloc::{AllocError, Global};
@@ -21,67 +22,52 @@ const DAY: u128 = 86_400;
 #[tactic(auto, unfolding(crate::specs::Settings::settings_text))]
 pub(crate) fn put_settings(
     alloc: Global,
-    text: &mut Vec<u8>,
+    text: &mut Text,
     relay: &Relay,
     lines: &[&[u8]],
 ) -> Result<(), AllocError>
-    ensures { OnOk result (text.new.items ≡ text.old.items
-        ++ terms.settings_text relay.now (map (λ line. line.now) lines.now)) }
+    ensures { OnOk result (Adds text.old text.new
+        (terms.settings_text relay.now (map (λ line. line.now) lines.now))) }
 {
-    put_setting(
-        text,
-        lines,
-        b"own",
-        relay.own.as_slice(),
-        b"the relay's identity",
-    )?;
+    let address = address_text(alloc, &relay.bind)?;
+    let own = relay.own.as_slice();
+    put_setting(text, lines, b"own", own, b"the relay's identity");
     put_number(
         text,
         lines,
         b"maxart",
         u64::from(relay.max_article),
         b"octets of the largest article that is received",
-    )?;
+    );
     put_number(
         text,
         lines,
         b"cutoff",
         relay.cutoff,
         b"seconds past which an article is too old",
-    )?;
-    put_remember(text, lines, relay.cutoff, relay.remember)?;
-    put_ports(alloc, text, relay, lines)
+    );
+    put_remember(text, lines, relay.cutoff, relay.remember);
+    put_ports(text, lines, relay.patience, address.as_bytes());
+    Ok(())
 }
 
-/// Puts what is told of how its ports listen.
-fn put_ports(
-    alloc: Global,
-    text: &mut Vec<u8>,
-    relay: &Relay,
-    lines: &[&[u8]],
-) -> Result<(), AllocError>
-    ensures { OnOk result (text.new.items ≡ text.old.items
-        ++ terms.setting_text (map (λ line. line.now) lines.now) (codes "patience")
-        (decimal relay.now.patience) (codes "seconds for which a silent peer is waited for")
-        ++ terms.setting_text (map (λ line. line.now) lines.now) (codes "bind")
-        (ipv4_text (ipv4_octets relay.now.bind))
+/// Puts what is told of how its ports listen, at this address.
+fn put_ports(text: &mut Text, lines: &[&[u8]], patience: u32, address: &[u8])
+    ensures { Adds text.old text.new
+        (terms.setting_text (map (λ line. line.now) lines.now) (codes "patience")
+        (decimal patience) (codes "seconds for which a silent peer is waited for")
+        ++ terms.setting_text (map (λ line. line.now) lines.now) (codes "bind") address.now
         (codes "the address on which ports listen, 0.0.0.0 for all")) }
 {
     put_number(
         text,
         lines,
         b"patience",
-        u64::from(relay.patience),
+        u64::from(patience),
         b"seconds for which a silent peer is waited for",
-    )?;
-    let address = address_text(alloc, &relay.bind)?;
-    put_setting(
-        text,
-        lines,
-        b"bind",
-        address.as_bytes(),
-        b"the address on which ports listen, 0.0.0.0 for all",
-    )
+    );
+    let told = b"the address on which ports listen, 0.0.0.0 for all";
+    put_setting(text, lines, b"bind", address, told);
 }
 
 /// An address as it is written.
@@ -93,22 +79,15 @@ fn address_text(alloc: Global, address: &Ipv4Addr) -> Result<String, AllocError>
 
 /// Puts what is told of how long ids are remembered.
 #[tactic(auto, unfolding(crate::specs::Settings::remember_text))]
-fn put_remember(
-    text: &mut Vec<u8>,
-    lines: &[&[u8]],
-    cutoff: u64,
-    remember: Option<u64>,
-) -> Result<(), AllocError>
-    ensures { OnOk result (text.new.items ≡ text.old.items
-        ++ terms.remember_text (map (λ line. line.now) lines.now) cutoff remember) }
+fn put_remember(text: &mut Text, lines: &[&[u8]], cutoff: u64, remember: Option<u64>)
+    ensures { Adds text.old text.new
+        (terms.remember_text (map (λ line. line.now) lines.now) cutoff remember) }
 {
     match remember {
-        None => text.extend_from_slice(
-            b"relay.conf: remember (no line says it): no message-id is forgotten\n",
-        ),
+        None => text.add(b"relay.conf: remember (no line says it): no message-id is forgotten\n"),
         Some(seconds) => {
             let told = b"seconds for which a message-id is remembered at least".as_slice();
-            put_number(text, lines, b"remember", seconds, told)?;
+            put_number(text, lines, b"remember", seconds, told);
             put_odd(
                 text,
                 is_soon_forgotten(cutoff, seconds),
@@ -118,7 +97,7 @@ fn put_remember(
                     b"an article of a message-id that is forgotten may come again: ",
                     b"remember isn't above cutoff by more than 86400",
                 ],
-            )
+            );
         }
     }
 }
@@ -131,33 +110,20 @@ fn is_soon_forgotten(cutoff: u64, seconds: u64) -> bool
 }
 
 /// Puts a setting that is a number, and what it means.
-fn put_number(
-    text: &mut Vec<u8>,
-    lines: &[&[u8]],
-    key: &[u8],
-    number: u64,
-    meaning: &[u8],
-) -> Result<(), AllocError>
-    ensures { OnOk result (text.new.items ≡ text.old.items
-        ++ terms.setting_text (map (λ line. line.now) lines.now) key.now (decimal number)
+fn put_number(text: &mut Text, lines: &[&[u8]], key: &[u8], number: u64, meaning: &[u8])
+    ensures { Adds text.old text.new
+        (terms.setting_text (map (λ line. line.now) lines.now) key.now (decimal number)
         meaning.now) }
 {
     let mut digits = Buffer::new();
-    put_setting(text, lines, key, digits.format(number).as_bytes(), meaning)
+    put_setting(text, lines, key, digits.format(number).as_bytes(), meaning);
 }
 
 /// Puts a setting, its value, and what it means.
 #[tactic(auto, unfolding(crate::specs::Settings::setting_text))]
-fn put_setting(
-    text: &mut Vec<u8>,
-    lines: &[&[u8]],
-    key: &[u8],
-    value: &[u8],
-    meaning: &[u8],
-) -> Result<(), AllocError>
-    ensures { OnOk result (text.new.items ≡ text.old.items
-        ++ terms.setting_text (map (λ line. line.now) lines.now) key.now value.now
-        meaning.now) }
+fn put_setting(text: &mut Text, lines: &[&[u8]], key: &[u8], value: &[u8], meaning: &[u8])
+    ensures { Adds text.old text.new
+        (terms.setting_text (map (λ line. line.now) lines.now) key.now value.now meaning.now) }
 {
     let line = key_line(lines, key);
     if lines.len() < line {
@@ -174,5 +140,5 @@ fn put_setting(
             ],
         );
     }
-    put_line(text, RELAY, line, &[key, b" ", value, b": ", meaning])
+    put_line(text, RELAY, line, &[key, b" ", value, b": ", meaning]);
 }

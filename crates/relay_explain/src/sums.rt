@@ -1,17 +1,17 @@
 //! What a configuration takes of the machine, added up.
-ghost use Rattle.std.specs.Prelude.{◌≡◌, ◌*◌, ◌^◌, ◌≤◌, ◌++◌, length, OnOk};
+ghost use Rattle.std.specs.Prelude.{◌≡◌, ◌*◌, ◌^◌, ◌≤◌, length};
 ghost use Rattle.relay_explain.specs.Sums as terms;
+ghost use Rattle.relay_explain.specs.Text.{Adds};
 
 use crate::buffers::file_octets;
-use crate::text::put;
+use crate::text::{Text, put};
 use itoa::Buffer;
 use relay_conf::{BufferConf, Config, Feed, Peer};
-use std::alloc::AllocError;
 
 /// Puts what a configuration takes of the machine.
 #[tactic(auto, unfolding(crate::specs::Sums::wants_text))]
-pub(crate) fn put_wants(text: &mut Vec<u8>, config: &Config) -> Result<(), AllocError>
-    ensures { OnOk result (text.new.items ≡ text.old.items ++ terms.wants_text config.now) }
+pub(crate) fn put_wants(text: &mut Text, config: &Config)
+    ensures { Adds text.old text.new (terms.wants_text config.now) }
 {
     let (mut disk, mut memory) = (Buffer::new(), Buffer::new());
     let (mut connections, mut descriptors) = (Buffer::new(), Buffer::new());
@@ -30,7 +30,7 @@ pub(crate) fn put_wants(text: &mut Vec<u8>, config: &Config) -> Result<(), Alloc
             descriptors.format(descriptors_of(config)).as_bytes(),
             b"\n",
         ],
-    )
+    );
 }
 
 /// The octets that all files of buffers have.

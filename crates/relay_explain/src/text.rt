@@ -1,77 +1,117 @@
-//! The lines that are told.
-ghost use Rattle.std.specs.Prelude.{◌≡◌, ◌++◌, map, OnOk};
+//! The text that is told, and its lines.
+ghost use Rattle.std.specs.Prelude.{◌≡◌, [], map, IfOk, Some};
 ghost use Rattle.std.specs.Option.{option_copied};
-ghost use Rattle.relay_explain.specs.Lines.{joined, odd_line, shared_line, told_line};
+ghost use Rattle.relay_explain.specs.Lines.{joined, line_head, odd_line, shared_line, told_line};
+ghost use Rattle.relay_explain.specs.Text.{Adds};
 
 use itoa::Buffer;
-use std::alloc::AllocError;
+use std::alloc::{AllocError, Global};
+use std::marker::Model;
+
+/// A text that is put together. That memory ran out is noted, and told at the end: so what puts
+/// something has no result, and nothing has to be looked at in between. A contract sees what is
+/// there, or that memory ran out.
+#[derive(Drop)]
+pub(crate) struct Text {
+    octets: Vec<u8>,
+    done: Result<(), AllocError>,
+}
+
+impl Model for Text {
+    ghost use Rattle.std.specs.Prelude.{ℕ, is_ok, List, None, Option, Some};
+    ghost use Rattle.std.specs.Prelude.{if◌then◌else◌};
+
+    ghost Value = { Option (List ℕ) };
+
+    ghost view = { λ text. if is_ok text.done then Some text.octets.items else None };
+}
+
+impl Text {
+    /// Nothing is put.
+    pub(crate) fn new(alloc: Global) -> Text
+        ensures { result ≡ Some [] }
+    {
+        Text {
+            octets: Vec::new(alloc),
+            done: Ok(()),
+        }
+    }
+
+    /// Puts octets behind what is there.
+    pub(crate) fn add(&mut self, octets: &[u8])
+        ensures { Adds self.old self.new octets.now }
+    {
+        if self.done.is_ok() {
+            self.done = self.octets.extend_from_slice(octets);
+        }
+    }
+
+    /// What is there, where memory didn't run out.
+    pub(crate) fn whole(self) -> Result<Vec<u8>, AllocError>
+        ensures { IfOk result (λ whole. self ≡ Some whole.items) }
+    {
+        self.done?;
+        Ok(self.octets)
+    }
+}
 
 /// Puts these texts behind what is there, in their order.
-pub(crate) fn put(text: &mut Vec<u8>, parts: &[&[u8]]) -> Result<(), AllocError>
-    ensures { OnOk result (text.new.items
-        ≡ text.old.items ++ joined (map (λ part. part.now) parts.now)) }
+pub(crate) fn put(text: &mut Text, parts: &[&[u8]])
+    ensures { Adds text.old text.new (joined (map (λ part. part.now) parts.now)) }
 {
     for part in parts {
-        text.extend_from_slice(part)?;
+        text.add(part);
     }
-    Ok(())
+}
+
+/// Puts what a line is begun with that tells of a line of a file.
+pub(crate) fn begin_line(text: &mut Text, file: &[u8], line: usize)
+    ensures { Adds text.old text.new (line_head file.now line) }
+{
+    let mut number = Buffer::new();
+    put(text, &[file, b":", number.format(line).as_bytes(), b": "]);
 }
 
 /// Puts what is told of what a line of a file says.
 #[tactic(auto, unfolding(crate::specs::Lines::told_line))]
-pub(crate) fn put_line(
-    text: &mut Vec<u8>,
-    file: &[u8],
-    line: usize,
-    told: &[&[u8]],
-) -> Result<(), AllocError>
-    ensures { OnOk result (text.new.items ≡ text.old.items
-        ++ told_line file.now line (joined (map (λ part. part.now) told.now))) }
+pub(crate) fn put_line(text: &mut Text, file: &[u8], line: usize, told: &[&[u8]])
+    ensures { Adds text.old text.new
+        (told_line file.now line (joined (map (λ part. part.now) told.now))) }
 {
-    let mut number = Buffer::new();
-    put(text, &[file, b":", number.format(line).as_bytes(), b": "])?;
-    put(text, told)?;
-    text.extend_from_slice(b"\n")
+    begin_line(text, file, line);
+    put(text, told);
+    text.add(b"\n");
 }
 
 /// Puts what is odd in what a line of a file says, where that is so.
 #[tactic(auto, unfolding(crate::specs::Lines::odd_line, crate::specs::Lines::told_line))]
-pub(crate) fn put_odd(
-    text: &mut Vec<u8>,
-    is_odd: bool,
-    file: &[u8],
-    line: usize,
-    told: &[&[u8]],
-) -> Result<(), AllocError>
-    ensures { OnOk result (text.new.items ≡ text.old.items
-        ++ odd_line is_odd file.now line (joined (map (λ part. part.now) told.now))) }
+pub(crate) fn put_odd(text: &mut Text, is_odd: bool, file: &[u8], line: usize, told: &[&[u8]])
+    ensures { Adds text.old text.new
+        (odd_line is_odd file.now line (joined (map (λ part. part.now) told.now))) }
 {
     if !is_odd {
-        return Ok(());
+        return;
     }
-    let mut number = Buffer::new();
-    put(
-        text,
-        &[file, b":", number.format(line).as_bytes(), b": ", b"odd: "],
-    )?;
-    put(text, told)?;
-    text.extend_from_slice(b"\n")
+    begin_line(text, file, line);
+    text.add(b"odd: ");
+    put(text, told);
+    text.add(b"\n");
 }
 
 /// Puts what is odd where an earlier one, of this name, has the same.
 #[tactic(auto, unfolding(crate::specs::Lines::odd_line, crate::specs::Lines::shared_line))]
 pub(crate) fn put_shared(
-    text: &mut Vec<u8>,
+    text: &mut Text,
     file: &[u8],
     line: usize,
     shared: &[u8],
     name: Option<&[u8]>,
-) -> Result<(), AllocError>
-    ensures { OnOk result (text.new.items ≡ text.old.items
-        ++ shared_line file.now line shared.now (option_copied name.entry)) }
+)
+    ensures { Adds text.old text.new
+        (shared_line file.now line shared.now (option_copied name.entry)) }
 {
     match name {
-        None => Ok(()),
+        None => {}
         Some(name) => put_odd(text, true, file, line, &[shared, name]),
     }
 }

@@ -1,8 +1,9 @@
 //! What is told of a whole configuration.
-ghost use Rattle.std.specs.Prelude.{◌≡◌, ◌++◌, IfOk, OnOk};
+ghost use Rattle.std.specs.Prelude.{◌≡◌, IfOk, OnOk};
 ghost use Rattle.relay_conf.specs.Lines.{lines_of};
 ghost use Rattle.relay_explain.specs.Entries.{entries_text};
 ghost use Rattle.relay_explain.specs.Explained as terms;
+ghost use Rattle.relay_explain.specs.Text.{Adds};
 
 use crate::buffers::put_buffers;
 use crate::entries::put_entries;
@@ -12,6 +13,7 @@ use crate::groups::put_groups;
 use crate::peers::put_peers;
 use crate::settings::put_settings;
 use crate::sums::put_wants;
+use crate::text::Text;
 use relay_conf::{Config, lines_of};
 use std::alloc::{AllocError, Global};
 
@@ -35,40 +37,41 @@ pub fn explain(
     ensures { IfOk result (λ text. text.items
         ≡ terms.explained config.now sources.now found.now) }
 {
-    let mut text = Vec::new(alloc);
+    let mut text = Text::new(alloc);
     put_cycbuff(alloc, &mut text, config, &sources.cycbuff, found)?;
     put_storage(alloc, &mut text, config, &sources.storage)?;
     put_relay(alloc, &mut text, config, &sources.relay)?;
-    put_wants(&mut text, config)?;
-    Ok(text)
+    put_wants(&mut text, config);
+    text.whole()
 }
 
 /// Puts what is told of cycbuff.conf, of which this is the text.
 fn put_cycbuff(
     alloc: Global,
-    text: &mut Vec<u8>,
+    text: &mut Text,
     config: &Config,
     source: &[u8],
     found: &[Found],
 ) -> Result<(), AllocError>
-    ensures { OnOk result (text.new.items ≡ text.old.items
-        ++ terms.cycbuff_text config.now (lines_of source.now) found.now) }
+    ensures { OnOk result (Adds text.old text.new
+        (terms.cycbuff_text config.now (lines_of source.now) found.now)) }
 {
     let all = lines_of(alloc, source)?;
     let lines = all.as_slice();
-    put_buffers(alloc, text, config, lines, found)?;
-    put_groups(alloc, text, config, lines)
+    put_buffers(text, config, lines, found);
+    put_groups(text, config, lines);
+    Ok(())
 }
 
 /// Puts what is told of storage.conf, of which this is the text.
 fn put_storage(
     alloc: Global,
-    text: &mut Vec<u8>,
+    text: &mut Text,
     config: &Config,
     source: &[u8],
 ) -> Result<(), AllocError>
-    ensures { OnOk result (text.new.items ≡ text.old.items
-        ++ entries_text config.now (lines_of source.now)) }
+    ensures { OnOk result (Adds text.old text.new
+        (entries_text config.now (lines_of source.now))) }
 {
     let all = lines_of(alloc, source)?;
     let lines = all.as_slice();
@@ -78,16 +81,17 @@ fn put_storage(
 /// Puts what is told of relay.conf, of which this is the text.
 fn put_relay(
     alloc: Global,
-    text: &mut Vec<u8>,
+    text: &mut Text,
     config: &Config,
     source: &[u8],
 ) -> Result<(), AllocError>
-    ensures { OnOk result (text.new.items ≡ text.old.items
-        ++ terms.relay_text config.now (lines_of source.now)) }
+    ensures { OnOk result (Adds text.old text.new
+        (terms.relay_text config.now (lines_of source.now))) }
 {
     let all = lines_of(alloc, source)?;
     let lines = all.as_slice();
     put_settings(alloc, text, &config.relay, lines)?;
-    put_peers(text, &config.relay, lines)?;
-    put_feeds(text, &config.relay, lines)
+    put_peers(text, &config.relay, lines);
+    put_feeds(text, &config.relay, lines);
+    Ok(())
 }

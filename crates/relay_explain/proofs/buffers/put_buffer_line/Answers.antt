@@ -1,9 +1,10 @@
-use Rattle.std.proofs.Common.{◌∙◌}
 use Rattle.relay_explain.specs.Buffers.{buffer_told}
+use Rattle.relay_explain.specs.Lines.{told_line}
+use Rattle.relay_explain.proofs.Puts.{two}
 use Rattle.relay_explain.proofs.buffers.put_buffer_line.Goals as goal
 
 pub returns : goal.returns
-unfolding buffer_told
+unfolding buffer_told told_line
 returns c =
-    let sizes = c.deref.ensures.value ∙ c.in_ok-sizes.ensures in
-    rw (← sizes, ← c.as_slice.ensures, ← c.as_slice-2.ensures) c.put_line.ensures
+    rw (← c.as_slice-name.ensures, ← c.as_slice-file.ensures)
+    (two (two c.begin_line.ensures (two c.put.ensures c.put_sizes.ensures)) c.add.ensures)

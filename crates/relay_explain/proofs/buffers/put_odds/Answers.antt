@@ -1,6 +1,6 @@
 use Rattle.std.proofs.Common.{◌∙◌, ap, take}
 use Rattle.relay_explain.specs.Buffers.{buffer_odds, first_with, is_in_group, room_odd}
-use Rattle.relay_explain.proofs.Puts.{on_ok, three}
+use Rattle.relay_explain.proofs.Puts.{two}
 use Rattle.relay_explain.proofs.buffers.put_odds.Goals as goal
 
 pub returns : goal.returns
@@ -22,5 +22,4 @@ returns c =
       ← c.room_of.ensures,
       ← octets,
     )
-    (on_ok _ (three _ _ _ _ _ _ _ c.in_ok-put_odd.ensures c.in_ok-put_shared.ensures)
-    c.put_odd-2.ensures)
+    (two (two c.put_odd.ensures c.put_shared.ensures) c.put_odd-2.ensures)

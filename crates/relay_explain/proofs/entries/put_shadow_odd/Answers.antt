@@ -1,6 +1,11 @@
 use Rattle.std.proofs.Common.{◌∙◌}
 use Rattle.relay_explain.specs.Entries.{shadow_odd}
+use Rattle.relay_explain.proofs.Puts.{nothing}
 use Rattle.relay_explain.proofs.entries.put_shadow_odd.Goals as goal
+
+pub returns-in-None : goal.returns-in-None
+unfolding shadow_odd
+returns-in-None c = rw c.in-None.is (nothing _)
 
 pub returns-in-Some : goal.returns-in-Some
 unfolding shadow_odd

@@ -1,7 +1,11 @@
 use Rattle.std.proofs.Common.{◌∙◌, ◌<◌, ap, arith, get_or, length, map}
 use Rattle.relay_explain.specs.Peers.{feed_text, feeds_text}
 use Rattle.relay_explain.proofs.Told.{told_each, told_next}
+use Rattle.relay_explain.proofs.Puts.{nothing}
 use Rattle.relay_explain.proofs.feeds.put_feeds.Goals as goal
+
+pub loop-feed-init : goal.loop-feed-init
+loop-feed-init c = nothing _
 
 pub loop-feed-preserved : goal.loop-feed-preserved
 loop-feed-preserved c =
@@ -12,14 +16,14 @@ loop-feed-preserved c =
     ∙ ap (λ all. get_or all c.loop-feed.feed-index c.feed-item.result) same in
     told_next (feed_text c.args.relay.now (map (λ line. line.now) c.args.lines.now))
     c.args.relay.now.feeds.items
-    c.loop-feed.feed-index c.feed-item.result _ _ _ there c.loop-feed.invariant
-    (rw (← one) c.in_ok-put_feed.ensures)
+    c.loop-feed.feed-index c.feed-item.result there c.loop-feed.invariant
+    (rw (← one) c.put_feed.ensures)
 
 pub returns : goal.returns
 unfolding feeds_text
 returns c =
     told_each (feed_text c.args.relay.now (map (λ line. line.now) c.args.lines.now))
     c.args.relay.now.feeds.items
-    c.loop-feed.feed-index _ _
+    c.loop-feed.feed-index
     (omega (arith, ap length c.deref-feed-items.ensures.value, c.loop-feed-test.false))
     c.loop-feed.invariant

@@ -1,5 +1,10 @@
 use Rattle.relay_explain.specs.Found.{found_text}
+use Rattle.relay_explain.proofs.Puts.{nothing}
 use Rattle.relay_explain.proofs.found.put_lying.Goals as goal
+
+pub returns-in-Fit : goal.returns-in-Fit
+unfolding found_text
+returns-in-Fit c = rw c.in-Fit.is (nothing _)
 
 pub returns-in-Absent : goal.returns-in-Absent
 unfolding found_text

@@ -1,7 +1,11 @@
 use Rattle.std.proofs.Common.{◌∙◌, ◌<◌, ap, arith, get_or, length, map}
 use Rattle.relay_explain.specs.Buffers.{group_text, groups_text}
 use Rattle.relay_explain.proofs.Told.{told_each, told_next}
+use Rattle.relay_explain.proofs.Puts.{nothing}
 use Rattle.relay_explain.proofs.groups.put_groups.Goals as goal
+
+pub loop-group-init : goal.loop-group-init
+loop-group-init c = nothing _
 
 pub loop-group-preserved : goal.loop-group-preserved
 loop-group-preserved c =
@@ -12,14 +16,14 @@ loop-group-preserved c =
     ∙ ap (λ all. get_or all c.loop-group.group-index c.group-item.result) same in
     told_next (group_text c.args.config.now (map (λ line. line.now) c.args.lines.now))
     c.args.config.now.buffers.groups.items
-    c.loop-group.group-index c.group-item.result _ _ _ there c.loop-group.invariant
-    (rw (← one) c.in_ok-put_group.ensures)
+    c.loop-group.group-index c.group-item.result there c.loop-group.invariant
+    (rw (← one) c.put_group.ensures)
 
 pub returns : goal.returns
 unfolding groups_text
 returns c =
     told_each (group_text c.args.config.now (map (λ line. line.now) c.args.lines.now))
     c.args.config.now.buffers.groups.items
-    c.loop-group.group-index _ _
+    c.loop-group.group-index
     (omega (arith, ap length c.deref-group-items.ensures.value, c.loop-group-test.false))
     c.loop-group.invariant

@@ -1,9 +1,10 @@
-use Rattle.std.proofs.Common.{◌≡◌, ◌++◌, flat_map, take}
+use Rattle.std.proofs.Common.{flat_map, take}
 use Rattle.relay_explain.specs.Buffers.{member_text}
+use Rattle.relay_explain.specs.Text.{Adds}
 use Rattle.relay_explain.proofs.groups.put_members.Given as goal
 
 -- the names so far are there
 abbrev pub invariant-loop-number : goal.invariant-loop-number
 invariant-loop-number l =
-    l.text.items
-    ≡ l.fn.text.items ++ flat_map (member_text l.fn.buffers) (take l.number-index l.fn.numbers)
+    Adds l.fn.text l.text
+    (flat_map (member_text l.fn.buffers) (take l.number-index l.fn.numbers))

@@ -1,6 +1,6 @@
 use Rattle.std.proofs.Common.{◌∙◌, ap, take}
 use Rattle.relay_explain.specs.Peers.{first_known_as, first_on, peer_odds}
-use Rattle.relay_explain.proofs.Puts.{on_ok, three}
+use Rattle.relay_explain.proofs.Puts.{two}
 use Rattle.relay_explain.proofs.peers.put_odds.Goals as goal
 
 pub returns : goal.returns
@@ -17,5 +17,4 @@ returns c =
     c.as_slice-identity.ensures in
     let own = rw (c.as_slice-identity.ensures, c.as_slice.ensures) at c.is.ensures in
     rw (← served, ← known, ← own)
-    (on_ok _ (three _ _ _ _ _ _ _ c.in_ok-put_shared.ensures c.in_ok-put_shared-2.ensures)
-    c.put_odd.ensures)
+    (two (two c.put_shared.ensures c.put_shared-2.ensures) c.put_odd.ensures)

@@ -1,7 +1,11 @@
 use Rattle.std.proofs.Common.{◌≡◌, ◌<◌, ap, arith, get_or, length, map}
 use Rattle.relay_explain.specs.Peers.{peer_text, peers_text}
 use Rattle.relay_explain.proofs.Told.{told_all, told_more}
+use Rattle.relay_explain.proofs.Puts.{nothing}
 use Rattle.relay_explain.proofs.peers.put_peers.Goals as goal
+
+pub loop-number-init : goal.loop-number-init
+loop-number-init c = nothing _
 
 pub loop-number-preserved : goal.loop-number-preserved
 loop-number-preserved c =
@@ -15,8 +19,8 @@ loop-number-preserved c =
     c.deref-peer-items.ensures.value) at c.peer-item.is in
     told_more
     (peer_text c.args.relay.now (map (λ line. line.now) c.args.lines.now))
-    c.args.relay.now.peers.items c.loop-number.number c.peer-item.result _ _ _ there
-    c.loop-number.invariant (rw (← one) c.in_ok-put_peer.ensures)
+    c.args.relay.now.peers.items c.loop-number.number c.peer-item.result there
+    c.loop-number.invariant (rw (← one) c.put_peer.ensures)
 
 pub returns : goal.returns
 unfolding peers_text
@@ -24,5 +28,5 @@ returns c =
     let all : length c.deref-peer-items.result.now ≡ length c.args.relay.now.peers.items =
     ap length c.deref-peer-items.ensures.value in
     told_all (peer_text c.args.relay.now (map (λ line. line.now) c.args.lines.now))
-    c.args.relay.now.peers.items c.loop-number.number _ _
+    c.args.relay.now.peers.items c.loop-number.number
     (omega (arith, all, c.loop-number-test.false)) c.loop-number.invariant

@@ -1,0 +1,11 @@
+use Rattle.relay_explain.specs.Lines.{odd_line, shared_line}
+use Rattle.relay_explain.proofs.Puts.{nothing}
+use Rattle.relay_explain.proofs.text.put_shared.Goals as goal
+
+pub returns-in-None : goal.returns-in-None
+unfolding shared_line
+returns-in-None c = rw c.in-None.is (nothing _)
+
+pub returns-in-Some : goal.returns-in-Some
+unfolding odd_line shared_line
+returns-in-Some c = rw c.in-Some.is c.put_odd.ensures

@@ -1,0 +1,14 @@
+use Rattle.std.proofs.Common.{◌∙◌, ap, map, subst, Bor, List, ℕ}
+use Rattle.relay_explain.specs.Explained.{relay_text}
+use Rattle.relay_explain.specs.Text.{Adds}
+use Rattle.relay_explain.proofs.Puts.{two}
+use Rattle.relay_explain.proofs.whole.put_relay.Goals as goal
+
+pub returns : goal.returns
+returns c =
+    let all : List (Bor (List ℕ)) → List (List ℕ) = map (λ line. line.now) in
+    subst
+    (λ (lines : List (List ℕ)). Adds c.args.text.now c.put_feeds.new.text
+    (relay_text c.args.config.now lines))
+    (ap all c.as_slice-lines.ensures.value ∙ c.in_ok-all.ensures)
+    (two (two c.in_ok-put_settings.ensures c.put_peers.ensures) c.put_feeds.ensures)
