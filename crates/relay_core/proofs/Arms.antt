@@ -1,12 +1,15 @@
 -- The arms of `share` that are one call of the shards, the feeds or the slot.
-use Rattle.std.proofs.Common.{◌≡◌, ◌<◌, ℕ, true, List, Option, None, Some}
-use Rattle.std.proofs.Common.{refl, sym, ap, subst}
-use Rattle.std.specs.Prelude.{IfSome, length, map, option_map, slice_get, slice_index}
+use Rattle.std.proofs.Common.{◌≡◌, ◌<◌, ◌≤◌, ◌∙◌, ℕ, true, List, Option, None, Some}
+use Rattle.std.proofs.Common.{arith, refl, sym, ap, subst}
+use Rattle.std.proofs.lemmas.List.{length-map}
+use Rattle.std.specs.Prelude.{IfOk, IfSome, OnErr, Result, Ok, Err, length, map, option_map}
+use Rattle.std.specs.Prelude.{slice_get, slice_index}
+use Rattle.std.specs.declared.alloc.AllocError.{AllocError}
 use Rattle.article_verdict.specs.Config.{terms_of}
 use Rattle.cyc_block.specs.declared.store.BlockStore.{Ghosts}
 use Rattle.cyc_token.specs.Token.{token_view}
 use Rattle.cyc_token.specs.declared.Token.{Token}
-use Rattle.feed_queue.specs.Feeds.{KeepsFeeds}
+use Rattle.feed_queue.specs.Feeds.{KeepsFeeds, ring_count}
 use Rattle.feed_queue.specs.Taking.{IsTaken, item_view}
 use Rattle.feed_queue.specs.declared.desk.FeedDesk.{FeedDesk}
 use Rattle.feed_queue.specs.declared.desk.Taken.{Taken}
@@ -19,6 +22,7 @@ use Rattle.id_history.specs.declared.claims.Take.{Take}
 use Rattle.id_history.specs.declared.shards.Shards.{Shards}
 use Rattle.peer_session.specs.Answers.{IsAnswerTo, IsStepOf, SharesNone}
 use Rattle.peer_session.specs.Session.{outcome_view}
+use Rattle.peer_session.specs.declared.steps.Answer.{Answer}
 use Rattle.peer_session.specs.declared.steps.Answer.TheVariants as answers
 use Rattle.peer_session.specs.declared.steps.Outcome.{Outcome}
 use Rattle.peer_session.specs.declared.steps.Step.{Step}
@@ -31,14 +35,15 @@ use Rattle.relay_model.specs.Claims.{Accepted, Claim}
 use Rattle.relay_model.specs.Shares as shares
 use Rattle.relay_model.specs.Shares.{Shares, after_take_of, ring_of}
 use Rattle.relay_model.specs.State.{Feed, put_at, put_id}
-use Rattle.relay_model.specs.Terms.{Terms}
+use Rattle.relay_model.specs.Terms.{FeedTerms, Terms}
 use Rattle.relay_model.specs.World as world
 use Rattle.relay_model.specs.World.{World, with_claim}
 use Rattle.relay_core.specs.Peers.{peer_at}
 use Rattle.relay_core.specs.declared.peers.Peer.{Peer}
+use Rattle.relay_core.proofs.Dispatch.{never}
 use Rattle.relay_core.proofs.Feeds.{ring_at}
 use Rattle.relay_core.specs.Agreement.{AgreesBut, PeerIs, ring_sizes}
-use Rattle.relay_core.specs.Sharing.{AskFits, Gives, LeavesAll, SharesStep}
+use Rattle.relay_core.specs.Sharing.{AskFits, Gives, LeavesAll, SharesStep, queue_answer}
 use Rattle.relay_core.specs.declared.system.System.{System}
 
 -- nothing that is shared
@@ -72,6 +77,18 @@ abbrev pub TakesItems : FeedDesk → (f most : ℕ) → FeedDesk → Type 0
 TakesItems desk f most new =
     (sizes : List ℕ) (feeds : ℕ → Feed) → KeepsFeeds desk sizes feeds
     → KeepsFeeds new sizes (put_at feeds f (after_take_of (slice_index sizes f) most (feeds f)))
+
+-- no feed is without its ring
+no_ring : (w : Terms) (desk : FeedDesk) (feeds : ℕ → Feed) (f : ℕ)
+    → KeepsFeeds desk (ring_sizes w) feeds → f < length w.feeds → ring_count desk ≤ f → ⊥
+no_ring w desk feeds f keeps within past =
+    omega (
+      arith,
+      keeps.count,
+      length-map w.feeds (λ (feed : FeedTerms). feed.ring),
+      within,
+      past,
+    )
 
 module _ {S : Type 0} {g : Ghosts S} (n now : ℕ) (old : System S g) (peer : Peer) where
   abbrev w : Terms
@@ -220,17 +237,11 @@ module _ {S : Type 0} {g : Ghosts S} (n now : ℕ) (old : System S g) (peer : Pe
       )
 
   -- tokens are taken of a feed's ring
-  pub queue_shared : (f most : ℕ) (answer : Option Taken) (taken : Taken) (new : FeedDesk)
-      → answer ≡ Some taken → IfSome answer (GivesItems old.desk f most)
-      → IfSome answer (λ _. TakesItems old.desk f most new) → (step : Step)
-      → step ≡ steps.TakeQueue f most
+  items_shared : (f most : ℕ) (taken : Taken) (new : FeedDesk) → GivesItems old.desk f most taken
+      → TakesItems old.desk f most new → (step : Step) → step ≡ steps.TakeQueue f most
       → SharesStep n now step old peer (answers.Queue taken) (record old { desk = new }) peer
-  queue_shared f most answer taken new answered given kept_all step e =
+  items_shared f most taken new gives keeps step e =
       λ x m d gathered but slot fits planned asked some.
-      let gives = subst (λ (o : Option Taken). IfSome o (GivesItems old.desk f most)) answered
-      given in
-      let keeps = subst (λ (o : Option Taken). IfSome o (λ _. TakesItems old.desk f most new))
-      answered kept_all in
       let one = subst (λ (s : Step). IsStepOf s d.ask) e asked in
       let there : f < length w.feeds = subst (λ (ask : Ask). AskFits w x ask gathered) one fits in
       let ring : slice_index (ring_sizes w) f ≡ ring_of (slice_get w.feeds f) =
@@ -263,6 +274,50 @@ module _ {S : Type 0} {g : Ghosts S} (n now : ℕ) (old : System S g) (peer : Pe
         }),
         planned,
       )
+
+  -- what is answered where they are, or where there is no such feed or no memory
+  pub queue_shared : (f most : ℕ) (result : Result (Option Taken) AllocError) (answer : Answer)
+      (new : FeedDesk) → answer ≡ queue_answer result
+      → IfOk result (λ told. IfSome told (GivesItems old.desk f most))
+      → IfOk result (λ told. IfSome told (λ _. TakesItems old.desk f most new))
+      → (result ≡ Ok None → ring_count old.desk ≤ f) → (step : Step)
+      → step ≡ steps.TakeQueue f most
+      → SharesStep n now step old peer answer (record old { desk = new }) peer
+  queue_shared f most result answer new is given kept missing step e =
+      subst (λ a. SharesStep n now step old peer a (record old { desk = new }) peer) (sym is)
+      (by_result result given kept missing)
+    where
+      by_result : (r : Result (Option Taken) AllocError)
+          → IfOk r (λ told. IfSome told (GivesItems old.desk f most))
+          → IfOk r (λ told. IfSome told (λ _. TakesItems old.desk f most new))
+          → (r ≡ Ok None → ring_count old.desk ≤ f)
+          → SharesStep n now step old peer (queue_answer r) (record old { desk = new }) peer
+      by_result (Ok (Some taken)) gives keeps none =
+          items_shared f most taken new gives keeps step e
+      by_result (Ok None) gives keeps none = λ x m d gathered but slot fits planned asked some.
+          let one = subst (λ (s : Step). IsStepOf s d.ask) e asked in
+          let there : f < length w.feeds =
+          subst (λ (ask : Ask). AskFits w x ask gathered) one fits in
+          absurd (no_ring w old.desk x.state.feed f but.core.desk there (none refl))
+      by_result (Err error) gives keeps none =
+          λ x m d gathered but slot fits planned asked some. absurd (some refl)
+
+  -- want of memory leaves the desk
+  pub queue_left : (result : Result (Option Taken) AllocError) (answer : Answer) (new : FeedDesk)
+      → answer ≡ queue_answer result → OnErr result (new ≡ old.desk) → answer ≡ answers.Memory
+      → LeavesAll n old peer (record old { desk = new }) peer
+  queue_left result answer new is same memory = by_result result same (sym is ∙ memory)
+    where
+      by_result : (r : Result (Option Taken) AllocError) → OnErr r (new ≡ old.desk)
+          → queue_answer r ≡ answers.Memory → LeavesAll n old peer (record old { desk = new }) peer
+      by_result (Ok (Some taken)) left none = never (answers.Queue taken) refl none
+      by_result (Ok None) left none = never answers.Nothing refl none
+      by_result (Err error) left none =
+          record {
+            agrees = λ trusted v x but. subst
+                (λ desk. AgreesBut trusted v n (record old { desk = desk }) x) (sym left) but;
+            same_peer = refl;
+          }
 
   slot_taken : (step : Step) → step ≡ steps.Slot
       → SharesStep n now step old peer (answers.Slot peer.slot) old (record peer { slot = None })

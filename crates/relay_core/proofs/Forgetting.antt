@@ -1,7 +1,7 @@
 -- An Expire reads a front, or forgets.
 use Rattle.std.proofs.Common.{◌≡◌, ◌<◌, ◌≤◌, ◌++◌, ℕ, true, false, List, [], ◌∷◌}
 use Rattle.std.proofs.Common.{Option, None, Some, refl, sym, ap, subst, ◌∙◌, arith}
-use Rattle.std.proofs.lemmas.Bool.Decides.{nat_tests}
+use Rattle.std.proofs.lemmas.Bool.{le-leb, le-ltb, lt-leb, lt-ltb}
 use Rattle.std.proofs.lemmas.List.{length-map, map-append}
 use Rattle.std.proofs.lemmas.List.FromFn.{length-enumerate_from}
 use Rattle.std.proofs.lemmas.Option.{same_Some, slice_get_past}
@@ -10,6 +10,7 @@ use Rattle.std.specs.Prelude.{◌-◌, length, map, nat_le, nat_lt, slice_get}
 use Rattle.article_verdict.proofs.SoundTerms.{are_sound}
 use Rattle.article_verdict.specs.Config.{terms_of}
 use Rattle.block_shelf.specs.Reading.{IsFrontAt}
+use Rattle.block_shelf.specs.declared.buffer_set.BufferSet.{BufferSet}
 use Rattle.cyc_block.specs.declared.store.BlockStore.{Ghosts}
 use Rattle.cyc_buffer.specs.declared.answers.Front.{Front}
 use Rattle.id_history.specs.Expiry.{passed_view}
@@ -49,8 +50,8 @@ pub may_expire : (shard now : ℕ) → shard < shard_count → now ≤ last_mome
     world.BadMoment
     ≡ None
 may_expire shard now within early =
-    let e : nat_lt shard shard_count ≡ true = grind (arith, nat_tests) in
-    let f : nat_le now last_moment ≡ true = grind (arith, nat_tests) in
+    let e : nat_lt shard shard_count ≡ true = lt-ltb shard shard_count within in
+    let f : nat_le now last_moment ≡ true = le-leb now last_moment early in
     λ i. first_of_two (e i) world.NoShard (f i) world.BadMoment
 
 -- there is no such shard
@@ -59,7 +60,7 @@ pub is_no_shard : (shard now : ℕ) → shard_count ≤ shard
     world.BadMoment
     ≡ Some world.NoShard
 is_no_shard shard now past =
-    let e : nat_lt shard shard_count ≡ false = grind (arith, nat_tests) in
+    let e : nat_lt shard shard_count ≡ false = le-ltb shard shard_count past in
     ap (λ b. first_of_two b world.NoShard (nat_le now last_moment) world.BadMoment) e
 
 -- it is too late
@@ -68,26 +69,25 @@ pub is_late : (shard now : ℕ) → shard < shard_count → last_moment < now
     world.BadMoment
     ≡ Some world.BadMoment
 is_late shard now within late =
-    let e : nat_lt shard shard_count ≡ true = grind (arith, nat_tests) in
-    let f : nat_le now last_moment ≡ false = grind (arith, nat_tests) in
+    let e : nat_lt shard shard_count ≡ true = lt-ltb shard shard_count within in
+    let f : nat_le now last_moment ≡ false = lt-leb now last_moment late in
     λ i. first_of_two (e i) world.NoShard (f i) world.BadMoment
 
--- there is no buffer past the 256th
-no_more_buffers : (config : Config) (n : ℕ) → 256 ≤ n
-    → slice_get (terms_of config).buffers n ≡ None
-no_more_buffers config n past =
+-- there are at most 256 buffers
+few_buffers : (config : Config) → length (terms_of config).buffers ≤ 256
+few_buffers config =
     let count : length (terms_of config).buffers ≡ length config.buffers.buffers.items =
     length-map (enumerate_from 0 config.buffers.buffers.items) numbered_buffer
     ∙ length-enumerate_from 0 config.buffers.buffers.items in
-    slice_get_past (terms_of config).buffers n
-    (omega (arith, count, config.buffers.few_buffers, past))
+    omega (arith, count, config.buffers.few_buffers)
 
 -- so with 256 fronts all were read
-pub all_read : {S : Type 0} {g : Ghosts S} (s : System S g) → 256 ≤ length (fronts_of s.expirer)
-    → IsNextFront s None
-all_read s past = λ trusted σ openings failures keeps.
-    let P : Option Buffer → Type 0 = λ o. IsFrontAt (terms_of s.config) σ o None in
-    subst P (sym (no_more_buffers s.config (length (fronts_of s.expirer)) past)) refl
+pub all_read : {S : Type 0} {g : Ghosts S} (buffer_set : BufferSet S g) (expirer : Expirer)
+    → 256 ≤ length (fronts_of expirer) → IsNextFront buffer_set expirer None
+all_read buffer_set expirer past = λ trusted w σ openings failures keeps few.
+    let P : Option Buffer → Type 0 = λ o. IsFrontAt w σ o None in
+    subst P (sym (slice_get_past w.buffers (length (fronts_of expirer))
+    (omega (arith, few, past)))) refl
 
 -- no front is given: there is no such buffer
 no_buffer : (w : Terms) (σ : State) (o : Option Buffer) (answer : Option Front)
@@ -174,7 +174,7 @@ module _ {S : Type 0} {g : Ghosts S} (s : System S g) (shard now : ℕ) where
   -- the next front is read
   pub front_read : (answer : Option Front) (front : Front) (expirer : Expirer)
       → shard < shard_count → now ≤ last_moment → s.expirer.stage ≡ stages.Reading
-      → IsNextFront s answer → answer ≡ Some front
+      → IsNextFront s.buffer_set s.expirer answer → answer ≡ Some front
       → expirer_view expirer
       ≡ world.Reading (map passed_view (fronts_of s.expirer ++ front ∷ []))
       → Steps (run.Expire shard now) s outputs.Quiet (record s { expirer = expirer })
@@ -182,7 +182,8 @@ module _ {S : Type 0} {g : Ghosts S} (s : System S g) (shard now : ℕ) where
       expires s.shards expirer within early (λ x agrees.
       let P : Option Buffer → Type 0 = λ o. IsFrontAt w x.state o answer in
       by_buffer x agrees.core.claims next_buffer refl
-      (subst P next_is (next true x.state _ x.work.failures agrees.core.buffer_set)))
+      (subst P next_is (next true w x.state _ x.work.failures agrees.core.buffer_set
+      (few_buffers s.config))))
     where
       by_buffer : (x : World) → KeepsAll s.shards x.state.claim → (o : Option Buffer)
           → next_buffer ≡ o → IsFrontAt w x.state o answer → Expires x s.shards expirer
@@ -204,41 +205,44 @@ module _ {S : Type 0} {g : Ghosts S} (s : System S g) (shard now : ℕ) where
           }
 
   -- what an Expire that forgets makes of the world
-  forgets : (new : System S g) (left : ℕ) (x : World) → Forgets shard now left s new
-      → Agrees true s x
+  forgets : (shards : Shards) (expirer : Expirer) (left : ℕ) (x : World)
+      → Forgets shard now w.remember left s.shards shards s.expirer expirer → Agrees true s x
       → expired w x shard now (expirer_view s.expirer) ≡ forgotten w x shard now fronts left
-      → Expires x new.shards new.expirer
-  forgets new left x done agrees e =
+      → Expires x shards expirer
+  forgets shards expirer left x done agrees e =
       record {
         claim = forgetting x.state.claim shard now w.remember fronts;
         to = forgetter fronts left;
         world_is = e;
         keeps = done.claims x.state.claim agrees.core.claims;
-        expirer_is = sym done.expirer;
+        expirer_is = sym done.expirer_is;
       }
 
   -- all fronts are read: it forgets
-  pub first_forgotten : (answer : Option Front) (new : System S g) → shard < shard_count
-      → now ≤ last_moment → s.expirer.stage ≡ stages.Reading → IsNextFront s answer
-      → answer ≡ None → Forgets shard now 15 s new
-      → Steps (run.Expire shard now) s outputs.Quiet new
-  first_forgotten answer new within early reading next is done =
-      subst (λ (t : System S g). Steps (run.Expire shard now) s outputs.Quiet t) (sym done.rest)
-      (expires new.shards new.expirer within early (λ x agrees.
+  pub first_forgotten : (answer : Option Front) (shards : Shards) (expirer : Expirer)
+      → shard < shard_count → now ≤ last_moment → s.expirer.stage ≡ stages.Reading
+      → IsNextFront s.buffer_set s.expirer answer → answer ≡ None
+      → Forgets shard now w.remember 15 s.shards shards s.expirer expirer
+      → Steps (run.Expire shard now) s outputs.Quiet
+      (record s { shards = shards; expirer = expirer })
+  first_forgotten answer shards expirer within early reading next is done =
+      expires shards expirer within early (λ x agrees.
       let P : Option Buffer → Type 0 = λ o. IsFrontAt w x.state o answer in
       let none : next_buffer ≡ None = no_buffer w x.state next_buffer answer
-      (subst P next_is (next true x.state _ x.work.failures agrees.core.buffer_set)) is in
-      forgets new 15 x done agrees
+      (subst P next_is (next true w x.state _ x.work.failures agrees.core.buffer_set
+      (few_buffers s.config))) is in
+      forgets shards expirer 15 x done agrees
       (ap (λ (stage : Stage). expired w x shard now (stage_view fronts stage)) reading
-      ∙ ap (λ (o : Option Buffer). reads_front w x shard now fronts o) none)))
+      ∙ ap (λ (o : Option Buffer). reads_front w x shard now fronts o) none))
 
   -- it forgets on
-  pub more_forgotten : (left less : ℕ) (new : System S g) → shard < shard_count
-      → now ≤ last_moment → s.expirer.stage ≡ stages.Forgetting left → less ≡ left - 1
-      → Forgets shard now less s new → Steps (run.Expire shard now) s outputs.Quiet new
-  more_forgotten left less new within early forgetting_on less_is done =
-      subst (λ (t : System S g). Steps (run.Expire shard now) s outputs.Quiet t) (sym done.rest)
-      (expires new.shards new.expirer within early (λ x agrees.
-      forgets new less x done agrees
+  pub more_forgotten : (left less : ℕ) (shards : Shards) (expirer : Expirer)
+      → shard < shard_count → now ≤ last_moment → s.expirer.stage ≡ stages.Forgetting left
+      → less ≡ left - 1 → Forgets shard now w.remember less s.shards shards s.expirer expirer
+      → Steps (run.Expire shard now) s outputs.Quiet
+      (record s { shards = shards; expirer = expirer })
+  more_forgotten left less shards expirer within early forgetting_on less_is done =
+      expires shards expirer within early (λ x agrees.
+      forgets shards expirer less x done agrees
       (ap (λ (stage : Stage). expired w x shard now (stage_view fronts stage)) forgetting_on
-      ∙ ap (λ (n : ℕ). forgotten w x shard now fronts n) (sym less_is))))
+      ∙ ap (λ (n : ℕ). forgotten w x shard now fronts n) (sym less_is)))

@@ -1,9 +1,8 @@
 -- The group writers, when one of them was written.
 use Rattle.std.proofs.Common.{◌≡◌, ◌≢◌, ◌<◌, ◌≤◌, ℕ, Bool, true, false, List, Option}
-use Rattle.std.proofs.Common.{Some, refl, sym, ap, subst, ◌∙◌, ⊎_elim, arith}
+use Rattle.std.proofs.Common.{Some, refl, sym, ap, subst, ◌∙◌, ⊎_elim, arith, true≢false}
 use Rattle.std.proofs.Math.ListN.{set, length-set}
-use Rattle.std.proofs.lemmas.Bool.{cases_Bool, eqb-true, eq-eqb}
-use Rattle.std.proofs.lemmas.Bool.Decides.{nat_tests}
+use Rattle.std.proofs.lemmas.Bool.{cases_Bool, eqb-true, eq-eqb, ltb-false, ltb-true}
 use Rattle.std.proofs.lemmas.List.{get_or-set_same, get_or-set_other}
 use Rattle.std.proofs.lemmas.Option.{slice_get-get_or, slice_get_past}
 use Rattle.std.specs.Prelude.{nat_eq, nat_lt, length, slice_get, get_or}
@@ -22,11 +21,11 @@ get_same xs k v h =
 get_other_if : {A : Type 0} (xs : List A) (k : ℕ) (v : A) (j : ℕ) → j ≢ k → (b : Bool)
     → nat_lt j (length xs) ≡ b → slice_get (set xs k v) j ≡ slice_get xs j
 get_other_if xs k v j differ true h =
-    let within : j < length xs = grind (arith, nat_tests) in
+    let within : j < length xs = ltb-true j (length xs) h in
     slice_get-get_or (set xs k v) j v (omega (arith, length-set xs k v))
     ∙ ap Some (get_or-set_other xs k j v v differ) ∙ sym (slice_get-get_or xs j v within)
 get_other_if xs k v j differ false h =
-    let past : length xs ≤ j = grind (arith, nat_tests) in
+    let past : length xs ≤ j = ltb-false j (length xs) h in
     slice_get_past (set xs k v) j (omega (arith, length-set xs k v))
     ∙ sym (slice_get_past xs j past)
 
@@ -40,7 +39,7 @@ pub same_or_other : {A : Type 0} (a b : ℕ) → (a ≡ b → A) → (a ≢ b �
 same_or_other {A = A} a b same other =
     ⊎_elim (λ t. same (eqb-true a b t))
     (λ f. other (λ e.
-    let t = eq-eqb a b e in absurd (let bad : true ≡ false = sym t ∙ f in cc)))
+    absurd (true≢false (sym (eq-eqb a b e) ∙ f))))
     (cases_Bool (nat_eq a b))
 
 -- one group writer was written, with its queue and its writer; all others stay

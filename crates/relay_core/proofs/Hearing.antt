@@ -1,6 +1,6 @@
 -- What a session says is the output.
 use Rattle.std.proofs.Common.{◌≡◌, ◌≢◌, ◌≤◌, ℕ, Bool, true, false, List, [], refl, sym, ap}
-use Rattle.std.proofs.Common.{◌∙◌, arith, Vec}
+use Rattle.std.proofs.Common.{◌∙◌, arith, true≢false, Vec}
 use Rattle.std.proofs.lemmas.Bool.{eqb-true}
 use Rattle.std.specs.Prelude.{length, vec_len, nat_eq}
 use Rattle.std.specs.declared.alloc.Global.{Global}
@@ -43,8 +43,7 @@ nothing_said said h some =
 something_said : (said : Vec ℕ Global) → nat_eq (vec_len said) 0 ≡ false → said.items ≡ [] → ⊥
 something_said said h none =
     let size : vec_len said ≡ 0 = said.ok.0 ∙ ap length none in
-    let bad : true ≡ false = sym (ap (λ k. nat_eq k 0) size) ∙ h in
-    cc
+    true≢false (sym (ap (λ k. nat_eq k 0) size) ∙ h)
 
 -- nothing was said
 pub quiet : (n : ℕ) (said : Vec ℕ Global) (parted : Bool) → nat_eq (vec_len said) 0 ≡ true
@@ -59,7 +58,7 @@ pub ended : (n : ℕ) (said : Vec ℕ Global) (parted : Bool) → nat_eq (vec_le
     → output_view (outputs.Ended n said.items) ≡ output_of n s
 ended n said parted h right world.Silent is = absurd (something_said said h is)
 ended n said parted h right (world.Speaks reply) is =
-    absurd (let bad : true ≡ false = sym right ∙ is.1 in cc)
+    absurd (true≢false (sym right ∙ is.1))
 ended n said parted h right (world.Parts reply) is = ap (world.Ended n) is.0.text
 
 -- another reply was said
@@ -69,7 +68,7 @@ pub sent : (n : ℕ) (said : Vec ℕ Global) (parted : Bool) → nat_eq (vec_len
 sent n said parted h wrong world.Silent is = absurd (something_said said h is)
 sent n said parted h wrong (world.Speaks reply) is = ap (world.Sent n) is.0.text
 sent n said parted h wrong (world.Parts reply) is =
-    absurd (let bad : true ≡ false = sym is.1 ∙ wrong in cc)
+    absurd (true≢false (sym is.1 ∙ wrong))
 
 -- an answer that isn't want of memory isn't told so
 pub told_other : (old : Session) (answer : Answer) (output : Output) (new : Session)

@@ -1,6 +1,6 @@
 -- What a change of the map does to the peers and to their places.
 use Rattle.std.proofs.Common.{◌≡◌, ◌≢◌, ◌∙◌, ap, refl, subst, sym, rules, ℕ}
-use Rattle.std.proofs.Common.{Option, None, Some, nat_eq, arith, ◌+◌}
+use Rattle.std.proofs.Common.{Option, None, Some, nat_eq, arith, ◌+◌, true≢false}
 use Rattle.std.specs.Prelude.{is_some, option_and_then, if◌then◌else◌}
 use Rattle.std.specs.HashMap.{get, hash_map_len, UpdatesBy, WritesThrough}
 use Rattle.std.specs.List.{list_any}
@@ -119,7 +119,7 @@ pub ClosesPeer-from_remove : (old new : Peers) (number : ℕ) (had : Option (Opt
 ClosesPeer-from_remove old new number had is changes count = record {
   gone = peer_at-entry new number _ changes.1;
   others = others_stay old new number _ changes;
-  no_place = λ has. cc (has_place-entry new number _ changes.1, has);
+  no_place = λ has. true≢false (sym has ∙ has_place-entry new number _ changes.1);
   other_places = other_places_stay old new number _ changes;
   count = count_without old new number had is count;
 }

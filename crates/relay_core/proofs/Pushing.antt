@@ -2,8 +2,9 @@
 use Rattle.std.proofs.Common.{◌≡◌, ◌<◌, ◌≤◌, ◌++◌, ◌∷◌, ℕ, Bool, true, false, List, []}
 use Rattle.std.proofs.Common.{Option, None, Some, refl, sym, ap, subst, ◌∙◌, arith}
 use Rattle.std.proofs.Math.ListN.{length-set}
-use Rattle.std.proofs.lemmas.Bool.Decides.{nat_tests}
+use Rattle.std.proofs.lemmas.Bool.{le-ltb, leb-false, leb-true, lt-ltb}
 use Rattle.std.proofs.lemmas.List.{length-map, map-append}
+use Rattle.std.proofs.lemmas.Option.{none-some}
 use Rattle.std.specs.Prelude.{nat_le, nat_lt, length, map, get_or}
 use Rattle.std.specs.Vec.{with_item}
 use Rattle.article_verdict.specs.Config.{terms_of}
@@ -38,6 +39,11 @@ queue_length group_writer q e = ap length e ∙ length-map (jobs_of group_writer
 same_job : (a b : Job) → Some a ≡ Some b → a ≡ b
 same_job a b e = cc
 
+-- a group that is there isn't past the last
+not_past : (here group there count : ℕ) → here < there → here ≡ group → count ≡ there
+    → count ≤ group → ⊥
+not_past here group there count within same counted past = omega arith
+
 module _ {S : Type 0} {g : Ghosts S} (group : ℕ) (old : System S g) (peer : Peer) (n now : ℕ)
   where
     abbrev w : Terms
@@ -57,7 +63,7 @@ module _ {S : Type 0} {g : Ghosts S} (group : ℕ) (old : System S g) (peer : Pe
         ap (λ h. length (x.work.queue h)) asked.2
         ∙ queue_length group_writer (x.work.queue group) here.0 in
         let none : nat_lt (length (x.work.queue job.article.group)) 64 ≡ false =
-        grind (arith, nat_tests) in
+        le-ltb _ 64 (subst (λ (k : ℕ). 64 ≤ k) (sym size) (leb-true 64 _ full)) in
         let P : Ask → Type 0 = λ ask. Gives w n now ask gathered x (answers.Pushed false) old
         peer.slot in (
           subst P (sym asked.1) (record {
@@ -79,7 +85,7 @@ module _ {S : Type 0} {g : Ghosts S} (group : ℕ) (old : System S g) (peer : Pe
         (record peer { session = session })
     no_job session result none hands = λ x m d gathered but slot fits planned asked some.
         let over = hands w m d gathered asked.0 planned asked.1 in
-        absurd (let bad : Some over.one ≡ None = sym over.result_is ∙ none in cc)
+        absurd (none-some over.one (sym none ∙ over.result_is))
 
     -- the job joins its group writer
     pub job_pushed
@@ -109,7 +115,7 @@ module _ {S : Type 0} {g : Ghosts S} (group : ℕ) (old : System S g) (peer : Pe
         ap (λ h. length (x.work.queue h)) asked.2
         ∙ queue_length group_writer (x.work.queue group) here.0 in
         let has_room : nat_lt (length (x.work.queue one.article.group)) 64 ≡ true =
-        grind (arith, nat_tests) in
+        lt-ltb _ 64 (subst (λ (k : ℕ). k < 64) (sym size) (leb-false 64 _ room)) in
         let new : System S g = record old {
           group_writers =
               with_item old.group_writers group
@@ -163,4 +169,4 @@ module _ {S : Type 0} {g : Ghosts S} (group : ℕ) (old : System S g) (peer : Pe
         subst (λ (ask : Ask). AskFits w x ask gathered) asked.1 fits in
         let count : length old.group_writers.items ≡ length w.groups = but.core.count in
         let same : asked.0.article.group ≡ group = asked.2 in
-        absurd (omega arith)
+        absurd (not_past asked.0.article.group group _ _ inside same count past)

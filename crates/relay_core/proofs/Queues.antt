@@ -1,8 +1,8 @@
 -- A pop, an answer, and the writer out of its group writer and back.
 use Rattle.std.proofs.Common.{◌≡◌, ◌<◌, ◌≤◌, ℕ, true, false, List, Option, None}
-use Rattle.std.proofs.Common.{Some, Vec, refl, sym, ap, subst, ◌∙◌, arith}
+use Rattle.std.proofs.Common.{Some, Vec, refl, sym, ap, subst, ◌∙◌}
 use Rattle.std.proofs.Math.ListN.{length-set, set}
-use Rattle.std.proofs.lemmas.Bool.Decides.{nat_tests}
+use Rattle.std.proofs.lemmas.Bool.{le-leb, le-ltb, lt-leb, lt-ltb}
 use Rattle.std.proofs.lemmas.Option.{slice_get-get_or}
 use Rattle.std.specs.Prelude.{length, map, slice_get, get_or, vec_len, nat_le, nat_lt}
 use Rattle.std.specs.Vec.{with_item}
@@ -45,7 +45,7 @@ use Rattle.relay_core.specs.Openings.{opening_of}
 use Rattle.relay_core.specs.Queues.{IsPopped, jobs_of}
 use Rattle.relay_core.specs.Sharing.{KeepsFrame}
 use Rattle.relay_core.specs.Steps.{Steps}
-use Rattle.relay_core.specs.Writing.{Advances, WriterOut}
+use Rattle.relay_core.specs.Writing.{Advances, WriterOut, writer_of}
 use Rattle.relay_core.specs.declared.event.CoreError.TheVariants as faults
 use Rattle.relay_core.specs.declared.event.Output.TheVariants as outputs
 use Rattle.relay_core.specs.declared.queue.Queue.{Queue}
@@ -82,7 +82,7 @@ module _ {S : Type 0} {g : Ghosts S} (h now : ℕ) (old : System S g) where
   w = terms_of old.config
 
   -- the oldest job is taken
-  pub popped_one : (group_writer : GroupWriter) (job : Job) (queue : Queue)
+  popped_one : (group_writer : GroupWriter) (job : Job) (queue : Queue)
       → h < length old.group_writers.items
       → group_writer ≡ get_or old.group_writers.items h group_writer
       → IsPopped (jobs_of group_writer.queue) (Some job) (jobs_of queue)
@@ -130,7 +130,7 @@ module _ {S : Type 0} {g : Ghosts S} (h now : ℕ) (old : System S g) where
       }
 
   -- no job waits
-  pub none_popped : (group_writer : GroupWriter) (queue : Queue)
+  none_popped : (group_writer : GroupWriter) (queue : Queue)
       → h < length old.group_writers.items
       → group_writer ≡ get_or old.group_writers.items h group_writer
       → IsPopped (jobs_of group_writer.queue) None (jobs_of queue)
@@ -166,6 +166,31 @@ module _ {S : Type 0} {g : Ghosts S} (h now : ℕ) (old : System S g) where
           peers = out.peers;
         };
       }
+
+  -- the oldest job is taken, if there is one
+  pub popped_job : (group_writer : GroupWriter) (job : Option Job) (queue : Queue)
+      (writer : Writer Begun)
+      → h < length old.group_writers.items
+      → group_writer ≡ get_or old.group_writers.items h group_writer
+      → IsPopped (jobs_of group_writer.queue) job (jobs_of queue) → writer ≡ writer_of job
+      → Advances h now code.Idle old writer (record old {
+        group_writers =
+            with_item old.group_writers h (record { queue = queue; writer = group_writer.writer });
+      })
+  popped_job group_writer job queue writer inside at pops is =
+      subst (λ v. Advances h now code.Idle old v (record old {
+        group_writers =
+            with_item old.group_writers h (record { queue = queue; writer = group_writer.writer });
+      })) (sym is) (by_job job pops)
+    where
+      by_job : (o : Option Job) → IsPopped (jobs_of group_writer.queue) o (jobs_of queue)
+          → Advances h now code.Idle old (writer_of o) (record old {
+            group_writers =
+                with_item old.group_writers h
+                (record { queue = queue; writer = group_writer.writer });
+          })
+      by_job None none = none_popped group_writer queue inside at none
+      by_job (Some one) some = popped_one group_writer one queue inside at some
 
   told_out : (s : ℕ) (outcome : Outcome) (v : Writer Begun) (x : World) (peers : Peers)
       → TellsPeer s outcome old.peers peers → opening_of (writer_view token_of v) ≡ None
@@ -296,9 +321,8 @@ module _ {S : Type 0} {g : Ghosts S} where
       let there : slice_get advanced.group_writers.items h ≡ Some last =
       slice_get-get_or advanced.group_writers.items h last inside' ∙ ap Some (sym at') in
       let one : nat_lt h (length w.groups) ≡ true =
-      let e : length old.group_writers.items ≡ length w.groups = agrees.core.count in
-      grind (arith, nat_tests) in
-      let other : nat_le now last_moment ≡ true = grind (arith, nat_tests) in
+      lt-ltb h _ (subst (λ (k : ℕ). h < k) agrees.core.count inside) in
+      let other : nat_le now last_moment ≡ true = le-leb now last_moment in_time in
       let open_one : refusal w x.state (run.Write h now) ≡ None =
       λ i. first_of_two (one i) world.NoGroup (other i) world.BadMoment in
       let step : run.Step w x (run.Write h now) world.Quiet a.after =
@@ -345,10 +369,8 @@ module _ {S : Type 0} {g : Ghosts S} where
   pub no_group : (s : System S g) (h now : ℕ) → length s.group_writers.items ≤ h
       → Steps (run.Write h now) s (outputs.Refused faults.NoGroup) s
   no_group s h now past = refused (run.Write h now) faults.NoGroup s (λ x agrees.
-      let e : length s.group_writers.items ≡ length (terms_of s.config).groups =
-      agrees.core.count in
       let none : nat_lt h (length (terms_of s.config).groups) ≡ false =
-      grind (arith, nat_tests) in
+      le-ltb h _ (subst (λ (k : ℕ). k ≤ h) agrees.core.count past) in
       ap (λ b. first_of_two b world.NoGroup (nat_le now last_moment) world.BadMoment) none)
 
   -- it is too late
@@ -356,9 +378,7 @@ module _ {S : Type 0} {g : Ghosts S} where
       → last_moment < now
       → Steps (run.Write h now) s (outputs.Refused faults.BadMoment) s
   late_write s h now within late = refused (run.Write h now) faults.BadMoment s (λ x agrees.
-      let e : length s.group_writers.items ≡ length (terms_of s.config).groups =
-      agrees.core.count in
       let one : nat_lt h (length (terms_of s.config).groups) ≡ true =
-      grind (arith, nat_tests) in
-      let past : nat_le now last_moment ≡ false = grind (arith, nat_tests) in
+      lt-ltb h _ (subst (λ (k : ℕ). h < k) agrees.core.count within) in
+      let past : nat_le now last_moment ≡ false = lt-leb now last_moment late in
       λ i. first_of_two (one i) world.NoGroup (past i) world.BadMoment)

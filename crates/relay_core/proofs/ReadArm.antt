@@ -1,6 +1,6 @@
 -- The arm of `share` that reads a block.
 use Rattle.std.proofs.Common.{◌≡◌, ◌<◌, ◌*◌, ℕ, true, List, All}
-use Rattle.std.proofs.Common.{Some, refl, sym, ap, subst, ◌∙◌, arith}
+use Rattle.std.proofs.Common.{Some, refl, sym, ap, subst, ◌∙◌, arith, le_refl}
 use Rattle.std.specs.Prelude.{max, take}
 use Rattle.article_fetch.specs.Fetch.{Fetch, FoundAs}
 use Rattle.article_fetch.specs.declared.chunk.Chunk.{Chunk}
@@ -129,7 +129,7 @@ module _ {S : Type 0} {g : Ghosts S} (n now : ℕ) (old : System S g) (peer : Pe
       record {
         told = shares.ToRead (fetched w x.state token);
         between = with_failures x x.work.failures;
-        shares = shares.IsFound x.work.failures (λ b. omega arith) refl refl;
+        shares = shares.IsFound x.work.failures (λ b. le_refl (x.work.failures b)) refl refl;
         answers = (
           read,
           fetched w x.state token,

@@ -1,7 +1,7 @@
 -- Events are refused in the order of the reasons, and nothing changes by it.
 use Rattle.std.proofs.Common.{◌≡◌, ◌<◌, ◌≤◌, ℕ, Bool, true, false, List, Option, None, Some, refl}
-use Rattle.std.proofs.Common.{sym, ap, subst, ◌∙◌, arith, true≢false}
-use Rattle.std.proofs.lemmas.Bool.Decides.{nat_tests}
+use Rattle.std.proofs.Common.{sym, ap, subst, ◌∙◌, true≢false}
+use Rattle.std.proofs.lemmas.Bool.{le-leb, le-ltb, lt-leb, lt-ltb}
 use Rattle.std.specs.Prelude.{length, nat_le, nat_lt, if◌then◌else◌}
 use Rattle.article_verdict.specs.Config.{terms_of}
 use Rattle.cyc_block.specs.declared.store.BlockStore.{Ghosts}
@@ -116,7 +116,7 @@ module _ {S : Type 0} {g : Ghosts S} (s : System S g) where
       → last_moment < now → reason (run.Turn n now) ≡ Some world.BadMoment
   late_turn n now answer is right late =
       let e = sym is ∙ right in
-      let f : nat_le now last_moment ≡ false = grind (arith, nat_tests) in
+      let f : nat_le now last_moment ≡ false = lt-leb now last_moment late in
       λ i. first_of_two (e i) world.NoSession (f i) world.BadMoment
 
   pub turn_open : (n now : ℕ) (answer : Bool)
@@ -124,7 +124,7 @@ module _ {S : Type 0} {g : Ghosts S} (s : System S g) where
       → now ≤ last_moment → reason (run.Turn n now) ≡ None
   turn_open n now answer is right early =
       let e = sym is ∙ right in
-      let f : nat_le now last_moment ≡ true = grind (arith, nat_tests) in
+      let f : nat_le now last_moment ≡ true = le-leb now last_moment early in
       λ i. first_of_two (e i) world.NoSession (f i) world.BadMoment
 
   -- those of a Write
@@ -132,8 +132,7 @@ module _ {S : Type 0} {g : Ghosts S} (s : System S g) where
       → reason (run.Write h now) ≡ Some world.NoGroup
   no_group h now past laned =
       let f : nat_lt h (length (terms_of s.config).groups) ≡ false =
-      let e : length s.group_writers.items ≡ length (terms_of s.config).groups = laned in
-      grind (arith, nat_tests) in
+      le-ltb h _ (subst (λ (k : ℕ). k ≤ h) laned past) in
       ap (λ b. first_of_two b world.NoGroup (nat_le now last_moment) world.BadMoment) f
 
   pub late_write : (h now : ℕ) → h < length s.group_writers.items → last_moment < now
@@ -141,9 +140,8 @@ module _ {S : Type 0} {g : Ghosts S} (s : System S g) where
       → reason (run.Write h now) ≡ Some world.BadMoment
   late_write h now within late laned =
       let e : nat_lt h (length (terms_of s.config).groups) ≡ true =
-      let l : length s.group_writers.items ≡ length (terms_of s.config).groups = laned in
-      grind (arith, nat_tests) in
-      let f : nat_le now last_moment ≡ false = grind (arith, nat_tests) in
+      lt-ltb h _ (subst (λ (k : ℕ). h < k) laned within) in
+      let f : nat_le now last_moment ≡ false = lt-leb now last_moment late in
       λ i. first_of_two (e i) world.NoGroup (f i) world.BadMoment
 
   pub write_open : (h now : ℕ) → h < length s.group_writers.items → now ≤ last_moment
@@ -151,9 +149,8 @@ module _ {S : Type 0} {g : Ghosts S} (s : System S g) where
       → reason (run.Write h now) ≡ None
   write_open h now within early laned =
       let e : nat_lt h (length (terms_of s.config).groups) ≡ true =
-      let l : length s.group_writers.items ≡ length (terms_of s.config).groups = laned in
-      grind (arith, nat_tests) in
-      let f : nat_le now last_moment ≡ true = grind (arith, nat_tests) in
+      lt-ltb h _ (subst (λ (k : ℕ). h < k) laned within) in
+      let f : nat_le now last_moment ≡ true = le-leb now last_moment early in
       λ i. first_of_two (e i) world.NoGroup (f i) world.BadMoment
 
   -- those of Bytes and Break
@@ -185,14 +182,12 @@ module _ {S : Type 0} {g : Ghosts S} (s : System S g) where
       → reason (run.Open n peer) ≡ Some world.NoPeer
   no_peer n peer answer is wrong past =
       let e = sym is ∙ wrong in
-      let f : nat_lt peer (length (terms_of s.config).peers) ≡ false =
-      grind (arith, nat_tests) in
+      let f : nat_lt peer (length (terms_of s.config).peers) ≡ false = le-ltb peer _ past in
       λ i. open_if (e i) (f i)
 
   pub may_open : (n peer : ℕ) (answer : Bool) → answer ≡ is_taken s.newest n → answer ≡ false
       → peer < length (terms_of s.config).peers → reason (run.Open n peer) ≡ None
   may_open n peer answer is wrong within =
       let e = sym is ∙ wrong in
-      let f : nat_lt peer (length (terms_of s.config).peers) ≡ true =
-      grind (arith, nat_tests) in
+      let f : nat_lt peer (length (terms_of s.config).peers) ≡ true = lt-ltb peer _ within in
       λ i. open_if (e i) (f i)

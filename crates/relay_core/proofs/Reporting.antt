@@ -4,7 +4,7 @@ use Rattle.std.proofs.Common.{arith, ap, sym, zero-add}
 use Rattle.std.proofs.Math.ListN.{get_or-map}
 use Rattle.std.proofs.lemmas.List.{length-map, map_push, take_all, take_more}
 use Rattle.std.proofs.lemmas.List.FromFn.{get_or-enumerate_from, length-enumerate_from}
-use Rattle.std.proofs.lemmas.Option.{slice_get-get_or, slice_get-map}
+use Rattle.std.proofs.lemmas.Option.{none-some, same_Some, slice_get-get_or, slice_get-map}
 use Rattle.std.specs.List.{enumerate_from}
 use Rattle.std.specs.Prelude.{get_or, length, map, option_map, slice_get, slice_index, take}
 use Rattle.std.specs.Prelude.{Option}
@@ -87,7 +87,11 @@ buffer_joins config σ n conf figures within is tells name same named more joine
     let one : code.NamedBuffer = record { name = name; figures = figures } in
     let told = told_at config σ n conf (Some figures) within tells in
     let f = named_buffer config σ in
-    let named_one : buffer_view one ≡ f (n, get_or all n conf) = cc (told, same, is) in
+    let shown : figures_view figures
+    ≡ buffer_figures (terms_of config) σ (numbered_buffer (n, get_or all n conf)) =
+    same_Some _ _ told in
+    let named_one : buffer_view one ≡ f (n, get_or all n conf) =
+    λ i. record { name = (same ∙ ap (λ (b : BufferConf). b.name) is) i; figures = shown i } in
     ap (map buffer_view) joined ∙ map_push buffer_view named one
     ∙ ap (λ xs. xs ++ buffer_view one ∷ []) so_far
     ∙ ap (λ y. take n (named_buffers config σ) ++ y ∷ []) named_one
@@ -97,7 +101,7 @@ buffer_joins config σ n conf figures within is tells name same named more joine
 pub buffer_there : (config : Config) (σ : State) (n : ℕ) (conf : BufferConf)
     → n < length config.buffers.buffers.items → TellsFigures (terms_of config) σ n None → ⊥
 buffer_there config σ n conf within tells =
-    let told = told_at config σ n conf None within tells in cc (told)
+    none-some _ (told_at config σ n conf None within tells)
 
 -- the next feed joins those before it
 pub feed_joins : (config : Config) (σ : State) (n : ℕ) (conf : Feed) (figures : FeedFigures)
@@ -125,7 +129,11 @@ feed_joins config σ n conf figures within is tells peer has_peer is_peer name s
     same ∙ ap (λ (p : Peer). p.name) is_peer
     ∙ sym (ap name_of (slice_get-get_or config.relay.peers.items conf.peer peer has_peer)) in
     let f = named_feed config σ in
-    let named_one : feed_view one ≡ f (n, get_or all n conf) = cc (told, named_so, is) in
+    let named_one : feed_view one ≡ f (n, get_or all n conf) = λ i. record {
+      peer = (named_so
+          ∙ ap (λ (feed : Feed). name_of (slice_get config.relay.peers.items feed.peer)) is) i;
+      figures = told i;
+    } in
     ap (map feed_view) joined ∙ map_push feed_view named one
     ∙ ap (λ xs. xs ++ feed_view one ∷ []) so_far
     ∙ ap (λ y. take n (named_feeds config σ) ++ y ∷ []) named_one

@@ -21,11 +21,12 @@ use Rattle.relay_model.specs.Run as run
 use Rattle.relay_model.specs.Run.{restarted}
 use Rattle.relay_model.specs.Terms.{Terms}
 use Rattle.relay_model.specs.World as world
-use Rattle.relay_model.specs.World.{World, with_failures}
+use Rattle.relay_model.specs.World.{Fault, World, with_failures}
 use Rattle.relay_core.specs.Peers.{NoPeers, peer_at}
 use Rattle.relay_core.specs.declared.peers.Peers.{Peers}
 use Rattle.relay_core.proofs.Beginnings.{idle_group_writers, rings_are}
 use Rattle.relay_core.proofs.Records.{record_holds}
+use Rattle.relay_core.proofs.Refusing.{never_refuses}
 use Rattle.relay_core.proofs.Starts.{nobody}
 use Rattle.relay_core.proofs.Stops.{closed_texts, nothing_open}
 use Rattle.relay_core.specs.Agreement.{Agrees, ring_sizes}
@@ -44,6 +45,23 @@ use Rattle.relay_core.specs.declared.event.Output.TheVariants as outputs
 use Rattle.block_shelf.specs.declared.restarting.RestartFault.{RestartFault}
 use Rattle.block_shelf.specs.declared.restarting.RestartFault.TheVariants as restarts
 use Rattle.relay_core.specs.declared.system.System.{System}
+
+-- a refusal of the buffer set isn't that an id is being stored
+pub not_idle : (fault : RestartFault) → refused_as fault ≡ faults.NotIdle → ⊥
+not_idle restarts.Memory e = cc
+not_idle restarts.Busy e = cc
+not_idle (restarts.Failed number) e = cc
+
+-- what is refused isn't quiet
+not_quiet : {A : Type 0} (error : CoreError) → outputs.Refused error ≡ outputs.Quiet → A
+not_quiet error is = absurd (cc)
+
+-- the reason of a refusal is its own
+same_error : (a b : CoreError) → outputs.Refused a ≡ outputs.Refused b → a ≡ b
+same_error a b is = cc
+
+same_fault : (a b : Fault) → world.Refuses a ≡ world.Refuses b → a ≡ b
+same_fault a b is = cc
 
 module _ {S : Type 0} {g : Ghosts S} (s : System S g) where
   abbrev w : Terms
@@ -255,7 +273,7 @@ module _ {S : Type 0} {g : Ghosts S} (s : System S g) where
         idle = λ claims keeps is. tells claims keeps;
         same = λ is. refl;
         only = λ fault is.
-            subst IsOfRestart (let e : world.NotIdle ≡ fault = cc in e) tt;
+            subst IsOfRestart (same_fault world.NotIdle fault is) tt;
         kept = λ fault is trusted x agrees.
             record {
               later = x.work.failures;
@@ -263,7 +281,7 @@ module _ {S : Type 0} {g : Ghosts S} (s : System S g) where
               agrees = agrees;
             };
         stays = λ fault is. refl;
-        stop = λ is. absurd (cc);
+        stop = λ is. not_quiet faults.NotIdle is;
       }
 
   -- one that is refused otherwise
@@ -276,13 +294,12 @@ module _ {S : Type 0} {g : Ghosts S} (s : System S g) where
       record {
         busy = λ claims keeps id storing.
             absurd (true≢false (sym storing ∙ idle claims keeps id));
-        idle = λ claims keeps is. absurd (other (let e : error ≡ faults.NotIdle = cc in e));
-        same = λ is. absurd (other (let e : error ≡ faults.NotIdle = cc in e));
-        only = λ fault is.
-            subst IsOfRestart (let e : fault_view error ≡ fault = cc in e) of;
+        idle = λ claims keeps is. absurd (other (same_error error faults.NotIdle is));
+        same = λ is. absurd (other (same_error error faults.NotIdle is));
+        only = λ fault is. subst IsOfRestart (same_fault (fault_view error) fault is) of;
         kept = λ fault is. later;
         stays = λ fault is. same;
-        stop = λ is. absurd (cc);
+        stop = λ is. not_quiet error is;
       }
 
   -- the buffer set that is left keeps all
@@ -298,16 +315,11 @@ module _ {S : Type 0} {g : Ghosts S} (s : System S g) where
         agrees = agrees_later trusted x result buffer_set agrees idle stays;
       }
 
-  -- a refusal of the buffer set is one of a Restart, and not that it isn't idle
+  -- a refusal of the buffer set is one of a Restart
   of_restart : (fault : RestartFault) → IsOfRestart (fault_view (refused_as fault))
   of_restart restarts.Memory = tt
   of_restart restarts.Busy = tt
   of_restart (restarts.Failed number) = tt
-
-  not_idle : (fault : RestartFault) → refused_as fault ≡ faults.NotIdle → ⊥
-  not_idle restarts.Memory e = cc
-  not_idle restarts.Busy e = cc
-  not_idle (restarts.Failed number) e = cc
 
   -- one that is refused by the buffer set
   pub rightly_there : (result : Result (Unit {0}) RestartFault) (fault : RestartFault)
@@ -336,10 +348,10 @@ module _ {S : Type 0} {g : Ghosts S} (s : System S g) where
       record {
         busy = λ claims keeps id storing.
             absurd (true≢false (sym storing ∙ idle claims keeps id));
-        idle = λ claims keeps is. absurd (cc);
-        same = λ is. absurd (cc);
-        only = λ fault is. absurd (cc);
-        kept = λ fault is. absurd (cc);
-        stays = λ fault is. absurd (cc);
+        idle = λ claims keeps is. not_quiet faults.NotIdle (sym is);
+        same = λ is. not_quiet faults.NotIdle (sym is);
+        only = λ fault is. absurd (never_refuses world.Quiet fault is refl);
+        kept = λ fault is. absurd (never_refuses world.Quiet fault is refl);
+        stays = λ fault is. absurd (never_refuses world.Quiet fault is refl);
         stop = λ is. raised;
       }

@@ -106,17 +106,23 @@ kept_stays w x n now (asks.Releases id) told y h = ap (λ (z : World). z.state.k
 kept_stays w x n now (asks.Pushes job) told y h = push_kept x job _ told y h
 kept_stays w x n now (asks.Reads asked token had) told y h = read_kept w x token told y h
 
+same_found : (a b : Fetched) → shares.ToRead a ≡ shares.ToRead b → a ≡ b
+same_found a b e = cc
+
+-- what wasn't read is no article
+not_read : (text : List ℕ) → shares.ToRead fetches.NotRead ≡ shares.ToRead (fetches.Article text)
+    → ⊥
+not_read text e = cc
+
 -- what was read is what is whole under the token
 read_whole : (w : Terms) (x : World) (token : terms.Token) (told : shares.Answer) (y : World)
     (text : List ℕ) → Reading w x token told y → told ≡ shares.ToRead (fetches.Article text)
     → text_under x.state.kept token ≡ Some text
 read_whole w x token told y text (shares.IsFound failures rises answer after) is =
     found_whole w x.state token text
-    (let e : shares.ToRead (fetches.fetched w x.state token)
-    ≡ shares.ToRead (fetches.Article text) = sym answer ∙ is in cc)
+    (same_found (fetches.fetched w x.state token) (fetches.Article text) (sym answer ∙ is))
 read_whole w x token told y text (shares.HasNotRead failures undecided failed answer after) is =
-    absurd (let e : shares.ToRead fetches.NotRead ≡ shares.ToRead (fetches.Article text) =
-    sym answer ∙ is in cc)
+    absurd (not_read text (sym answer ∙ is))
 
 -- a fetch takes no more Turns than the article has blocks, but one in any case
 few_turns : (asked : model.Asked) (token : terms.Token) (k : ℕ)
@@ -128,8 +134,15 @@ few_turns (model.OfId commands.BodyLines id) token k h = grind (arith, nat_tests
 few_turns (model.OfId commands.OverviewLine id) token k h = grind (arith, nat_tests)
 few_turns (model.OfId commands.Presence id) token k h = grind (arith, nat_tests)
 
-same_found : (a b : Fetched) → shares.ToRead a ≡ shares.ToRead b → a ≡ b
-same_found a b e = cc
+-- a fetch has had as many blocks as one that is the same
+same_had : (asked : model.Asked) (token : terms.Token) (a b : ℕ)
+    → model.Fetches asked token a ≡ model.Fetches asked token b → a ≡ b
+same_had asked token a b e = cc
+
+-- a session that is ready fetches nothing
+no_fetch : (asked : model.Asked) (token : terms.Token) (had : ℕ)
+    → model.Ready ≡ model.Fetches asked token had → ⊥
+no_fetch asked token had e = cc
 
 -- a fetch goes on exactly where it has more Turns
 goes_right : (s : model.Session) (asked : model.Asked) (token : terms.Token) (before had : ℕ)
@@ -138,13 +151,12 @@ goes_right : (s : model.Session) (asked : model.Asked) (token : terms.Token) (be
     → ReadHeard s asked token before found b heard
     → heard.session.phase ≡ model.Fetches asked token had → had < size_of token.length
 goes_right s asked token before had found text true heard ready is more h at =
-    let e : model.Fetches asked token (before + 1) ≡ model.Fetches asked token had =
-    ap (λ (one : Heard). one.session.phase) (sym h) ∙ at in
-    let same : before + 1 ≡ had = cc in
+    let same : before + 1 ≡ had = same_had asked token (before + 1) had
+    (ap (λ (one : Heard). one.session.phase) (sym h) ∙ at) in
     subst (λ (k : ℕ). k < size_of token.length) same (few_turns asked token before more)
 goes_right s asked token before had found text false heard ready is more h at =
-    absurd (let e : model.Ready ≡ model.Fetches asked token had =
-    sym ready ∙ ap (λ (one : Heard). one.session.phase) (sym h.2) ∙ at in cc)
+    absurd (no_fetch asked token had
+    (sym ready ∙ ap (λ (one : Heard). one.session.phase) (sym h.2) ∙ at))
 
 -- a fetch that goes on has a block left
 more_left : (w : Terms) (x : World) (n now : ℕ) (m : model.Session) (d : Due) (told : shares.Answer)

@@ -1,7 +1,7 @@
 -- Open, Bytes and Break.
 use Rattle.std.proofs.Common.{◌≡◌, ◌<◌, ◌≤◌, ◌++◌, ℕ, Bool, true, false, List, [], Option}
-use Rattle.std.proofs.Common.{None, Some, refl, sym, ap, subst, ◌∙◌, arith}
-use Rattle.std.proofs.lemmas.Bool.Decides.{nat_tests}
+use Rattle.std.proofs.Common.{None, Some, refl, sym, ap, subst, ◌∙◌}
+use Rattle.std.proofs.lemmas.Bool.{le-ltb, lt-ltb}
 use Rattle.std.proofs.lemmas.List.{length-map}
 use Rattle.std.specs.Prelude.{length, nat_lt, vec_len, if◌then◌else◌}
 use Rattle.article_verdict.proofs.SoundTerms.{are_sound}
@@ -228,7 +228,7 @@ module _ {S : Type 0} {g : Ghosts S} (s : System S g) (n : ℕ) where
   no_peer peer answer is wrong past = refused (run.Open n peer) faults.NoPeer s (λ x agrees.
       let e : is_taken x.state.newest n ≡ false =
       ap (λ o. is_taken o n) agrees.core.newest ∙ sym is ∙ wrong in
-      let f : nat_lt peer (length w.peers) ≡ false = grind (arith, nat_tests) in
+      let f : nat_lt peer (length w.peers) ≡ false = le-ltb peer _ past in
       λ i. if e i then Some world.SessionTaken else (if f i then None else Some world.NoPeer))
 
   -- a session opens
@@ -242,7 +242,7 @@ module _ {S : Type 0} {g : Ghosts S} (s : System S g) (n : ℕ) where
       λ x agrees.
       let e : is_taken x.state.newest n ≡ false =
       ap (λ o. is_taken o n) agrees.core.newest ∙ sym is ∙ wrong in
-      let f : nat_lt peer (length w.peers) ≡ true = grind (arith, nat_tests) in
+      let f : nat_lt peer (length w.peers) ≡ true = lt-ltb peer _ within in
       let open_one : refusal w x.state (run.Open n peer) ≡ None =
       λ i. if e i then Some world.SessionTaken
       else (if f i then None else Some world.NoPeer) in

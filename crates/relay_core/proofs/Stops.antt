@@ -35,7 +35,8 @@ use Rattle.relay_model.specs.World.{World}
 use Rattle.relay_core.specs.Agreement.{Agrees, IsGone, ring_sizes}
 use Rattle.relay_core.specs.Idle.{TellsIdle}
 use Rattle.relay_core.specs.Openings.{opening_of, openings}
-use Rattle.relay_core.specs.Stopping.{ComesBack, IsFromBufferSet, Shuts, TellsHistory, next_stop}
+use Rattle.relay_core.specs.Stopping.{AreKeptFeeds, ComesBack, IsFromBufferSet, Shuts}
+use Rattle.relay_core.specs.Stopping.{TellsHistory, next_stop}
 use Rattle.relay_core.specs.Stopping.{stop_of}
 use Rattle.block_shelf.specs.Stopping.{HoldsKept, IsBusyBufferSet, TellsPositions}
 use Rattle.relay_core.specs.declared.stopped.Stopped.{Stopped}
@@ -132,27 +133,24 @@ waits_join kept more one joined before fits =
     (All-push P kept one before
     (omega (arith, fits.waiting, length-map one.waiting.items token_view)))
 
-module _ (config : Config) where
-  -- there are as many rings as feeds
-  sizes_count : length (ring_sizes (terms_of config)) ≡ length config.relay.feeds.items
-  sizes_count =
-      length-map (terms_of config).feeds (λ (feed : FeedTerms). feed.ring)
-      ∙ length-map config.relay.feeds.items conf_view
+-- no feed of a desk is missing
+pub feed_missing : (desk : FeedDesk) (sizes : List ℕ) (feed : ℕ → model.Feed) (n : ℕ)
+    → KeepsFeeds desk sizes feed → n < length sizes → ring_count desk ≤ n → ⊥
+feed_missing desk sizes feed n keeps within past =
+    absurd (omega (arith, keeps.count, within, past))
 
-  -- no feed of the configuration is missing
-  pub feed_missing : (desk : FeedDesk) (feed : ℕ → model.Feed) (n : ℕ)
-      → KeepsFeeds desk (ring_sizes (terms_of config)) feed
-      → n < length config.relay.feeds.items → ring_count desk ≤ n → ⊥
-  feed_missing desk feed n keeps within past =
-      absurd (omega (arith, keeps.count, sizes_count, within, past))
+-- this is left of all feeds
+pub all_left : (n : ℕ) (kept : List KeptFeed) (sizes : List ℕ) (feed : ℕ → model.Feed)
+    → n ≡ length sizes → AreLeftSoFar n kept sizes feed → AreLeft kept sizes feed
+all_left n kept sizes feed all so_far =
+    record { count = so_far.count ∙ all; each = so_far.each }
 
-  -- this is left of all feeds
-  pub all_left : (n : ℕ) (kept : List KeptFeed) (feed : ℕ → model.Feed)
-      → n ≡ length config.relay.feeds.items
-      → AreLeftSoFar n kept (ring_sizes (terms_of config)) feed
-      → AreLeft kept (ring_sizes (terms_of config)) feed
-  all_left n kept feed all so_far =
-      record { count = so_far.count ∙ all ∙ sym sizes_count; each = so_far.each }
+-- there are as many rings as feeds
+sizes_count : (config : Config)
+    → length (ring_sizes (terms_of config)) ≡ length config.relay.feeds.items
+sizes_count config =
+    length-map (terms_of config).feeds (λ (feed : FeedTerms). feed.ring)
+    ∙ length-map config.relay.feeds.items conf_view
 
 -- WHAT CLOSING GIVES
 
@@ -205,14 +203,15 @@ module _ {S : Type 0} {g : Ghosts S} (old : System S g) where
       (closed_texts trusted x agrees (at_rest idle trusted x agrees))
 
   -- the history that is made of the parts is that of each world
-  pub tells_of : (stop : ℕ) (text : List ℕ) (kept : texts.Kept) → Fits kept
+  pub tells_of : (stop : ℕ) (text : List ℕ) (kept : texts.Kept) (count : ℕ)
+      (feeds : List code.KeptFeed) → Fits kept
       → text ≡ history_octets kept → kept.stop ≡ stop → kept.newest ≡ newest_kept old.newest
-      → TellsPositions old.buffer_set kept.positions
-      → ((feed : ℕ → model.Feed) → KeepsFeeds old.desk (ring_sizes w) feed
-      → AreLeft kept.feeds (ring_sizes w) feed)
+      → TellsPositions old.buffer_set kept.positions → kept.feeds ≡ map feed_view feeds
+      → count ≡ length old.config.relay.feeds.items → AreKeptFeeds old.desk count feeds
       → ((claim : List ℕ → Claim) → KeepsAll old.shards claim → AreLasting kept.ids claim)
       → TellsHistory old stop text
-  tells_of stop text kept fits written stops newest positions feeds ids = λ trusted x agrees.
+  tells_of stop text kept count feeds fits written stops newest positions same all left ids =
+      λ trusted x agrees.
       record {
         kept = kept;
         fits = fits;
@@ -222,7 +221,9 @@ module _ {S : Type 0} {g : Ghosts S} (old : System S g) where
           newest = newest ∙ ap newest_kept (sym agrees.core.newest);
           positions = positions trusted w x.state.begun x.state.kept (openings x.work.writer)
               x.work.failures agrees.core.buffer_set;
-          feeds = feeds x.state.feed agrees.core.desk;
+          feeds = subst (λ fs. AreLeft fs (ring_sizes w) x.state.feed) (sym same)
+              (left (ring_sizes w) x.state.feed agrees.core.desk
+              (sizes_count old.config ∙ sym all));
           ids = ids x.state.claim agrees.core.claims;
         };
       }

@@ -1,7 +1,7 @@
 -- A Turn: the peer is taken out, served and put back.
 use Rattle.std.proofs.Common.{◌≡◌, ◌≢◌, ◌≤◌, ◌<◌, ℕ, Bool, true, false, List, Option, None}
-use Rattle.std.proofs.Common.{Some, refl, sym, ap, subst, ◌∙◌, arith}
-use Rattle.std.proofs.lemmas.Bool.Decides.{nat_tests}
+use Rattle.std.proofs.Common.{Some, refl, sym, ap, subst, ◌∙◌}
+use Rattle.std.proofs.lemmas.Bool.{le-leb, lt-leb}
 use Rattle.std.specs.Prelude.{IfSome, nat_le, option_map}
 use Rattle.article_verdict.specs.Config.{terms_of}
 use Rattle.article_verdict.proofs.SoundTerms.{are_sound}
@@ -224,7 +224,7 @@ module _ {S : Type 0} {g : Ghosts S} where
   too_late s n now answer reports right late =
       refused (run.Turn n now) faults.BadMoment s (λ x agrees.
       let e = runs s n answer x true reports agrees ∙ right in
-      let f : nat_le now last_moment ≡ false = grind (arith, nat_tests) in
+      let f : nat_le now last_moment ≡ false = lt-leb now last_moment late in
       λ i. first_of_two (e i) world.NoSession (f i) world.BadMoment)
 
   -- want of memory leaves a Turn's session as it was
@@ -265,7 +265,7 @@ module _ {S : Type 0} {g : Ghosts S} where
       serves stands config gives = λ x agrees.
       let w : Terms = terms_of s.config in
       let here = lent_is true w n s x peer result lent agrees takes is in
-      let early : nat_le now last_moment ≡ true = grind (arith, nat_tests) in
+      let early : nat_le now last_moment ≡ true = le-leb now last_moment in_time in
       let has_runs = runs s n answer x true reports agrees ∙ right in
       let open_one : refusal w x.state (run.Turn n now) ≡ None =
       λ i. first_of_two (has_runs i) world.NoSession (early i) world.BadMoment in

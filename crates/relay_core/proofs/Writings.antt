@@ -1,6 +1,7 @@
 -- What a Write does, by its writer: one call of one part each.
-use Rattle.std.proofs.Common.{◌≡◌, ◌<◌, ◌≤◌, ◌+◌, ◌++◌, ◌∷◌, ℕ, Bool, true, false, List, []}
-use Rattle.std.proofs.Common.{Option, None, Some, refl, sym, ap, subst, ◌∙◌, arith}
+use Rattle.std.proofs.Common.{◌≡◌, ◌<◌, ◌≤◌, ◌+◌, ◌++◌, ◌∷◌, ℕ, Bool, true, List, []}
+use Rattle.std.proofs.Common.{Option, None, Some, refl, sym, ap, subst, ◌∙◌, arith, le_refl}
+use Rattle.std.proofs.Common.{true≢false}
 use Rattle.std.specs.Prelude.{length, Ok, Err, is_some}
 use Rattle.article_verdict.proofs.SoundTerms.{are_sound}
 use Rattle.article_verdict.specs.Config.{terms_of}
@@ -184,7 +185,7 @@ module _ {S : Type 0} {g : Ghosts S} (h now : ℕ) (job : Job) (old : System S g
       record {
         after = with_failures (writer_at x x.state h u) x.work.failures;
         writes = writers.WritesBlock (job_view job) (token_of b) written x.work.failures
-            out.writer_is left (λ k. omega arith) refl;
+            out.writer_is left (λ k. le_refl (x.work.failures k)) refl;
         out = moved w h (code.Writing job b written) old x out
             (code.Writing job b (written + 1)) u x.state x.work.failures old.shards
             old.desk buffer_set
@@ -300,10 +301,10 @@ module _ {S : Type 0} {g : Ghosts S} (h now : ℕ) (job : Job) (old : System S g
       → Advances h now (code.Finished job token) old v' new
   not_settled token result none answers = λ x out well.
       let at = is_at w h (code.Finished job token) old x out well in
-      absurd (let bad : false ≡ true = ap is_some (sym none)
+      absurd (true≢false (sym (ap is_some (sym none)
       ∙ answers x.state.claim out.claims
       ∙ storing_is job.session (article_view job.article) (claims.Whole (token_view token))
-      (x.state.claim job.id) at.1 in cc)
+      (x.state.claim job.id) at.1)))
 
   -- the open write is abandoned
   pub closed_one : (b : Begun) (buffer_set : BufferSet S g)

@@ -1,22 +1,23 @@
 -- How far forgetting has come, and what an Expire does (docs/PROTOCOL.md, Forgetting).
-use Rattle.std.specs.Prelude.{◌≡◌, ℕ, Bool, List, map, length, Option, slice_get}
-use Rattle.article_verdict.specs.Config.{terms_of}
+use Rattle.std.specs.Prelude.{◌≡◌, ◌≤◌, ℕ, Bool, List, map, length, Option, slice_get}
 use Rattle.block_shelf.specs.Keeping.{KeepsTexts}
 use Rattle.block_shelf.specs.Openings.{Opening}
 use Rattle.block_shelf.specs.Reading.{IsFrontAt}
+use Rattle.block_shelf.specs.declared.buffer_set.BufferSet.{BufferSet}
 use Rattle.cyc_block.specs.declared.store.BlockStore.{Ghosts}
 use Rattle.cyc_buffer.specs.declared.answers.Front.{Front}
 use Rattle.id_history.specs.Expiry.{passed_view}
 use Rattle.id_history.specs.Shards.{KeepsAll}
+use Rattle.id_history.specs.declared.shards.Shards.{Shards}
 use Rattle.relay_model.specs.Claims as claims
 use Rattle.relay_model.specs.Claims.{Claim}
 use Rattle.relay_model.specs.Run.{forgetter, forgetting}
 use Rattle.relay_model.specs.State.{State}
+use Rattle.relay_model.specs.Terms.{Terms}
 use Rattle.relay_model.specs.World as world
 use Rattle.relay_core.specs.declared.expiring.Expirer.{Expirer}
 use Rattle.relay_core.specs.declared.expiring.Stage.{Stage}
 use Rattle.relay_core.specs.declared.expiring.Stage.TheVariants as stages
-use Rattle.relay_core.specs.declared.system.System.{System}
 
 -- the fronts that were read, in the order of the buffers
 abbrev pub fronts_of : Expirer → List Front
@@ -32,20 +33,18 @@ abbrev pub expirer_view : Expirer → world.Expirer
 expirer_view expirer = stage_view (map passed_view (fronts_of expirer)) expirer.stage
 
 -- the front of the first buffer that wasn't read is given, unless all were read
-abbrev pub IsNextFront : {S : Type 0} {g : Ghosts S} → System S g → Option Front → Type 0
-IsNextFront system answer =
-    (trusted : Bool) (σ : State) (openings : ℕ → Option Opening) (failures : ℕ → ℕ)
-    → KeepsTexts trusted system.buffer_set (terms_of system.config) σ.begun σ.kept openings failures
-    → IsFrontAt (terms_of system.config) σ
-    (slice_get (terms_of system.config).buffers (length (fronts_of system.expirer))) answer
+abbrev pub IsNextFront : {S : Type 0} {g : Ghosts S} → BufferSet S g → Expirer → Option Front
+    → Type 0
+IsNextFront buffer_set expirer answer =
+    (trusted : Bool) (w : Terms) (σ : State) (openings : ℕ → Option Opening) (failures : ℕ → ℕ)
+    → KeepsTexts trusted buffer_set w σ.begun σ.kept openings failures → length w.buffers ≤ 256
+    → IsFrontAt w σ (slice_get w.buffers (length (fronts_of expirer))) answer
 
 -- with the fronts that were read the ids of the shard are forgotten that may be, and so many more
 -- Expires forget with them
-pub record Forgets {S : Type 0} {g : Ghosts S} (shard now left : ℕ) (old new : System S g)
+pub record Forgets (shard now : ℕ) (remember : Option ℕ) (left : ℕ) (old new : Shards)
+    (was expirer : Expirer)
     : Type 0 where
-  pub claims : (claim : List ℕ → Claim) → KeepsAll old.shards claim
-      → KeepsAll new.shards (forgetting claim shard now (terms_of old.config).remember
-      (map passed_view (fronts_of old.expirer)))
-  pub expirer : expirer_view new.expirer
-      ≡ forgetter (map passed_view (fronts_of old.expirer)) left
-  pub rest : new ≡ record old { shards = new.shards; expirer = new.expirer }
+  pub claims : (claim : List ℕ → Claim) → KeepsAll old claim
+      → KeepsAll new (forgetting claim shard now remember (map passed_view (fronts_of was)))
+  pub expirer_is : expirer_view expirer ≡ forgetter (map passed_view (fronts_of was)) left

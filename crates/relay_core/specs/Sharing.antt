@@ -1,7 +1,10 @@
 -- What the step of what is shared does that a Turn takes.
 use Rattle.std.specs.Prelude.{◌≡◌, ◌≢◌, ℕ, ◌<◌, Bool, true, false, All, List, length, Option}
+use Rattle.std.specs.Prelude.{None, Some, Result, Ok, Err}
+use Rattle.std.specs.declared.alloc.AllocError.{AllocError}
 use Rattle.article_verdict.specs.Config.{terms_of}
 use Rattle.cyc_block.specs.declared.store.BlockStore.{Ghosts}
+use Rattle.feed_queue.specs.declared.desk.Taken.{Taken}
 use Rattle.peer_session.specs.Answers.{IsAnswerTo, IsStepOf, handed}
 use Rattle.peer_session.specs.Planning.{Planned}
 use Rattle.peer_session.specs.declared.steps.Answer.{Answer}
@@ -81,6 +84,12 @@ WantsMemory (steps.Take id) = Unit {0}
 WantsMemory (steps.Push group) = ⊥
 WantsMemory steps.Slot = ⊥
 WantsMemory (steps.Release id) = ⊥
+
+-- what a session is answered where tokens were taken of a ring; a feed that isn't there has none
+abbrev pub queue_answer : Result (Option Taken) AllocError → Answer
+queue_answer (Ok (Some taken)) = answers.Queue taken
+queue_answer (Ok None) = answers.Nothing
+queue_answer (Err error) = answers.Memory
 
 -- nothing that anybody can see has changed, and the peer is as it was
 pub record LeavesAll {S : Type 0} {g : Ghosts S} (n : ℕ) (old : System S g) (peer : Peer)

@@ -12,7 +12,6 @@ use Rattle.id_history.specs.History.{Fits, history_octets}
 use Rattle.id_history.specs.Views.{feed_view}
 use Rattle.id_history.specs.declared.kept.KeptFeed.{KeptFeed}
 use Rattle.id_history.specs.Lasting.{AreLasting}
-use Rattle.relay_conf.specs.declared.settings.Config.{Config}
 use Rattle.relay_facts.specs.Started.{newest_kept}
 use Rattle.relay_model.specs.Claims.{is_storing}
 use Rattle.relay_model.specs.Invariants.{IsWell}
@@ -102,14 +101,19 @@ IsFromBufferSet old (unstoppeds.Memory back) = back ≡ old
 IsFromBufferSet old (unstoppeds.Device number stores) =
     IsShutPartly old.buffer_set number stores.items
 
--- this is left of the feeds of this configuration that the desk keeps
-abbrev pub AreKeptFeeds : Config → FeedDesk → List KeptFeed → Type 0
-AreKeptFeeds config desk kept =
-    (feed : ℕ → Feed) → KeepsFeeds desk (ring_sizes (terms_of config)) feed
-    → AreLeft (map feed_view kept) (ring_sizes (terms_of config)) feed
+-- this is left of the feeds that a desk of so many feeds keeps
+abbrev pub AreKeptFeeds : FeedDesk → (count : ℕ) → List KeptFeed → Type 0
+AreKeptFeeds desk count kept =
+    (sizes : List ℕ) (feed : ℕ → Feed) → KeepsFeeds desk sizes feed → length sizes ≡ count
+    → AreLeft (map feed_view kept) sizes feed
 
 -- the text of a history has room for so many feeds, and for what waits in each
 abbrev pub HaveRoom : List KeptFeed → Type 0
 HaveRoom kept =
     (length kept < 2 ^ 32)
     × All (λ (feed : KeptFeed). length feed.waiting.items < 2 ^ 32) kept
+
+-- this is left of the feeds, and a history has room for it
+pub record TellsFeeds (desk : FeedDesk) (count : ℕ) (kept : List KeptFeed) : Type 0 where
+  pub left : AreKeptFeeds desk count kept
+  pub room : HaveRoom kept

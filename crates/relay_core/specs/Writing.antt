@@ -1,5 +1,5 @@
 -- What a Write does with the writer of its group taken out of the group writer.
-use Rattle.std.specs.Prelude.{◌≡◌, ◌≢◌, ℕ, true, length, map, slice_get, Some}
+use Rattle.std.specs.Prelude.{◌≡◌, ◌≢◌, ℕ, true, length, map, slice_get, Option, None, Some}
 use Rattle.article_verdict.specs.Config.{terms_of}
 use Rattle.block_shelf.specs.Calls.{token_of}
 use Rattle.block_shelf.specs.Keeping.{KeepsTexts}
@@ -7,7 +7,9 @@ use Rattle.block_shelf.specs.declared.buffer_set.Begun.{Begun}
 use Rattle.block_shelf.specs.declared.buffer_set.BufferSet.{BufferSet}
 use Rattle.buffer_group.specs.Jobs.{job_view}
 use Rattle.buffer_group.specs.Writers.{writer_view}
+use Rattle.buffer_group.specs.declared.job.Job.{Job}
 use Rattle.buffer_group.specs.declared.writer.Writer.{Writer}
+use Rattle.buffer_group.specs.declared.writer.Writer.TheVariants as writers
 use Rattle.cyc_block.specs.declared.store.BlockStore.{Ghosts}
 use Rattle.feed_queue.specs.Feeds.{KeepsFeeds}
 use Rattle.id_history.specs.Shards.{KeepsAll}
@@ -42,6 +44,11 @@ pub record WriterOut {S : Type 0} {g : Ghosts S} (w : Terms) (h : ℕ) (writer :
   pub expirer : x.work.expirer ≡ expirer_view system.expirer
   pub peers : (s : ℕ) → PeerIs true w x.state.kept (peer_at system.peers s)
       (x.state.session s) (x.work.slot s)
+
+-- the writer that goes on with this job; without one it is idle
+abbrev pub writer_of : Option Job → Writer Begun
+writer_of None = writers.Idle
+writer_of (Some job) = writers.Popped job
 
 -- a Write was had, and its writer is this one now
 pub record Advanced {S : Type 0} {g : Ghosts S} (w : Terms) (h now : ℕ) (x : World)

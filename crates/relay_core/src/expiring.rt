@@ -3,9 +3,10 @@ ghost use Rattle.std.specs.Prelude.{◌≤◌, vec_capacity};
 
 use crate::event::{CoreError, Output};
 use crate::system::{LAST_MOMENT, System};
+use block_shelf::BufferSet;
 use cyc_block::BlockStore;
 use cyc_buffer::Front;
-use id_history::SHARD_COUNT;
+use id_history::{SHARD_COUNT, Shards};
 use std::alloc::{AllocError, Global};
 
 /// The buffers that there can be.
@@ -33,10 +34,11 @@ pub(crate) struct Expirer {
 }
 
 impl Expirer {
-    ghost use Rattle.std.specs.Prelude.{◌≡◌, ◌<◌, ◌++◌, ◌∷◌, [], IfOk, length, map};
+    ghost use Rattle.std.specs.Prelude.{◌≡◌, ◌<◌, ◌++◌, ◌∷◌, [], IfOk, IfSome, length, map};
     ghost use Rattle.id_history.specs.Expiry.{passed_view};
-    ghost use Rattle.relay_core.specs.Expiring.{expirer_view, fronts_of};
+    ghost use Rattle.relay_core.specs.Expiring.{Forgets, IsNextFront, expirer_view, fronts_of};
     ghost use Rattle.relay_model.specs.Run.{forgetter};
+    ghost use Rattle.relay_model.specs.Terms.{shard_count};
     ghost use Rattle.relay_model.specs.World.{Reading};
 
     /// No front was read.
@@ -60,6 +62,36 @@ impl Expirer {
         self.stage = Stage::Reading;
     }
 
+    /// The front that is read next, unless all were read.
+    fn next_front<S: BlockStore>(&self, buffer_set: &BufferSet<S>) -> Option<Front>
+        ensures front { IsNextFront buffer_set.now self.now result }
+        ensures room { IfSome result (λ _. length (fronts_of self.now) < 256) }
+    {
+        let read = self.fronts.len();
+        if read >= BUFFER_LIMIT {
+            return None;
+        }
+        buffer_set.front(read as u8)
+    }
+
+    /// Forgets in a shard, with the fronts that were read; so many more Expires do so.
+    fn forget_old(
+        &mut self,
+        shards: &mut Shards,
+        shard: usize,
+        now: u64,
+        remember: Option<u64>,
+        left: u8,
+    )
+        requires { shard < shard_count }
+        ensures { Forgets shard now remember left shards.old shards.new self.old self.new }
+    {
+        if let Some(remember) = remember {
+            shards.expire(shard, now, remember, &self.fronts);
+        }
+        self.leave(left);
+    }
+
     /// An Expire forgot; so many more do so with these fronts, then they are read anew.
     fn leave(&mut self, left: u8)
         ensures { expirer_view self.new
@@ -75,10 +107,7 @@ impl Expirer {
 }
 
 impl<S: BlockStore> System<S> {
-    ghost use Rattle.std.specs.Prelude.{◌<◌, ℕ, IfSome, length};
     ghost use Rattle.relay_model.specs.Run as run;
-    ghost use Rattle.relay_model.specs.Terms.{shard_count};
-    ghost use Rattle.relay_core.specs.Expiring.{Forgets, IsNextFront, fronts_of};
     ghost use Rattle.relay_core.specs.Refusals.{RefusesRightly};
     ghost use Rattle.relay_core.specs.Sharing.{KeepsFrame};
     ghost use Rattle.relay_core.specs.Steps.{Steps};
@@ -96,45 +125,25 @@ impl<S: BlockStore> System<S> {
         if now > LAST_MOMENT {
             return Output::Refused(CoreError::BadMoment);
         }
+        let remember = self.config.relay.remember;
         match self.expirer.stage {
-            Stage::Reading => match self.next_front() {
+            Stage::Reading => match self.expirer.next_front(&self.buffer_set) {
                 Some(front) => {
                     self.expirer.read(front);
                     Output::Quiet
                 }
                 None => {
-                    self.forget_old(shard, now, MORE_FORGET);
+                    self.expirer
+                        .forget_old(&mut self.shards, shard, now, remember, MORE_FORGET);
                     Output::Quiet
                 }
             },
             Stage::Forgetting { left } => {
-                self.forget_old(shard, now, left.saturating_sub(1));
+                let less = left.saturating_sub(1);
+                self.expirer
+                    .forget_old(&mut self.shards, shard, now, remember, less);
                 Output::Quiet
             }
         }
-    }
-
-    /// The front that is read next, unless all were read.
-    fn next_front(&self) -> Option<Front>
-        ensures front { IsNextFront self.now result }
-        ensures room { IfSome result (λ _. length (fronts_of self.now.expirer) < 256) }
-    {
-        let read = self.expirer.fronts.len();
-        if read >= BUFFER_LIMIT {
-            return None;
-        }
-        self.buffer_set.front(read as u8)
-    }
-
-    /// Forgets in a shard, with the fronts that were read; so many more Expires do so.
-    fn forget_old(&mut self, shard: usize, now: u64, left: u8)
-        requires { shard < shard_count }
-        ensures { Forgets shard now left self.old self.new }
-    {
-        if let Some(remember) = self.config.relay.remember {
-            self.shards
-                .expire(shard, now, remember, &self.expirer.fronts);
-        }
-        self.expirer.leave(left);
     }
 }

@@ -1,9 +1,14 @@
 //! The step of what is shared that a Turn takes: one call of one part.
+ghost use Rattle.std.specs.Prelude.{◌≡◌};
+ghost use Rattle.relay_core.specs.Sharing.{queue_answer};
+
 use crate::peers::Peer;
 use crate::reading::read_chunk;
 use crate::system::System;
 use cyc_block::BlockStore;
+use feed_queue::Taken;
 use peer_session::{Answer, Step};
+use std::alloc::AllocError;
 
 impl<S: BlockStore> System<S> {
     ghost use Rattle.std.specs.Prelude.{◌≡◌, ℕ};
@@ -28,7 +33,7 @@ impl<S: BlockStore> System<S> {
             },
             Step::Look(id) => Answer::Look(self.shards.look(id)),
             Step::Read(token, k) => Answer::Chunk(read_chunk(&mut self.buffer_set, token, *k)),
-            Step::TakeQueue(feed, most) => self.take_queue(*feed, *most),
+            Step::TakeQueue(feed, most) => queue_answer(self.desk.take(self.alloc, *feed, *most)),
             Step::Refuse(id) => match self.shards.refuse(id, number, now) {
                 Ok(()) => Answer::Nothing,
                 Err(_) => Answer::Memory,
@@ -43,24 +48,6 @@ impl<S: BlockStore> System<S> {
                 self.shards.release(id, number);
                 Answer::Nothing
             }
-        }
-    }
-
-    /// Takes at most so many tokens of a feed's ring. A feed that isn't there has none.
-    fn take_queue(&mut self, feed: u16, most: usize) -> Answer
-        ensures shared { (number : ℕ) (now : ℕ) (peer : Peer)
-            → SharesStep number now (steps.TakeQueue feed most) self.old peer result self.new peer }
-        ensures memory { (number : ℕ) (peer : Peer) → result ≡ answers.Memory
-            → LeavesAll number self.old peer self.new peer }
-        ensures frame { KeepsFrame self.old self.new }
-        ensures peers { self.new.peers ≡ self.old.peers }
-    {
-        match self.desk.take(self.alloc, feed, most) {
-            Ok(answer) => match answer {
-                Some(taken) => Answer::Queue(taken),
-                None => Answer::Nothing,
-            },
-            Err(_) => Answer::Memory,
         }
     }
 
@@ -87,5 +74,16 @@ impl<S: BlockStore> System<S> {
             }
             None => Answer::Pushed(false),
         }
+    }
+}
+
+/// What a session is answered where tokens were taken of a ring. A feed that isn't there has none.
+fn queue_answer(taken: Result<Option<Taken>, AllocError>) -> Answer
+    ensures { result ≡ queue_answer taken }
+{
+    match taken {
+        Ok(Some(taken)) => Answer::Queue(taken),
+        Ok(None) => Answer::Nothing,
+        Err(_) => Answer::Memory,
     }
 }

@@ -1,6 +1,6 @@
 //! How the relay is closed (docs/PROTOCOL.md, Clean stop and start).
-ghost use Rattle.std.specs.Prelude.{◌≡◌, IfOk};
-ghost use Rattle.relay_core.specs.Stopping.{AreKeptFeeds, HaveRoom, next_stop};
+ghost use Rattle.std.specs.Prelude.{◌≡◌, ◌≤◌, IfOk};
+ghost use Rattle.relay_core.specs.Stopping.{TellsFeeds, next_stop};
 
 use crate::idle::is_idle;
 use crate::stopped::{Stopped, Unstopped};
@@ -9,7 +9,6 @@ use block_shelf::Unshut;
 use cyc_block::BlockStore;
 use feed_queue::FeedDesk;
 use id_history::{History, KeptFeed, write};
-use relay_conf::Config;
 use std::alloc::{AllocError, Global};
 
 /// The groups that there can be.
@@ -74,7 +73,7 @@ impl<S: BlockStore> System<S> {
         if positions.len() > GROUP_LIMIT {
             return Err(AllocError);
         }
-        let feeds = kept_feeds(self.alloc, &self.config, &self.desk)?;
+        let feeds = kept_feeds(self.alloc, &self.desk, self.config.relay.feeds.len())?;
         let ids = self.shards.entries(self.alloc)?;
         let history = History {
             stop,
@@ -89,14 +88,13 @@ impl<S: BlockStore> System<S> {
     }
 }
 
-/// What is left of all feeds.
-fn kept_feeds(alloc: Global, config: &Config, desk: &FeedDesk) -> Result<Vec<KeptFeed>, AllocError>
-    ensures left { IfOk result (λ kept. AreKeptFeeds config.now desk.now kept.items) }
-    ensures room { IfOk result (λ kept. HaveRoom kept.items) }
+/// What is left of so many feeds.
+fn kept_feeds(alloc: Global, desk: &FeedDesk, count: usize) -> Result<Vec<KeptFeed>, AllocError>
+    requires { count ≤ 1024 }
+    ensures { IfOk result (λ kept. TellsFeeds desk.now count kept.items) }
 {
-    let feeds = &config.relay.feeds;
-    let mut kept = Vec::with_capacity(alloc, feeds.len())?;
-    for (number, _feed) in feeds.iter().enumerate() {
+    let mut kept = Vec::with_capacity(alloc, count)?;
+    for number in 0..count {
         if let Some(one) = desk.kept(alloc, number as u16)? {
             kept.push_reserved(one);
         }

@@ -1,7 +1,7 @@
 //! A Write: the next bit of the work of a group's writer, one call of one part.
-ghost use Rattle.std.specs.Prelude.{ℕ};
+ghost use Rattle.std.specs.Prelude.{◌≡◌, ℕ};
 ghost use Rattle.buffer_group.specs.declared.writer.Writer.TheVariants as writers;
-ghost use Rattle.relay_core.specs.Writing.{AdvancesBy};
+ghost use Rattle.relay_core.specs.Writing.{AdvancesBy, writer_of};
 
 use crate::event::{CoreError, Output};
 use crate::system::{LAST_MOMENT, System, let_go};
@@ -46,7 +46,7 @@ impl<S: BlockStore> System<S> {
         ensures frame { KeepsFrame self.old self.new }
     {
         match writer {
-            Writer::Idle => self.pop(group),
+            Writer::Idle => writer_of(self.group_writers[group].queue.pop()),
             Writer::Popped(job) => begin(&mut self.buffer_set, job),
             Writer::Writing(job, begun, written) => {
                 write_next(&mut self.buffer_set, job, begun, written)
@@ -77,19 +77,6 @@ impl<S: BlockStore> System<S> {
         }
     }
 
-    /// It takes the oldest job of its queue, if there is one.
-    fn pop(&mut self, group: usize) -> Writer<Begun>
-        requires { group < vec_len self.old.group_writers }
-        ensures advances { (now : ℕ)
-            → Advances group now writers.Idle self.old result self.new }
-        ensures frame { KeepsFrame self.old self.new }
-    {
-        match self.group_writers[group].queue.pop() {
-            Some(job) => Writer::Popped(job),
-            None => Writer::Idle,
-        }
-    }
-
     /// It settles the job: the id is stored, and each permitted feed gains its token.
     fn settle(&mut self, job: Job, token: Token, now: u64) -> Writer<Begun>
         ensures advances { (group : ℕ)
@@ -108,6 +95,16 @@ impl<S: BlockStore> System<S> {
                 Writer::Settled(session)
             }
         }
+    }
+}
+
+/// The writer that goes on with the job, if there is one.
+fn writer_of(job: Option<Job>) -> Writer<Begun>
+    ensures { result ≡ writer_of job }
+{
+    match job {
+        Some(job) => Writer::Popped(job),
+        None => Writer::Idle,
     }
 }
 

@@ -18,9 +18,10 @@ use Rattle.live_jobs.specs.Desks.{desk_of}
 use Rattle.live_store.specs.declared.record.StorePremises as store_premises
 use Rattle.news_terms.specs.Settings.{AreSound}
 use Rattle.relay_core.specs.Agreement.{ring_sizes}
+use Rattle.relay_core.specs.Stopping.{AreKeptFeeds}
 use Rattle.relay_live.specs.Alone.{newest_in}
 use Rattle.relay_live.specs.Stopping.{TellsHistory}
-use Rattle.relay_live.specs.Telling.{AreEntries, AreKeptFeeds}
+use Rattle.relay_live.specs.Telling.{AreEntries}
 use Rattle.relay_live.specs.declared.alone.Alone.{Alone}
 use Rattle.relay_model.specs.Terms.{FeedTerms, Terms}
 

@@ -3,7 +3,8 @@ ghost use Rattle.std.specs.Prelude.{◌≡◌, ◌≤◌, IfOk, length};
 ghost use Rattle.block_shelf.specs.Each.{AreEach};
 ghost use Rattle.block_shelf.specs.Stopping.{TellsPosition};
 ghost use Rattle.live_jobs.specs.Desks.{desk_of};
-ghost use Rattle.relay_live.specs.Telling.{AreEntries, TellsFeeds};
+ghost use Rattle.relay_core.specs.Stopping.{TellsFeeds};
+ghost use Rattle.relay_live.specs.Telling.{AreEntries};
 ghost use Rattle.relay_model.specs.Terms.{shard_count};
 
 use crate::alone::Alone;

@@ -1,5 +1,7 @@
 use Rattle.std.proofs.Common.{◌∙◌, ◌<◌, ap, arith, length, refl, vec_capacity, vec_len}
+use Rattle.std.specs.Global.{Vec}
 use Rattle.relay_core.proofs.Fillings.{filled_all, filled_joins, filled_there}
+use Rattle.relay_core.specs.declared.ahead.Filled.{Filled}
 use Rattle.relay_core.proofs.ahead.all_filled.Goals as goal
 use Rattle.relay_core.proofs.ahead.all_filled.Goals.{in-Some, in_default}
 
@@ -31,7 +33,8 @@ loop-number-preserved g c =
                 (rw items at c.buffer-item.is) (w.in-Some.ensures x σ failures held)
                 c.loop-number.filled.items
                 c.match-figures.filled.items _ refl
-                (cc (w.push_reserved.ensures.items, w.filled-is))
+                (ap (λ (v : Vec Filled). v.items) w.filled-is
+                ∙ w.push_reserved.ensures.items)
                 (c.loop-number.invariant.said x σ failures same held);
           }
       | in_default w ↦

@@ -2,16 +2,20 @@ use Rattle.std.proofs.Common.{List, ℕ, ap, refl, sym, ◌∙◌}
 use Rattle.peer_session.specs.Session.{has_parted}
 use Rattle.relay_model.specs.World as world
 use Rattle.relay_core.proofs.Hearing.{ended, quiet, sent, told_other, voiced}
+use Rattle.relay_core.proofs.Refusing.{never_refuses}
 use Rattle.relay_core.specs.declared.event.Output.TheVariants as outputs
 use Rattle.relay_core.proofs.turns.hear.Goals as goal
 
 -- want of memory is told as it is
-pub returns-in-Memory-clause-memory : goal.returns-in-Memory-clause-memory
-returns-in-Memory-clause-memory c =
+pub returns-in-Memory : goal.returns-in-Memory
+returns-in-Memory c =
     record {
-      told = λ e. refl;
-      forgets = λ e. c.absorb.ensures.memory refl;
-      only = λ fault is. c.in-Memory.is;
+      heard = λ w m d gathered told other. absurd (other c.in-Memory.is);
+      memory = record {
+        told = λ e. refl;
+        forgets = λ e. c.absorb.ensures.memory refl;
+        only = λ fault is. c.in-Memory.is;
+      };
     }
 
 -- nothing is said
@@ -22,8 +26,8 @@ returns-then-is_empty c =
           c.absorb-said.result.items outputs.Quiet c.absorb-said.ensures.heard
           (quiet c.args.number c.absorb-said.result (has_parted c.absorb-said.new.self)
           (sym c.is_empty.ensures ∙ c.if-is_empty.true));
-      memory = told_other c.args.session.now c.args.answer outputs.Quiet
-          c.absorb-said.new.self c.in_default.not-Memory (λ fault is. cc);
+      memory = told_other c.args.session.now c.args.answer outputs.Quiet c.absorb-said.new.self
+          c.in_default.not-Memory (λ fault is. never_refuses _ fault is refl);
     }
 
 -- the last reply is said
@@ -39,7 +43,7 @@ returns-then-has_parted c =
           (sym c.has_parted.ensures ∙ c.if-has_parted.true) s is);
       memory = told_other c.args.session.now c.args.answer
           (outputs.Ended c.args.number c.new.result) c.absorb-said.new.self
-          c.in_default.not-Memory (λ fault is. cc);
+          c.in_default.not-Memory (λ fault is. never_refuses _ fault is refl);
     }
 
 -- another reply is said
@@ -56,5 +60,5 @@ returns-else-has_parted c =
           (sym c.has_parted.ensures ∙ c.if-has_parted.false) s is);
       memory = told_other c.args.session.now c.args.answer
           (outputs.Sent c.args.number c.new-else-has_parted.result) c.absorb-said.new.self
-          c.in_default.not-Memory (λ fault is. cc);
+          c.in_default.not-Memory (λ fault is. never_refuses _ fault is refl);
     }

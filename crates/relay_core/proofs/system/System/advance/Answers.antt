@@ -1,6 +1,7 @@
 use Rattle.std.proofs.Common.{ap, refl, ◌∙◌}
+use Rattle.std.proofs.Math.ListN.{length-set}
 use Rattle.buffer_group.specs.declared.writer.Writer.TheVariants as writers
-use Rattle.relay_core.proofs.Queues.{as_taken, told_failed, told_kept}
+use Rattle.relay_core.proofs.Queues.{as_taken, inside_of, popped_job, told_failed, told_kept}
 use Rattle.relay_core.proofs.Writings.{closed_one, forgotten_one}
 use Rattle.relay_core.proofs.system.System.advance.Goals as goal
 
@@ -10,8 +11,14 @@ returns-in-Idle g c =
     record {
       advances = as_taken c.args.group c.args.now c.args.writer _ c.args.self.now _ _
           c.in-Idle.is
-          (c.pop.ensures.advances c.args.now);
-      frame = c.pop.ensures.frame;
+          (popped_job c.args.group c.args.now c.args.self.now c.index_mut.result.now c.pop.result
+          c.pop.new.self c.writer_of.result
+          (inside_of c.args.self.now.group_writers c.args.group c.requires)
+          c.index_mut.ensures.value c.pop.ensures c.writer_of.ensures);
+      frame = record {
+        config = refl;
+        group_writers = length-set c.args.self.now.group_writers.items _ _;
+      };
     }
 
 -- it is begun

@@ -3,7 +3,8 @@ use Rattle.peer_session.specs.Session.{Fed}
 use Rattle.relay_model.specs.Run as run
 use Rattle.relay_model.specs.Run.{is_reading}
 use Rattle.relay_core.proofs.Dispatch.{is_lent}
-use Rattle.relay_core.proofs.Refusing.{bytes_reason, memory_wanted, not_refused, refused_first}
+use Rattle.relay_core.proofs.Refusing.{bytes_reason, memory_wanted, never_refuses, not_refused}
+use Rattle.relay_core.proofs.Refusing.{refused_first}
 use Rattle.relay_core.proofs.SessionSteps.{fed, not_reading, unfed, wanted}
 use Rattle.relay_core.proofs.Turning.{place_of}
 use Rattle.relay_core.specs.declared.event.CoreError.TheVariants as faults
@@ -11,16 +12,17 @@ use Rattle.relay_core.specs.declared.event.Output.TheVariants as outputs
 use Rattle.relay_core.proofs.system.System.bytes.Goals as goal
 
 -- no such session reads
-pub returns-then-not-is_reading-clause-steps : goal.returns-then-not-is_reading-clause-steps
-returns-then-not-is_reading-clause-steps g c =
-    not_reading c.args.self.now c.args.number c.args.piece.now c.is_reading.result
-    c.is_reading.ensures c.if-not-is_reading.true
-
-pub returns-then-not-is_reading-clause-refused : goal.returns-then-not-is_reading-clause-refused
-returns-then-not-is_reading-clause-refused g c =
-    refused_first c.args.self.now (run.Bytes c.args.number c.args.piece.now) faults.NoSession
-    (λ laned. bytes_reason c.args.self.now c.args.number c.args.piece.now c.is_reading.result
-    false c.is_reading.ensures c.if-not-is_reading.true)
+pub returns-then-not-is_reading : goal.returns-then-not-is_reading
+returns-then-not-is_reading g c =
+    record {
+      steps = not_reading c.args.self.now c.args.number c.args.piece.now c.is_reading.result
+          c.is_reading.ensures c.if-not-is_reading.true;
+      refused = refused_first c.args.self.now (run.Bytes c.args.number c.args.piece.now)
+          faults.NoSession
+          (λ laned. bytes_reason c.args.self.now c.args.number c.args.piece.now c.is_reading.result
+          false c.is_reading.ensures c.if-not-is_reading.true);
+      frame = record { config = refl; group_writers = refl };
+    }
 
 pub returns-in-None : goal.returns-in-None
 returns-in-None g c =
@@ -28,37 +30,43 @@ returns-in-None g c =
     c.lend.result c.is_reading.ensures c.if-not-is_reading.false c.lend.ensures c.in-None.is
 
 -- the octets come to it
-pub returns-in-Ok-clause-steps : goal.returns-in-Ok-clause-steps
-returns-in-Ok-clause-steps g c =
+pub returns-in-Ok : goal.returns-in-Ok
+returns-in-Ok g c =
     let P : List ℕ → Type 0 = λ piece. Fed c.in-Some.peer.session piece c.feed-fed.new.self in
-    fed c.args.self.now c.args.number c.args.piece.now c.is_reading.result c.in-Some.peer
-    c.lend.result c.lend.new.self c.feed-fed.new.self c.give_back.new.self c.is_reading.ensures
-    c.if-not-is_reading.false c.lend.ensures c.in-Some.is
-    (subst P c.as_slice.ensures c.in-Ok.ensures.fed)
-    (c.give_back.ensures.given (place_of c.args.number c.args.self.now.peers c.lend.result
-    c.lend.new.self c.in-Some.peer c.lend.ensures c.in-Some.is))
-
-pub returns-in-Ok-clause-refused : goal.returns-in-Ok-clause-refused
-returns-in-Ok-clause-refused g c =
-    not_refused c.args.self.now (run.Bytes c.args.number c.args.piece.now) outputs.Quiet _
-    (λ laned. bytes_reason c.args.self.now c.args.number c.args.piece.now c.is_reading.result true
-    c.is_reading.ensures c.if-not-is_reading.false) (λ fault is. cc)
+    record {
+      steps = fed c.args.self.now c.args.number c.args.piece.now c.is_reading.result c.in-Some.peer
+          c.lend.result c.lend.new.self c.feed-fed.new.self c.give_back.new.self
+          c.is_reading.ensures c.if-not-is_reading.false c.lend.ensures c.in-Some.is
+          (subst P c.as_slice.ensures c.in-Ok.ensures.fed)
+          (c.give_back.ensures.given
+          (place_of c.args.number c.args.self.now.peers c.lend.result c.lend.new.self c.in-Some.peer
+          c.lend.ensures c.in-Some.is));
+      refused = not_refused c.args.self.now (run.Bytes c.args.number c.args.piece.now) outputs.Quiet
+          _
+          (λ laned. bytes_reason c.args.self.now c.args.number c.args.piece.now c.is_reading.result
+          true c.is_reading.ensures c.if-not-is_reading.false)
+          (λ fault is. never_refuses _ fault is refl);
+      frame = record { config = refl; group_writers = refl };
+    }
 
 -- there is no memory for them
-pub returns-in-Err-clause-steps : goal.returns-in-Err-clause-steps
-returns-in-Err-clause-steps g c =
-    wanted c.args.self.now c.args.number (run.Bytes c.args.number c.args.piece.now) _ refl refl
-    (unfed c.args.self.now c.args.number c.in-Some.peer c.lend.result c.lend.new.self
-    c.feed-fed.new.self c.give_back.new.self c.lend.ensures c.in-Some.is c.in-Err.ensures.err
-    (c.give_back.ensures.given (place_of c.args.number c.args.self.now.peers c.lend.result
-    c.lend.new.self c.in-Some.peer c.lend.ensures c.in-Some.is)) true)
-
-pub returns-in-Err-clause-refused : goal.returns-in-Err-clause-refused
-returns-in-Err-clause-refused g c =
-    memory_wanted c.args.self.now (run.Bytes c.args.number c.args.piece.now) _
-    (λ laned. bytes_reason c.args.self.now c.args.number c.args.piece.now c.is_reading.result true
-    c.is_reading.ensures c.if-not-is_reading.false) refl
-    (unfed c.args.self.now c.args.number c.in-Some.peer c.lend.result c.lend.new.self
-    c.feed-fed.new.self c.give_back.new.self c.lend.ensures c.in-Some.is c.in-Err.ensures.err
-    (c.give_back.ensures.given (place_of c.args.number c.args.self.now.peers c.lend.result
-    c.lend.new.self c.in-Some.peer c.lend.ensures c.in-Some.is)))
+pub returns-in-Err : goal.returns-in-Err
+returns-in-Err g c =
+    record {
+      steps = wanted c.args.self.now c.args.number (run.Bytes c.args.number c.args.piece.now) _ refl
+          refl
+          (unfed c.args.self.now c.args.number c.in-Some.peer c.lend.result c.lend.new.self
+          c.feed-fed.new.self c.give_back.new.self c.lend.ensures c.in-Some.is c.in-Err.ensures.err
+          (c.give_back.ensures.given
+          (place_of c.args.number c.args.self.now.peers c.lend.result c.lend.new.self c.in-Some.peer
+          c.lend.ensures c.in-Some.is)) true);
+      refused = memory_wanted c.args.self.now (run.Bytes c.args.number c.args.piece.now) _
+          (λ laned. bytes_reason c.args.self.now c.args.number c.args.piece.now c.is_reading.result
+          true c.is_reading.ensures c.if-not-is_reading.false) refl
+          (unfed c.args.self.now c.args.number c.in-Some.peer c.lend.result c.lend.new.self
+          c.feed-fed.new.self c.give_back.new.self c.lend.ensures c.in-Some.is c.in-Err.ensures.err
+          (c.give_back.ensures.given
+          (place_of c.args.number c.args.self.now.peers c.lend.result c.lend.new.self c.in-Some.peer
+          c.lend.ensures c.in-Some.is)));
+      frame = record { config = refl; group_writers = refl };
+    }

@@ -9,92 +9,91 @@ use Rattle.relay_core.specs.declared.event.CoreError.TheVariants as faults
 use Rattle.relay_core.proofs.system.System.open.Goals as goal
 
 -- the number was had before
-pub returns-then-is_taken-clause-steps : goal.returns-then-is_taken-clause-steps
-returns-then-is_taken-clause-steps g c =
-    was_taken c.args.self.now c.args.number c.args.peer c.is_taken.result c.is_taken.ensures
-    c.if-is_taken.true
-
-pub returns-then-is_taken-clause-refused : goal.returns-then-is_taken-clause-refused
-returns-then-is_taken-clause-refused g c =
-    refused_first c.args.self.now (run.Open c.args.number c.args.peer) faults.SessionTaken
-    (λ laned. refusing.was_taken c.args.self.now c.args.number c.args.peer c.is_taken.result
-    c.is_taken.ensures c.if-is_taken.true)
+pub returns-then-is_taken : goal.returns-then-is_taken
+returns-then-is_taken g c =
+    record {
+      steps = was_taken c.args.self.now c.args.number c.args.peer c.is_taken.result
+          c.is_taken.ensures c.if-is_taken.true;
+      refused = refused_first c.args.self.now (run.Open c.args.number c.args.peer)
+          faults.SessionTaken
+          (λ laned. refusing.was_taken c.args.self.now c.args.number c.args.peer c.is_taken.result
+          c.is_taken.ensures c.if-is_taken.true);
+      frame = record { config = refl; group_writers = refl };
+    }
 
 -- there is no such peer
-pub returns-then-peer-len-clause-steps : goal.returns-then-peer-len-clause-steps
-returns-then-peer-len-clause-steps g c =
-    no_peer c.args.self.now c.args.number c.args.peer c.is_taken.result c.is_taken.ensures
-    c.if-is_taken.false
-    (subst (λ (k : ℕ). k ≤ c.args.peer)
-    (c.len.ensures ∙ peers_count c.args.self.now.config) c.if-peer-len.true)
-
-pub returns-then-peer-len-clause-refused : goal.returns-then-peer-len-clause-refused
-returns-then-peer-len-clause-refused g c =
-    refused_first c.args.self.now (run.Open c.args.number c.args.peer) faults.NoPeer
-    (λ laned. refusing.no_peer c.args.self.now c.args.number c.args.peer c.is_taken.result
-    c.is_taken.ensures c.if-is_taken.false
-    (subst (λ (k : ℕ). k ≤ c.args.peer)
-    (c.len.ensures ∙ peers_count c.args.self.now.config) c.if-peer-len.true))
+pub returns-then-peer-len : goal.returns-then-peer-len
+returns-then-peer-len g c =
+    record {
+      steps = no_peer c.args.self.now c.args.number c.args.peer c.is_taken.result c.is_taken.ensures
+          c.if-is_taken.false
+          (subst (λ (k : ℕ). k ≤ c.args.peer) (c.len.ensures ∙ peers_count c.args.self.now.config)
+          c.if-peer-len.true);
+      refused = refused_first c.args.self.now (run.Open c.args.number c.args.peer) faults.NoPeer
+          (λ laned. refusing.no_peer c.args.self.now c.args.number c.args.peer c.is_taken.result
+          c.is_taken.ensures c.if-is_taken.false
+          (subst (λ (k : ℕ). k ≤ c.args.peer) (c.len.ensures ∙ peers_count c.args.self.now.config)
+          c.if-peer-len.true));
+      frame = record { config = refl; group_writers = refl };
+    }
 
 -- there is no memory for its greeting
-pub returns-in-Err-clause-steps : goal.returns-in-Err-clause-steps
-returns-in-Err-clause-steps g c =
-    wanted c.args.self.now c.args.number (run.Open c.args.number c.args.peer) _ refl refl
-    (λ x agrees. agrees)
-
-pub returns-in-Err-clause-refused : goal.returns-in-Err-clause-refused
-returns-in-Err-clause-refused g c =
-    memory_wanted c.args.self.now (run.Open c.args.number c.args.peer) _
-    (λ laned. may_open c.args.self.now c.args.number c.args.peer c.is_taken.result
-    c.is_taken.ensures c.if-is_taken.false
-    (subst (λ (k : ℕ). c.args.peer < k)
-    (c.len.ensures ∙ peers_count c.args.self.now.config) c.if-peer-len.false)) refl
-    (λ trusted x agrees. agrees)
+pub returns-in-Err : goal.returns-in-Err
+returns-in-Err g c =
+    record {
+      steps = wanted c.args.self.now c.args.number (run.Open c.args.number c.args.peer) _ refl refl
+          (λ x agrees. agrees);
+      refused = memory_wanted c.args.self.now (run.Open c.args.number c.args.peer) _
+          (λ laned. may_open c.args.self.now c.args.number c.args.peer c.is_taken.result
+          c.is_taken.ensures c.if-is_taken.false
+          (subst (λ (k : ℕ). c.args.peer < k) (c.len.ensures ∙ peers_count c.args.self.now.config)
+          c.if-peer-len.false)) refl (λ trusted x agrees. agrees);
+      frame = record { config = refl; group_writers = refl };
+    }
 
 -- there is no memory for it
-pub returns-in-Err-open-clause-steps : goal.returns-in-Err-open-clause-steps
-returns-in-Err-open-clause-steps g c =
-    wanted c.args.self.now c.args.number (run.Open c.args.number c.args.peer) _ refl refl
-    (λ x agrees. agrees)
-
-pub returns-in-Err-open-clause-refused : goal.returns-in-Err-open-clause-refused
-returns-in-Err-open-clause-refused g c =
-    memory_wanted c.args.self.now (run.Open c.args.number c.args.peer) _
-    (λ laned. may_open c.args.self.now c.args.number c.args.peer c.is_taken.result
-    c.is_taken.ensures c.if-is_taken.false
-    (subst (λ (k : ℕ). c.args.peer < k)
-    (c.len.ensures ∙ peers_count c.args.self.now.config) c.if-peer-len.false)) refl
-    (λ trusted x agrees. agrees)
+pub returns-in-Err-open : goal.returns-in-Err-open
+returns-in-Err-open g c =
+    record {
+      steps = wanted c.args.self.now c.args.number (run.Open c.args.number c.args.peer) _ refl refl
+          (λ x agrees. agrees);
+      refused = memory_wanted c.args.self.now (run.Open c.args.number c.args.peer) _
+          (λ laned. may_open c.args.self.now c.args.number c.args.peer c.is_taken.result
+          c.is_taken.ensures c.if-is_taken.false
+          (subst (λ (k : ℕ). c.args.peer < k) (c.len.ensures ∙ peers_count c.args.self.now.config)
+          c.if-peer-len.false)) refl (λ trusted x agrees. agrees);
+      frame = record { config = refl; group_writers = refl };
+    }
 
 -- the session opens
-pub returns-in-Ok-open-2-clause-steps : goal.returns-in-Ok-open-2-clause-steps
-returns-in-Ok-open-2-clause-steps g c =
-    opened_one c.args.self.now c.args.number c.args.peer c.is_taken.result c.in-Ok-open.session
-    c.new.result c.open-2.new.self c.is_taken.ensures c.if-is_taken.false
-    (subst (λ (k : ℕ). c.args.peer < k)
-    (c.len.ensures ∙ peers_count c.args.self.now.config) c.if-peer-len.false)
-    c.in-Ok-open.ensures (c.new.ensures ∙ c.in-Ok.ensures) c.in-Ok-open-2.ensures.opened
-
-pub returns-in-Ok-open-2-clause-refused : goal.returns-in-Ok-open-2-clause-refused
-returns-in-Ok-open-2-clause-refused g c =
-    not_refused c.args.self.now (run.Open c.args.number c.args.peer) _ _
-    (λ laned. may_open c.args.self.now c.args.number c.args.peer c.is_taken.result
-    c.is_taken.ensures c.if-is_taken.false
-    (subst (λ (k : ℕ). c.args.peer < k)
-    (c.len.ensures ∙ peers_count c.args.self.now.config) c.if-peer-len.false))
-    (λ fault is. never_refuses _ fault is refl)
+pub returns-in-Ok-open-2 : goal.returns-in-Ok-open-2
+returns-in-Ok-open-2 g c =
+    record {
+      steps = opened_one c.args.self.now c.args.number c.args.peer c.is_taken.result
+          c.in-Ok-open.session c.new.result c.open-2.new.self c.is_taken.ensures c.if-is_taken.false
+          (subst (λ (k : ℕ). c.args.peer < k) (c.len.ensures ∙ peers_count c.args.self.now.config)
+          c.if-peer-len.false) c.in-Ok-open.ensures (c.new.ensures ∙ c.in-Ok.ensures)
+          c.in-Ok-open-2.ensures.opened;
+      refused = not_refused c.args.self.now (run.Open c.args.number c.args.peer) _ _
+          (λ laned. may_open c.args.self.now c.args.number c.args.peer c.is_taken.result
+          c.is_taken.ensures c.if-is_taken.false
+          (subst (λ (k : ℕ). c.args.peer < k) (c.len.ensures ∙ peers_count c.args.self.now.config)
+          c.if-peer-len.false)) (λ fault is. never_refuses _ fault is refl);
+      frame = record { config = refl; group_writers = refl };
+    }
 
 -- there is no memory for its place
-pub returns-in-Err-open-2-clause-steps : goal.returns-in-Err-open-2-clause-steps
-returns-in-Err-open-2-clause-steps g c =
-    wanted c.args.self.now c.args.number (run.Open c.args.number c.args.peer) _ refl refl
-    (unopened c.args.self.now c.args.number c.open-2.new.self c.in-Err-open-2.ensures.err true)
-
-pub returns-in-Err-open-2-clause-refused : goal.returns-in-Err-open-2-clause-refused
-returns-in-Err-open-2-clause-refused g c =
-    memory_wanted c.args.self.now (run.Open c.args.number c.args.peer) _
-    (λ laned. may_open c.args.self.now c.args.number c.args.peer c.is_taken.result
-    c.is_taken.ensures c.if-is_taken.false
-    (subst (λ (k : ℕ). c.args.peer < k)
-    (c.len.ensures ∙ peers_count c.args.self.now.config) c.if-peer-len.false)) refl
-    (unopened c.args.self.now c.args.number c.open-2.new.self c.in-Err-open-2.ensures.err)
+pub returns-in-Err-open-2 : goal.returns-in-Err-open-2
+returns-in-Err-open-2 g c =
+    record {
+      steps = wanted c.args.self.now c.args.number (run.Open c.args.number c.args.peer) _ refl refl
+          (unopened c.args.self.now c.args.number c.open-2.new.self c.in-Err-open-2.ensures.err
+          true);
+      refused = memory_wanted c.args.self.now (run.Open c.args.number c.args.peer) _
+          (λ laned. may_open c.args.self.now c.args.number c.args.peer c.is_taken.result
+          c.is_taken.ensures c.if-is_taken.false
+          (subst (λ (k : ℕ). c.args.peer < k) (c.len.ensures ∙ peers_count c.args.self.now.config)
+          c.if-peer-len.false)) refl
+          (unopened c.args.self.now c.args.number c.open-2.new.self c.in-Err-open-2.ensures.err);
+      frame = record { config = refl; group_writers = refl };
+    }

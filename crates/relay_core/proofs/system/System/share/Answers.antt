@@ -3,7 +3,8 @@ use Rattle.peer_session.specs.declared.steps.Answer.TheVariants as answers
 use Rattle.peer_session.specs.declared.steps.Step.{Step}
 use Rattle.peer_session.specs.declared.steps.Step.TheVariants as steps
 use Rattle.relay_core.proofs.Arms.{claims_left, look_shared, none_shared, offer_shared}
-use Rattle.relay_core.proofs.Arms.{refuse_shared, release_shared, slot_shared, take_shared}
+use Rattle.relay_core.proofs.Arms.{queue_left, queue_shared, refuse_shared, release_shared}
+use Rattle.relay_core.proofs.Arms.{slot_shared, take_shared}
 use Rattle.relay_core.proofs.Dispatch.{never}
 use Rattle.relay_core.proofs.ReadArm.{read_shared}
 use Rattle.relay_core.specs.Sharing.{SharesStep, WantsMemory}
@@ -68,15 +69,17 @@ returns-in-Read g c =
 
 pub returns-in-TakeQueue : goal.returns-in-TakeQueue
 returns-in-TakeQueue g c =
-    let P : Step → Type 0 = λ step. SharesStep c.args.number c.args.now step c.args.self.now
-    c.args.peer.now c.take_queue.result c.take_queue.new.self c.args.peer.now in
     record {
-      shared = subst P (sym c.in-TakeQueue.is) (c.take_queue.ensures.shared c.args.number
-          c.args.now c.args.peer.now);
-      memory = c.take_queue.ensures.memory c.args.number c.args.peer.now;
+      shared = queue_shared c.args.number c.args.now c.args.self.now c.args.peer.now
+          c.in-TakeQueue.feed c.in-TakeQueue.most c.take.result c.queue_answer.result
+          c.take.new.self c.queue_answer.ensures c.take.ensures.taken c.take.ensures.keeps
+          c.take.ensures.missing.0 c.args.step.now c.in-TakeQueue.is;
+      memory = queue_left c.args.number c.args.now c.args.self.now c.args.peer.now
+          c.take.result c.queue_answer.result c.take.new.self c.queue_answer.ensures
+          c.take.ensures.err;
       wants = λ memory. subst WantsMemory (sym c.in-TakeQueue.is) tt;
-      frame = c.take_queue.ensures.frame;
-      peers = c.take_queue.ensures.peers;
+      frame = record { config = refl; group_writers = refl };
+      peers = refl;
     }
 
 pub returns-in-Ok-refuse : goal.returns-in-Ok-refuse
@@ -106,7 +109,7 @@ pub returns-in-Ok-take : goal.returns-in-Ok-take
 returns-in-Ok-take g c =
     record {
       shared = take_shared c.args.number c.args.now c.args.self.now c.args.peer.now c.in-Take.id
-          c.in-Ok-take.answer c.take.new.self c.in-Ok-take.ensures.answer
+          c.in-Ok-take.answer c.take-in-Take.new.self c.in-Ok-take.ensures.answer
           c.in-Ok-take.ensures.claims c.args.step.now c.in-Take.is;
       memory = never (answers.Take c.in-Ok-take.answer) refl;
       wants = never (answers.Take c.in-Ok-take.answer) refl;
@@ -119,7 +122,7 @@ returns-in-Err-take g c =
     record {
       shared = λ x m d gathered but slot fits planned asked some. absurd (some refl);
       memory = λ memory. claims_left c.args.number c.args.now c.args.self.now c.args.peer.now
-          c.take.new.self c.in-Err-take.ensures.err;
+          c.take-in-Take.new.self c.in-Err-take.ensures.err;
       wants = λ memory. subst WantsMemory (sym c.in-Take.is) tt;
       frame = record { config = refl; group_writers = refl };
       peers = refl;

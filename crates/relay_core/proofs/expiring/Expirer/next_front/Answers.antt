@@ -1,22 +1,20 @@
 use Rattle.std.proofs.Common.{ℕ, subst, ◌≤◌, ◌∙◌}
 use Rattle.std.specs.Prelude.{slice_get}
-use Rattle.article_verdict.specs.Config.{terms_of}
 use Rattle.block_shelf.specs.Reading.{IsFrontAt}
 use Rattle.relay_core.proofs.Forgetting.{all_read}
-use Rattle.relay_core.proofs.system.System.next_front.Goals as goal
+use Rattle.relay_core.proofs.expiring.Expirer.next_front.Goals as goal
 
 -- all were read
 pub returns-then-read-ge-BUFFER_LIMIT-clause-front :
     goal.returns-then-read-ge-BUFFER_LIMIT-clause-front
 returns-then-read-ge-BUFFER_LIMIT-clause-front g c =
-    all_read c.args.self.now
-    (subst (λ (n : ℕ). 256 ≤ n) (c.len-read.ensures ∙ c.args.self.now.expirer.fronts.ok.0)
+    all_read c.args.buffer_set.now c.args.self.now
+    (subst (λ (n : ℕ). 256 ≤ n) (c.len-read.ensures ∙ c.args.self.now.fronts.ok.0)
     c.if-read-ge-BUFFER_LIMIT.true)
 
 -- the front of the buffer of the next number
 pub returns-clause-front : goal.returns-clause-front
-returns-clause-front g c = λ trusted σ openings failures keeps.
-    let w = terms_of c.args.self.now.config in
+returns-clause-front g c = λ trusted w σ openings failures keeps few.
     subst (λ (n : ℕ). IsFrontAt w σ (slice_get w.buffers n) c.front.result)
-    (c.len-read.ensures ∙ c.args.self.now.expirer.fronts.ok.0)
+    (c.len-read.ensures ∙ c.args.self.now.fronts.ok.0)
     (c.front.ensures trusted w σ openings failures keeps)
