@@ -44,9 +44,18 @@ fn put_image(octets: &[u8], sheet: &mut Sheet) {
 
 /// The block of these octets and as many zeros as it has room for.
 pub fn block_of(octets: &[u8], sheet: &mut Sheet) -> [u8; BLOCK_OCTETS] {
-    let mut block = [0; BLOCK_OCTETS];
-    match block.get_mut(..octets.len()) {
-        Some(front) => front.copy_from_slice(octets),
+    with_part([0; BLOCK_OCTETS], 0, octets, sheet)
+}
+
+/// A block with these octets from a place on; where it has no room for them, the row has no answer.
+pub fn with_part(
+    mut block: [u8; BLOCK_OCTETS],
+    place: usize,
+    octets: &[u8],
+    sheet: &mut Sheet,
+) -> [u8; BLOCK_OCTETS] {
+    match block.get_mut(place..place.saturating_add(octets.len())) {
+        Some(part) => part.copy_from_slice(octets),
         None => sheet.refuse(),
     }
     block

@@ -8,22 +8,16 @@ mod sessions;
 mod stops;
 mod texts;
 
-use cyc_block::{FailAt, MemoryBlocks};
 use line_words::is;
 use row_text::{Answers, Names, Row, copy_of, joined, place_of};
 use std::hash::RandomState;
 use std::io;
-use stops::{Device, Stops};
+use stops::Stops;
 
 /// Plays the rows of a text.
 pub fn play(rt: &HostRuntime, text: &[u8]) -> io::Result<()> {
-    play_over::<FailAt<MemoryBlocks>>(rt, text)
-}
-
-/// Plays the rows of a text, those of stops over devices of this kind.
-fn play_over<D: Device>(rt: &HostRuntime, text: &[u8]) -> io::Result<()> {
     let hasher = RandomState::new(rt)?;
-    let mut rows: Rows<D> = Rows {
+    let mut rows = Rows {
         part: Part::Texts,
         hasher,
         stops: Stops::new(rt.alloc()),
@@ -44,13 +38,13 @@ enum Part {
 
 /// The part that the next row is of, the random numbers of sessions, and what stops have left.
 #[derive(Drop)]
-struct Rows<D: Device> {
+struct Rows {
     part: Part,
     hasher: RandomState,
-    stops: Stops<D>,
+    stops: Stops,
 }
 
-impl<D: Device> Answers for Rows<D> {
+impl Answers for Rows {
     fn answer(&mut self, call: &[u8], row: &mut Row<'_>, names: &mut Names) {
         if is(call, b"part") {
             self.begin(row, names);
@@ -66,7 +60,7 @@ impl<D: Device> Answers for Rows<D> {
     }
 }
 
-impl<D: Device> Rows<D> {
+impl Rows {
     /// `part NAME`: the rows behind are of this part, and no text has a name.
     fn begin(&mut self, row: &mut Row<'_>, names: &mut Names) {
         self.part = match place_of("texts blocks sessions stops", row.next()) {

@@ -9,20 +9,19 @@ mod octets;
 mod steps;
 
 use bench::Bench;
-pub(crate) use bench::Device;
 use histories::Texts;
 use std::alloc::Global;
 
 /// The buffer and the text of a history that the rows so far have left.
 #[derive(Drop)]
-pub struct Stops<D: Device> {
-    bench: Bench<D>,
+pub struct Stops {
+    bench: Bench,
     texts: Texts,
 }
 
-impl<D: Device> Stops<D> {
+impl Stops {
     /// No row yet.
-    pub fn new(alloc: Global) -> Stops<D> {
+    pub fn new(alloc: Global) -> Stops {
         Stops {
             bench: Bench::Nothing,
             texts: Texts::new(alloc),

@@ -1,6 +1,6 @@
 //! The articles of a buffer. The text of an article is computed from its class and its octets.
 use crate::runs::{number, octet};
-use crate::stops::bench::{Bench, Device};
+use crate::stops::bench::{Bench, Store};
 use cyc_block::CHUNK_OCTETS;
 use cyc_buffer::{BufError, Buffer, Found, Open};
 use cyc_token::Token;
@@ -30,7 +30,7 @@ struct Stored {
     end: End,
 }
 
-impl<D: Device> Bench<D> {
+impl Bench {
     /// Writes the token under which an article is stored, or why it isn't. Of one that isn't
     /// finished so many blocks are written as the last cell says; one that is may begin a cycle.
     pub(crate) fn store(&mut self, end: End, row: &mut Row<'_>) {
@@ -129,7 +129,7 @@ impl<D: Device> Bench<D> {
 }
 
 /// Writes so many blocks of an article that was begun, ends it so, and writes its token.
-fn write_article<D: Device>(buffer: &mut Buffer<D>, open: Open, stored: Stored, sheet: &mut Sheet) {
+fn write_article(buffer: &mut Buffer<Store>, open: Open, stored: Stored, sheet: &mut Sheet) {
     let text = text_of(stored.class, stored.octets, sheet);
     if write_blocks(buffer, &open, &text, stored.blocks, sheet) {
         sheet.put(&ended(buffer, open, stored.end).to_text());
@@ -140,8 +140,8 @@ fn write_article<D: Device>(buffer: &mut Buffer<D>, open: Open, stored: Stored, 
 
 /// Writes so many blocks of an article; where one fails, that is written, and the answer is
 /// `false`.
-fn write_blocks<D: Device>(
-    buffer: &mut Buffer<D>,
+fn write_blocks(
+    buffer: &mut Buffer<Store>,
     open: &Open,
     text: &[u8],
     blocks: u64,
@@ -157,7 +157,7 @@ fn write_blocks<D: Device>(
 }
 
 /// Ends an article so, and gives its token.
-fn ended<D: Device>(buffer: &mut Buffer<D>, open: Open, end: End) -> Token {
+fn ended(buffer: &mut Buffer<Store>, open: Open, end: End) -> Token {
     match end {
         End::Finished => buffer.finish(open),
         End::Abandoned => {

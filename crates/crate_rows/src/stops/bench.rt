@@ -1,55 +1,30 @@
 //! A device in memory, and the buffer that runs over it, where one does.
 
 use crate::runs::{number, octet};
-use cyc_block::{BlockStore, FailAt, MemoryBlocks};
+use cyc_block::{FailAt, MemoryBlocks};
 use cyc_buffer::{Buffer, FormatError, Unopened};
 use row_text::{Row, Sheet};
-use std::alloc::{AllocError, Global};
 use std::mem;
 
-/// Blocks, a call of which can fail.
-pub trait Device: BlockStore + Drop {
-    /// So many blocks of zeros, no call of which fails.
-    fn zeros(alloc: Global, blocks: u32) -> Result<Self, AllocError>;
-
-    /// From here the call of this number fails; with 0 none does.
-    fn arm(&mut self, number: u64);
-
-    /// From here the call of this number of a buffer's device fails; with 0 none does.
-    fn arm_below(buffer: &mut Buffer<Self>, number: u64);
-}
-
-impl Device for FailAt<MemoryBlocks> {
-    fn zeros(alloc: Global, blocks: u32) -> Result<FailAt<MemoryBlocks>, AllocError> {
-        let blocks = MemoryBlocks::new(alloc, blocks)?;
-        Ok(FailAt::new(blocks, 0))
-    }
-
-    fn arm(&mut self, number: u64) {
-        FailAt::arm(self, number)
-    }
-
-    fn arm_below(buffer: &mut Buffer<FailAt<MemoryBlocks>>, number: u64) {
-        buffer.arm(number)
-    }
-}
+/// Blocks in memory, a call of which can fail.
+pub type Store = FailAt<MemoryBlocks>;
 
 /// What the rows so far have left.
 #[derive(Drop)]
-pub enum Bench<D: Device> {
+pub enum Bench {
     /// There is no device yet.
     Nothing,
     /// A buffer was started on the device, and its head isn't open.
-    Unopened(Unopened<D>),
+    Unopened(Unopened<Store>),
     /// A buffer runs over the device.
-    Running(Buffer<D>),
+    Running(Buffer<Store>),
     /// No buffer runs over the device.
-    Stopped(D),
+    Stopped(Store),
 }
 
-impl<D: Device> Bench<D> {
+impl Bench {
     /// From here this is what the rows have left.
-    pub(crate) fn set(&mut self, bench: Bench<D>) {
+    pub(crate) fn set(&mut self, bench: Bench) {
         drop(mem::replace(self, bench));
     }
 
@@ -88,16 +63,16 @@ impl<D: Device> Bench<D> {
     pub(crate) fn arm(&mut self, number: u64) {
         match self {
             Bench::Nothing | Bench::Unopened(_) => {}
-            Bench::Running(buffer) => D::arm_below(buffer, number),
+            Bench::Running(buffer) => buffer.arm(number),
             Bench::Stopped(device) => device.arm(number),
         }
     }
 }
 
 /// A device of so many blocks of zeros.
-fn zeros<D: Device>(blocks: u32, sheet: &mut Sheet) -> Option<D> {
-    match D::zeros(sheet.alloc, blocks) {
-        Ok(device) => Some(device),
+fn zeros(blocks: u32, sheet: &mut Sheet) -> Option<Store> {
+    match MemoryBlocks::new(sheet.alloc, blocks) {
+        Ok(blocks) => Some(FailAt::new(blocks, 0)),
         Err(_) => {
             sheet.lack();
             None
@@ -106,13 +81,7 @@ fn zeros<D: Device>(blocks: u32, sheet: &mut Sheet) -> Option<D> {
 }
 
 /// A buffer of this number at this cycle, over a device of which this call fails.
-fn formatted<D: Device>(
-    mut device: D,
-    failing: u64,
-    number: u8,
-    cycle: u32,
-    sheet: &mut Sheet,
-) -> Bench<D> {
+fn formatted(mut device: Store, failing: u64, number: u8, cycle: u32, sheet: &mut Sheet) -> Bench {
     device.arm(failing);
     match Buffer::format(sheet.alloc, device, number, cycle) {
         Ok(buffer) => {

@@ -3,7 +3,7 @@
 use crate::runs::{Change, octet};
 use crate::stops::Stops;
 use crate::stops::articles::End;
-use crate::stops::bench::{Bench, Device};
+use crate::stops::bench::Bench;
 use crate::stops::histories::Texts;
 use row_text::{Row, place_of};
 
@@ -11,7 +11,7 @@ use row_text::{Row, place_of};
 const NAMES: &str = "format zeros fail each store abandon unfinished read numbers octets put \
     changes cuts setting text history text_changes text_cuts";
 
-impl<D: Device> Stops<D> {
+impl Stops {
     /// Writes the answer of a call.
     pub(crate) fn answer(&mut self, call: &[u8], row: &mut Row<'_>) {
         match place_of(NAMES, call) {
@@ -23,7 +23,7 @@ impl<D: Device> Stops<D> {
     }
 }
 
-impl<D: Device> Bench<D> {
+impl Bench {
     /// Writes the answer of the call of a device or an article whose name has this place.
     fn answer(&mut self, place: usize, row: &mut Row<'_>) {
         match place {

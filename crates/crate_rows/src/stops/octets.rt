@@ -1,8 +1,8 @@
 //! The octets of a device on which no buffer runs.
 
-use crate::blocks::{block_of, without_zeros};
+use crate::blocks::{block_of, with_part, without_zeros};
 use crate::runs::{Change, Runs, changed, number, octet};
-use crate::stops::bench::{Bench, Device};
+use crate::stops::bench::Bench;
 use crate::stops::steps::{Step, start_in};
 use cyc_block::{BLOCK_OCTETS, BlockStore, head_count};
 use hex::FromHexError;
@@ -16,7 +16,7 @@ enum Block {
     Data(u32),
 }
 
-impl<D: Device> Bench<D> {
+impl Bench {
     /// Writes the answer of the call of this place, which is of the block that two cells name.
     pub(crate) fn answer_of_block(&mut self, place: usize, row: &mut Row<'_>) {
         let block = block_in(row);
@@ -38,12 +38,9 @@ impl<D: Device> Bench<D> {
     fn change(&mut self, block: Block, row: &mut Row<'_>) {
         let place = number(row) as usize;
         let other = octets_by(row.next(), &mut row.sheet);
-        let mut octets = self.octets_of(block, &mut row.sheet);
-        match octets.get_mut(place..place.saturating_add(other.len())) {
-            Some(part) => part.copy_from_slice(&other),
-            None => return row.sheet.refuse(),
-        }
-        self.put_block(block, &octets, &mut row.sheet);
+        let octets = self.octets_of(block, &mut row.sheet);
+        let changed = with_part(octets, place, &other, &mut row.sheet);
+        self.put_block(block, &changed, &mut row.sheet);
         row.sheet.put(b"put");
     }
 

@@ -1,7 +1,7 @@
 //! The stops and starts of a buffer.
 
 use crate::runs::{Runs, number, octet};
-use crate::stops::bench::{Bench, Device};
+use crate::stops::bench::{Bench, Store};
 use cyc_buffer::{Buffer, Unopened};
 use cyc_token::Token;
 use row_text::{Row, Sheet, place_of};
@@ -25,7 +25,7 @@ pub(crate) enum Step {
 /// More calls of a device than a step takes in which each of them fails in turn.
 const MOST_CALLS: u64 = 64;
 
-impl<D: Device> Bench<D> {
+impl Bench {
     /// Writes what the step of this name answers.
     pub fn put_step(&mut self, name: &[u8], row: &mut Row<'_>) {
         match step_of(name, row) {
@@ -109,7 +109,7 @@ fn is_error(said: &[u8]) -> bool {
 }
 
 /// Takes a step of a buffer that runs.
-fn stopped<D: Device>(buffer: Buffer<D>, step: Step, sheet: &mut Sheet) -> Bench<D> {
+fn stopped(buffer: Buffer<Store>, step: Step, sheet: &mut Sheet) -> Bench {
     match step {
         Step::Shut(stop) => shut(buffer, stop, sheet),
         Step::Restart(stop) => restarted(buffer, stop, sheet),
@@ -125,7 +125,7 @@ fn stopped<D: Device>(buffer: Buffer<D>, step: Step, sheet: &mut Sheet) -> Bench
 }
 
 /// Shuts a buffer under the number of a stop.
-fn shut<D: Device>(buffer: Buffer<D>, stop: u64, sheet: &mut Sheet) -> Bench<D> {
+fn shut(buffer: Buffer<Store>, stop: u64, sheet: &mut Sheet) -> Bench {
     match buffer.shut(stop) {
         Ok(device) => {
             sheet.put(b"shut");
@@ -139,7 +139,7 @@ fn shut<D: Device>(buffer: Buffer<D>, stop: u64, sheet: &mut Sheet) -> Bench<D> 
 }
 
 /// Stops a buffer and starts it in place.
-fn restarted<D: Device>(mut buffer: Buffer<D>, stop: u64, sheet: &mut Sheet) -> Bench<D> {
+fn restarted(mut buffer: Buffer<Store>, stop: u64, sheet: &mut Sheet) -> Bench {
     match buffer.restart(sheet.alloc, stop) {
         Ok(tokens) => {
             sheet.put(b"restarted");
@@ -151,7 +151,7 @@ fn restarted<D: Device>(mut buffer: Buffer<D>, stop: u64, sheet: &mut Sheet) -> 
 }
 
 /// Takes a step of a buffer whose head isn't open.
-fn opened<D: Device>(buffer: Unopened<D>, step: Step, sheet: &mut Sheet) -> Bench<D> {
+fn opened(buffer: Unopened<Store>, step: Step, sheet: &mut Sheet) -> Bench {
     match step {
         Step::Leave => {
             sheet.put(b"left");
@@ -168,7 +168,7 @@ fn opened<D: Device>(buffer: Unopened<D>, step: Step, sheet: &mut Sheet) -> Benc
 }
 
 /// Opens the head of a buffer.
-fn open<D: Device>(buffer: Unopened<D>, sheet: &mut Sheet) -> Bench<D> {
+fn open(buffer: Unopened<Store>, sheet: &mut Sheet) -> Bench {
     match buffer.open() {
         Ok(buffer) => {
             sheet.put(b"opened");
@@ -182,7 +182,7 @@ fn open<D: Device>(buffer: Unopened<D>, sheet: &mut Sheet) -> Bench<D> {
 }
 
 /// Takes a step of a device on which no buffer runs.
-fn started<D: Device>(device: D, step: Step, sheet: &mut Sheet) -> Bench<D> {
+fn started(device: Store, step: Step, sheet: &mut Sheet) -> Bench {
     let Step::Start(number, cycle) = step else {
         sheet.refuse();
         return Bench::Stopped(device);
