@@ -1,9 +1,7 @@
 //! Benchmarks: how fast the crates of texts and settings are, how fast the whole relay is over
-//! blocks in memory, with one thread, and what a stop and a start take. They promise nothing and
-//! are no tests.
+//! blocks in memory, with one thread. They promise nothing and are no tests.
 
 mod events;
-mod history;
 mod loads;
 mod relay;
 mod work;
@@ -25,9 +23,8 @@ pub(crate) fn run(rt: &HostRuntime, words: &[String]) -> ExitCode {
     }
 }
 
-/// Does what the words ask. A first one with a colon names a load of the relay, as all do then,
-/// `history` is a stop and a start with as many message-ids as the next word says, any other word a
-/// work on texts.
+/// Does what the words ask. A first one with a colon names a load of the relay, as all do then, any
+/// other word a work on texts.
 fn asked(rt: &HostRuntime, words: &[String]) -> io::Result<()> {
     let Some((first, behind)) = words.split_first() else {
         return Ok(());
@@ -37,9 +34,6 @@ fn asked(rt: &HostRuntime, words: &[String]) -> io::Result<()> {
         return relay::serve_all(rt, words);
     }
     let number = count(behind.first());
-    if word == "history" {
-        return history::time(rt, number);
-    }
     match place_of(work::NAMES, word.as_bytes()) {
         Some(work) => time_all(rt, work, number as usize, behind),
         None => Err(io::Error::from(ErrorKind::InvalidInput)),
