@@ -11,7 +11,6 @@ ghost use Rattle.relay_live.specs.Counts.{accepted_in, posted_in, mismatched_rec
 ghost use Rattle.relay_live.specs.Counts.{AreCounts, ids_stored_again_of};
 ghost use Rattle.relay_live.specs.PeerServers.{kept_of, peer_of, terms_at};
 ghost use Rattle.relay_live.specs.Making.{slots_of};
-ghost use Rattle.relay_live.specs.Running.{HasServed};
 ghost use Rattle.relay_live.specs.Sessions.{Accounted, HasLists};
 ghost use Rattle.relay_live.specs.declared.running.LiveError.TheVariants as errors;
 
@@ -225,58 +224,6 @@ fn counted_of<
     Ok(CountedRun { seats, counted })
 }
 
-/// As `serve_all`, with all that it says in one clause.
-fn serve_ends<
-    'a,
-    X: Connections<R> + Drop + Send,
-    S: BlockStore + Drop + Send,
-    J: StorePremises + Send + Sync,
-    L: Ledger + Send + Sync,
-    C: Clock + Sync,
-    G: Gate<R> + Sync,
-    Q: RegisterRef + Sync,
-    R: Threads + Wait + Sync,
->(
-    rt: &R,
-    alloc: Global,
-    keeper: &Keeper<'a, S, J, L, C, Q>,
-    serving: Serving<'a, X, G>,
-    groups: usize,
-    all: Share<L>,
-) -> Result<CountedRun<L, StoreResult<J>, PeerServer<'a, X, S, J, L, C, G, Q>>, LiveError>
-where
-    <X as Connections<R>>::Reader: Drop + Send,
-    <X as Connections<R>>::Writer: Drop + Send,
-    requires parts { (all.parts ≡ groups) × (all.amount ≡ 0) × (L.parts ≡ groups) × (0 < groups) }
-    requires few { length serving.peer_sources.items < 2 ^ 62 }
-    requires slots { slots_of keeper.now ≡ length serving.peer_sources.items }
-    ensures { IfOk result (HasServed serving.entry.config.now groups
-        serving.entry.peer_sources.items) }
-{
-    let Serving {
-        config,
-        gate,
-        hasher,
-        peer_sources,
-    } = serving;
-    let ends = ends_of(alloc, hasher, keeper, config, gate, peer_sources)?;
-    let Opened {
-        channels,
-        mut rests,
-        plans,
-        writers,
-    } = open_all::<L, StoreResult<J>, PeerServer<'a, X, S, J, L, C, G, Q>>(
-        alloc, groups, ends, all,
-    )?;
-    let channels = channels.as_slice();
-    let mut seats = match serve_seats(rt, channels, keeper, plans, writers) {
-        Ok(seats) => seats,
-        Err(why) => return Err(live_error(why)),
-    };
-    let totals = close(rt, channels, &keeper.shared.desk, &mut rests, &mut seats);
-    counted_of(alloc, totals, seats)
-}
-
 /// Serves an end behind each peer source, one thread for each of them and for each group's writer,
 /// until every end has left and every writer has taken what was handed over to its group
 /// (docs/PROTOCOL.md, Threads 6). There is a slot for each peer source, where its end is told.
@@ -344,5 +291,26 @@ where
     ensures ids_stored_again { IfOk result (λ run. ids_stored_again_of run.counted
         ≡ ids_stored_again_in (map (λ w. w.finished.items) run.seats.writers.items)) }
 {
-    serve_ends(rt, alloc, keeper, serving, groups, all)
+    let Serving {
+        config,
+        gate,
+        hasher,
+        peer_sources,
+    } = serving;
+    let ends = ends_of(alloc, hasher, keeper, config, gate, peer_sources)?;
+    let Opened {
+        channels,
+        mut rests,
+        plans,
+        writers,
+    } = open_all::<L, StoreResult<J>, PeerServer<'a, X, S, J, L, C, G, Q>>(
+        alloc, groups, ends, all,
+    )?;
+    let channels = channels.as_slice();
+    let mut seats = match serve_seats(rt, channels, keeper, plans, writers) {
+        Ok(seats) => seats,
+        Err(why) => return Err(live_error(why)),
+    };
+    let totals = close(rt, channels, &keeper.shared.desk, &mut rests, &mut seats);
+    counted_of(alloc, totals, seats)
 }
