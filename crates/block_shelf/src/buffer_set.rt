@@ -4,10 +4,19 @@ use cyc_buffer::{BufError, Buffer, Found, Front, Open};
 use cyc_token::Token;
 
 /// A group of the buffer set: where it is, and the numbers of its buffers in the order of its list.
-#[derive(Drop)]
 pub struct PlacedGroup {
     pub(crate) group: Group,
     pub(crate) numbers: Vec<usize>,
+}
+
+// Written out, so that no crate above proves anew how each part is let go.
+impl Drop for PlacedGroup {
+    fn drop(self) {
+        let PlacedGroup {
+            group: _,
+            numbers: _,
+        } = self;
+    }
 }
 
 /// An article that is begun, and neither finished nor abandoned.

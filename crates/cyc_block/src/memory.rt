@@ -7,7 +7,6 @@ use crate::{BLOCK_OCTETS, BlockStore, DeviceFailed, head_count};
 use std::alloc::{AllocError, Global};
 
 /// Blocks in memory, which never fail.
-#[derive(Drop)]
 pub struct MemoryBlocks {
     blocks: Vec<[u8; BLOCK_OCTETS]>,
     heads: Vec<[u8; BLOCK_OCTETS]>,
@@ -15,6 +14,17 @@ pub struct MemoryBlocks {
     calls: Tally,
     ghost numbered: { length blocks.items < 2 ^ 32 },
     ghost headed: { length heads.items ≡ head_blocks (length blocks.items) },
+}
+
+// Written out, so that no crate above proves anew how each part is let go.
+impl Drop for MemoryBlocks {
+    fn drop(self) {
+        let MemoryBlocks {
+            blocks: _,
+            heads: _,
+            calls: _,
+        } = self;
+    }
 }
 
 impl MemoryBlocks {

@@ -41,10 +41,19 @@ pub struct Identity {
 
 /// A regular file of the machine that is held: it is open to be read and written, and locked, so
 /// that nobody else who asks for its lock has it. Nothing was read of it or written to it.
-#[derive(Drop)]
 pub struct HeldFile {
     file: File,
     identity: Identity,
+}
+
+// Written out, so that no crate above proves anew how each part is let go.
+impl Drop for HeldFile {
+    fn drop(self) {
+        let HeldFile {
+            file: _,
+            identity: _,
+        } = self;
+    }
 }
 
 impl HeldFile {

@@ -13,7 +13,6 @@ pub struct KeptId {
 }
 
 /// What is left of a feed.
-#[derive(Drop)]
 pub struct KeptFeed {
     /// How many tokens it gained.
     pub gained: u64,
@@ -23,6 +22,18 @@ pub struct KeptFeed {
     pub taken: u64,
     /// Those that wait in its ring, the oldest first.
     pub waiting: Vec<Token>,
+}
+
+// Written out, so that no crate above proves anew how each part is let go.
+impl Drop for KeptFeed {
+    fn drop(self) {
+        let KeptFeed {
+            gained: _,
+            passed: _,
+            taken: _,
+            waiting: _,
+        } = self;
+    }
 }
 
 /// What outlives a stop.

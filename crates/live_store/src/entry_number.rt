@@ -9,12 +9,23 @@ use std::mem::size_of;
 
 /// The number of a value, with what shows that a register has the value under it, for as long as
 /// the register lasts.
-#[derive(Drop)]
 pub struct EntryNumber<T> {
     pub(crate) index: usize,
     pub(crate) at: Written<At>,
     pub(crate) bucket: Written<Vec<Place<T>>>,
     pub(crate) item: Written<T>,
+}
+
+// Written out, so that no crate above proves anew how each part is let go.
+impl<T: Drop> Drop for EntryNumber<T> {
+    fn drop(self) {
+        let EntryNumber {
+            index: _,
+            at: _,
+            bucket: _,
+            item: _,
+        } = self;
+    }
 }
 
 // What the README says of the memory of a number.

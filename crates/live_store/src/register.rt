@@ -15,11 +15,21 @@ use std::sync::atomic::{AtomicUsize, Ordering};
 
 /// Values under numbers: a value never changes under its number, and none is taken out. Threads
 /// enter them by a `&`, with no lock.
-#[derive(Drop)]
 pub struct Register<T> {
     next: AtomicUsize,
     buckets: Vec<OnceSlot<Vec<Place<T>>, Bucket>>,
     alloc: Global,
+}
+
+// Written out, so that no crate above proves anew how each part is let go.
+impl<T: Drop> Drop for Register<T> {
+    fn drop(self) {
+        let Register {
+            next: _,
+            buckets: _,
+            alloc: _,
+        } = self;
+    }
 }
 
 impl<T> Model for Register<T> {

@@ -24,7 +24,6 @@ const LONG_PAUSE: u64 = 1_000;
 const NO_DESCRIPTOR: [i32; 2] = [23, 24];
 
 /// A port of a peer, on one IPv4 address of the machine or, at 0.0.0.0, on all.
-#[derive(Drop)]
 pub struct Port<'a> {
     listener: TcpListener,
     /// How many connections it still takes; without a number it never ends by itself.
@@ -35,6 +34,19 @@ pub struct Port<'a> {
     patience: u32,
     /// Whether it is served.
     is_served: AtomicBool,
+}
+
+// Written out, so that no crate above proves anew how each part is let go.
+impl Drop for Port<'_> {
+    fn drop(self) {
+        let Port {
+            listener: _,
+            left: _,
+            stop: _,
+            patience: _,
+            is_served: _,
+        } = self;
+    }
 }
 
 impl<'a> Port<'a> {

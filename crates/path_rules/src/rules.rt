@@ -27,9 +27,15 @@ impl From<AllocError> for PathError {
 }
 
 /// The identity of an agent as it stands in a Path, without white space (RFC 5537, section 3.2).
-#[derive(Drop)]
 pub struct Identity {
     octets: Vec<u8>,
+}
+
+// Written out, so that no crate above proves anew how each part is let go.
+impl Drop for Identity {
+    fn drop(self) {
+        let Identity { octets: _ } = self;
+    }
 }
 
 impl Model for Identity {

@@ -17,7 +17,6 @@ const NAME: &str = "relay.hist";
 const BESIDE: &str = "relay.hist.new";
 
 /// The file `relay.hist` in a folder.
-#[derive(Drop)]
 pub struct HostHistory<'a, R> {
     rt: &'a R,
     folder: &'a str,
@@ -25,6 +24,19 @@ pub struct HostHistory<'a, R> {
     beside: PathBuf,
     /// What was last written beside it, until it takes its place.
     written: Option<File>,
+}
+
+// Written out, so that no crate above proves anew how each part is let go.
+impl<R> Drop for HostHistory<'_, R> {
+    fn drop(self) {
+        let HostHistory {
+            rt: _,
+            folder: _,
+            path: _,
+            beside: _,
+            written: _,
+        } = self;
+    }
 }
 
 impl<'a, R> HostHistory<'a, R> {

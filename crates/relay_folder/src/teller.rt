@@ -10,9 +10,15 @@ const PIECE: usize = 16_384;
 const TELLING: u64 = 1;
 
 /// Whoever asked. He hears the end of what he is told once this is let go.
-#[derive(Drop)]
 pub struct Teller {
     stream: UnixStream,
+}
+
+// Written out, so that no crate above proves anew how each part is let go.
+impl Drop for Teller {
+    fn drop(self) {
+        let Teller { stream: _ } = self;
+    }
 }
 
 impl Teller {

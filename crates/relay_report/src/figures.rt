@@ -5,10 +5,19 @@ use id_history::Counts;
 use line_words::Octets;
 
 /// A buffer's name, with its figures.
-#[derive(Drop)]
 pub struct NamedBuffer {
     pub name: Octets,
     pub figures: BufferFigures,
+}
+
+// Written out, so that no crate above proves anew how each part is let go.
+impl Drop for NamedBuffer {
+    fn drop(self) {
+        let NamedBuffer {
+            name: _,
+            figures: _,
+        } = self;
+    }
 }
 
 /// The figures of a feed, in tokens.
@@ -23,14 +32,22 @@ pub struct FeedFigures {
 }
 
 /// The name of a feed's peer, with the feed's figures.
-#[derive(Drop)]
 pub struct NamedFeed {
     pub peer: Octets,
     pub figures: FeedFigures,
 }
 
+// Written out, so that no crate above proves anew how each part is let go.
+impl Drop for NamedFeed {
+    fn drop(self) {
+        let NamedFeed {
+            peer: _,
+            figures: _,
+        } = self;
+    }
+}
+
 /// The figures of a relay.
-#[derive(Drop)]
 pub struct Figures {
     /// Of each buffer, in the order of the configuration.
     pub buffers: Vec<NamedBuffer>,
@@ -38,4 +55,15 @@ pub struct Figures {
     pub feeds: Vec<NamedFeed>,
     /// How many message-ids are known, by kind.
     pub ids: Counts,
+}
+
+// Written out, so that no crate above proves anew how each part is let go.
+impl Drop for Figures {
+    fn drop(self) {
+        let Figures {
+            buffers: _,
+            feeds: _,
+            ids: _,
+        } = self;
+    }
 }

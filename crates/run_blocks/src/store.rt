@@ -15,7 +15,6 @@ use std::alloc::{AllocError, Global};
 /// them. What is written is gathered in a run of blocks that follow each other, and the run is
 /// written in one call. A run that couldn't be written is set aside: each block is written by
 /// itself then, until the run was written or its blocks were.
-#[derive(Drop)]
 pub struct RunBlocks<F = HostFile> {
     pub(crate) file: F,
     /// How many blocks there are.
@@ -34,6 +33,21 @@ pub struct RunBlocks<F = HostFile> {
     ghost aside_some: { IsTrue set_aside → 0 < gathered.count },
     ghost gathered_within: { gathered.first + gathered.count ≤ count },
     ghost ahead_within: { ahead.first + ahead.count ≤ count },
+}
+
+// Written out, so that no crate above proves anew how each part is let go.
+impl<F: Drop> Drop for RunBlocks<F> {
+    fn drop(self) {
+        let RunBlocks {
+            file: _,
+            count: _,
+            asked: _,
+            gathered: _,
+            set_aside: _,
+            ahead: _,
+            course: _,
+        } = self;
+    }
 }
 
 impl<F: RunFile> RunBlocks<F> {

@@ -39,7 +39,6 @@ impl Begun {
 /// An article that was begun, for contracts alone: its token, whether it was begun at the front of
 /// a cycle, and the octets of its text. Only `store` and a start make one, and enter it. It takes
 /// no memory: what it is of is known by its number.
-#[derive(Drop)]
 pub struct Record {
     /// The token that the article is finished under, if it is.
     token: Snapshot<Token>,
@@ -49,6 +48,17 @@ pub struct Record {
     text: Snapshot<Vec<u8>>,
     // So each number of the register is that of an article.
     ghost is_article: { ∥ IsArticle text.value.items ∥₁ },
+}
+
+// Written out, so that no crate above proves anew how each part is let go.
+impl Drop for Record {
+    fn drop(self) {
+        let Record {
+            token: _,
+            fresh: _,
+            text: _,
+        } = self;
+    }
 }
 
 // What the README says of the memory of a record, and of its place in the register.
