@@ -13,6 +13,7 @@ pub mod StopLemmas
 mod Apart
 pub mod StartLemmas
 pub mod Sound
+pub mod Stamps
 pub mod Refusals
 mod Rising
 pub mod Stretches

@@ -14,7 +14,6 @@ use cyc_token::Token;
 use std::alloc::Global;
 
 /// A cyclic buffer over a store of blocks.
-#[derive(Drop)]
 pub struct Buffer<S: BlockStore> {
     pub(crate) store: S,
     pub(crate) buffer_state: BufferState,
@@ -23,6 +22,18 @@ pub struct Buffer<S: BlockStore> {
     /// Head block 0 says that the buffer may change.
     pub(crate) has_open_head: bool,
     ghost counted: { buffer_state.line.blocks ≡ length (S.blocks store) },
+}
+
+// Written out, so that no crate above proves anew how each part is let go.
+impl<S: BlockStore + Drop> Drop for Buffer<S> {
+    fn drop(self) {
+        let Buffer {
+            store: _,
+            buffer_state: _,
+            stop: _,
+            has_open_head: _,
+        } = self;
+    }
 }
 
 /// A store over which no buffer is made, and why.
@@ -289,6 +300,19 @@ impl<S: BlockStore> Buffer<S> {
             → result ≡ h.buffer.blocks }
     {
         self.buffer_state.line.blocks
+    }
+
+    /// The buffer's store.
+    pub fn into_store(self) -> S
+        ensures { result ≡ store_of self }
+    {
+        let Buffer {
+            store,
+            buffer_state: _,
+            stop: _,
+            has_open_head: _,
+        } = self;
+        store
     }
 }
 

@@ -36,14 +36,6 @@ impl<S: BlockStore> Buffer<S> {
         self.buffer_state.progress.is_some()
     }
 
-    /// The buffer's store.
-    pub fn into_store(self) -> S
-        ensures { result ≡ store_of self }
-    {
-        let Buffer { store, .. } = self;
-        store
-    }
-
     /// Says on the device what the buffer is, and gives the store.
     pub fn shut(self, stop: u64) -> Result<S, Unstopped<S>>
         // The store holds the buffer, as stopped under this number, with each history.

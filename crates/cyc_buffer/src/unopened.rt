@@ -15,9 +15,15 @@ use cyc_block::{BlockStore, CHUNK_OCTETS};
 use cyc_token::Token;
 
 /// A started buffer whose head block says closed yet.
-#[derive(Drop)]
 pub struct Unopened<S: BlockStore> {
     pub(crate) buffer: Buffer<S>,
+}
+
+// Written out, so that no crate above proves anew how each part is let go.
+impl<S: BlockStore + Drop> Drop for Unopened<S> {
+    fn drop(self) {
+        let Unopened { buffer: _ } = self;
+    }
 }
 
 impl<S: BlockStore> Unopened<S> {

@@ -1,6 +1,6 @@
 -- All of the device was read, or something is wrong with it.
-use Rattle.std.proofs.Common.{◌≡◌, ◌∙◌, ℕ, length, refl, sym, ap, arith, subst}
-use Rattle.news_terms.specs.HeadBlocks.{HeadBlock}
+use Rattle.std.proofs.Common.{◌≡◌, ◌+◌, ◌∙◌, ℕ, length, refl, sym, ap, arith, subst}
+use Rattle.news_terms.specs.HeadBlocks.{HeadBlock, bitmap_blocks, head_blocks}
 use Rattle.news_terms.specs.Places.{Buffer}
 use Rattle.cyc_block.specs.Heads.{head_view}
 use Rattle.cyc_buffer.specs.Marks.{is_marked}
@@ -215,3 +215,16 @@ returns-in_err-tokens-clause-held g c =
     c.in_ok-numbers.ensures.held
     (held_on g.S.BlockStore c.read_closed.new.store c.read_bitmap.new.store c.read_all.new.store
     c.in_ok-read_bitmap.ensures.held c.in_err-tokens.ensures.held)
+
+-- the calls are those of the head, the bitmap and the articles
+calls_all : (start closed behind all count blocks listed : ℕ) → closed ≡ start + 1
+    → behind ≡ closed + bitmap_blocks count → count ≡ blocks → all ≡ behind + listed
+    → all ≡ start + head_blocks blocks + listed
+calls_all start closed behind all count blocks listed head bits same articles =
+    let e = ap bitmap_blocks same in
+    omega (arith, head, bits, articles, e)
+
+pub returns-clause-calls : goal.returns-clause-calls
+returns-clause-calls g c =
+    calls_all _ _ _ _ c.in_ok-numbers.numbers.blocks _ _ c.in_ok-numbers.ensures.calls
+    c.in_ok-read_bitmap.ensures.calls c.in_ok-numbers.ensures.blocks c.in_ok-tokens.ensures.calls

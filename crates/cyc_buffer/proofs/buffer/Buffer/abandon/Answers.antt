@@ -1,5 +1,6 @@
 -- An abandoned write keeps the buffer's agreement with a history.
-use Rattle.std.proofs.Common.{◌+◌, sym, subst, Option, None}
+use Rattle.std.proofs.Common.{◌+◌, ◌∙◌, sym, subst, Option, None}
+use Rattle.std.proofs.lemmas.Bool.{false≢true}
 use Rattle.cyc_buffer.specs.History.{without_write}
 use Rattle.cyc_buffer.specs.BufferState.{Writes, IsUnpassed}
 use Rattle.cyc_buffer.specs.declared.line.Line.{Line}
@@ -24,3 +25,8 @@ returns-then-owned-clause-abandoned g c owned trusted h agrees =
         open_one = no_open _ new.progress;
       };
     }
+
+-- another write isn't this buffer's
+pub returns-else-owned-clause-abandoned : goal.returns-else-owned-clause-abandoned
+returns-else-owned-clause-abandoned g c owned =
+    absurd (false≢true (sym c.if-owned.false ∙ c.owns-owned.ensures.1 owned))

@@ -1,6 +1,19 @@
 -- A finish keeps the buffer's agreement with a history.
+use Rattle.std.proofs.Common.{◌≡◌, ◌+◌, ◌∙◌, ◌⊎◌, ℕ, Bool, true, arith, sym}
+use Rattle.std.proofs.lemmas.Bool.{false≢true}
+use Rattle.std.proofs.lemmas.Bool.Decides.{nat_tests}
+use Rattle.cyc_buffer.specs.Marks.{marked_after}
 use Rattle.cyc_buffer.proofs.Contents.{holds_finish}
 use Rattle.cyc_buffer.proofs.buffer.Buffer.finish.Goals as goal
+
+-- a block that is marked then is this one, or it was marked
+marked_one : (first block : ℕ) (old : Bool)
+    → marked_after first (first + 1) true block old ≡ true → (block ≡ first) ⊎ (old ≡ true)
+marked_one first block old e = grind (arith, nat_tests)
+
+pub returns-clause-starts : goal.returns-clause-starts
+returns-clause-starts g c block e =
+    marked_one c.args.write.token.first block _ (sym (c.finish.ensures.starts block) ∙ e)
 
 pub returns-clause-finished : goal.returns-clause-finished
 returns-clause-finished g c can trusted h agrees = record {
@@ -10,3 +23,8 @@ returns-clause-finished g c can trusted h agrees = record {
       agrees.keeps c.finish.ensures.line
       (agrees.holds is) can.owned can.written;
 }
+
+-- what can't be finished isn't
+pub returns-then-not-can_finish-clause-finished : goal.returns-then-not-can_finish-clause-finished
+returns-then-not-can_finish-clause-finished g c can =
+    absurd (false≢true (sym c.if-not-can_finish.true ∙ c.can_finish.ensures.1 can))

@@ -3,10 +3,13 @@ use Rattle.std.proofs.Common.{◌≡◌, ◌∙◌, sym, ap, subst, refl, rules,
 use Rattle.news_terms.specs.BlockImage.{block_image}
 use Rattle.cyc_block.specs.Store.{block_at}
 use Rattle.cyc_token.specs.Token.{token_view}
+use Rattle.news_terms.specs.Places.{Buffer}
 use Rattle.cyc_buffer.specs.Agreement.{Holds}
-use Rattle.cyc_buffer.specs.Answers.{Shows, Gone, by_numbers}
+use Rattle.cyc_buffer.specs.Answers.{Shows, Gone, by_numbers, fault_of}
 use Rattle.cyc_buffer.specs.History.{front_of}
 use Rattle.cyc_buffer.specs.Look.{has_marks, numbers_of}
+use Rattle.cyc_buffer.specs.declared.answers.BufError.TheVariants as errors
+use Rattle.cyc_buffer.specs.declared.answers.FaultKind.TheVariants as kinds
 use Rattle.cyc_buffer.specs.declared.answers.Found.TheVariants as found
 use Rattle.cyc_buffer.specs.declared.answers.Front.{Front}
 use Rattle.cyc_buffer.proofs.Reading.{unknown_answer, there, there_under, answer_none, look_block}
@@ -80,7 +83,8 @@ returns-then-is_err-clause-reads g c =
       unread = λ trusted h agrees unread. absurd
           (not_unread r h token k agrees.keeps r.line.within block.0 block.1 unread);
       other = λ trusted h agrees. tt;
-      fault = search rules;
+      fault = λ trusted h agrees. ap errors.Device (c.fault-fault.ensures
+          ∙ ap (λ (b : Buffer). fault_of b kinds.Read token.length) (sym agrees.keeps.buffer));
       room = tt;
       rest = refl;
       same = λ trusted h agrees. record {
@@ -206,7 +210,7 @@ returns-in-Gone-clause-remembered g c =
 
 pub returns-then-is_err-clause-remembered : goal.returns-then-is_err-clause-remembered
 returns-then-is_err-clause-remembered g c = record {
-  fault = search rules;
+  fault = ap errors.Device c.fault-fault.ensures;
   number = (read_within c.args.self.now.buffer_state c.args.token.now c.args.k c.in-Block.block
       (sym c.in-Block.is ∙ c.look.ensures.look)).0;
 }

@@ -1,7 +1,9 @@
 -- What was written holds the buffer with each history, so it is what is read back.
-use Rattle.std.proofs.Common.{refl, sym, subst}
+use Rattle.std.proofs.Common.{◌≡◌, Bool, true, false, refl, sym, subst}
 use Rattle.cyc_buffer.specs.BufferState.{Keeps}
 use Rattle.cyc_buffer.specs.declared.buffer_state.BufferState.{BufferState}
+use Rattle.cyc_buffer.specs.Head.{is_busy}
+use Rattle.cyc_buffer.proofs.Refusals.{blamed_on}
 use Rattle.cyc_buffer.proofs.StopLemmas.{still_agrees}
 use Rattle.cyc_buffer.proofs.buffer.Buffer.restart.Goals as goal
 
@@ -37,3 +39,20 @@ returns-clause-same g c trusted h agrees =
     (still_agrees c.write_heads.new.self c.read_back.new.self c.read_back.ensures.rest trusted h
     (c.write_heads.ensures.same trusted h agrees)) in
     record { keeps = left.keeps; honest = left.honest; holds = left.holds }
+
+-- what is busy isn't stopped
+pub returns-clause-busy : goal.returns-clause-busy
+returns-clause-busy g c = c.in_default.ensures.busy
+
+-- what was stopped wasn't busy
+idle : (busy : Bool) → (busy ≡ true → ⊥) → busy ≡ false
+idle true never = absurd (never refl)
+idle false never = refl
+
+pub returns-in-Err-read_back-clause-refusal : goal.returns-in-Err-read_back-clause-refusal
+returns-in-Err-read_back-clause-refusal g c = (
+  idle (is_busy c.args.self.now) c.in_default.ensures.busy,
+  blamed_on g.S.BlockStore c.args.self.now.store c.write_heads.new.self.store
+      c.read_back.new.self.store c.in-Err-read_back.error c.in_default.ensures.no_failure
+      c.in-Err-read_back.ensures.failed,
+)

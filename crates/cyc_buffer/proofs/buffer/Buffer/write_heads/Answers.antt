@@ -1,5 +1,5 @@
 -- The bitmap is written, and then head block 0: together they hold the buffer as stopped.
-use Rattle.std.proofs.Common.{◌∙◌, inr, List, ℕ, refl, sym, subst}
+use Rattle.std.proofs.Common.{◌∙◌, inl, inr, List, ℕ, refl, sym, subst}
 use Rattle.std.proofs.lemmas.Result.{on_ok_weaker}
 use Rattle.cyc_buffer.specs.Agreement.{Holds}
 use Rattle.cyc_buffer.proofs.StopLemmas.{holds_stopped, tells_starts, still_agrees, written_bitmap}
@@ -61,3 +61,6 @@ returns-clause-held g c = on_ok_weaker c.write_head.result (λ numbers h agrees.
 pub returns-then-is_err-clause-same : goal.returns-then-is_err-clause-same
 returns-then-is_err-clause-same g c =
     still_agrees c.args.self.now _ (returns-then-is_err-clause-rest g c)
+
+pub returns-then-is_err-clause-order : goal.returns-then-is_err-clause-order
+returns-then-is_err-clause-order g c is = inl (c.write_bitmap.ensures.first is)

@@ -1,10 +1,19 @@
 -- A write of the next block, and what its failure leaves.
-use Rattle.std.proofs.Common.{◌≡◌, ◌∙◌, ◌+◌, ◌==◌, ℕ, true, length, arith, ap, subst, sym, refl}
-use Rattle.std.proofs.Common.{rules}
-use Rattle.news_terms.specs.Places.{size_of}
+use Rattle.std.proofs.Common.{◌≡◌, ◌<◌, ◌∙◌, ◌+◌, ◌==◌, ℕ, true, length, arith, ap, subst, sym}
+use Rattle.std.proofs.Common.{refl, Option, None, Some}
+use Rattle.std.proofs.lemmas.Bool.{false≢true}
+use Rattle.news_terms.specs.Places.{Buffer, size_of}
 use Rattle.cyc_block.specs.Store.{ChangesOnly}
 use Rattle.cyc_block.specs.declared.image.Stamp.{Stamp}
 use Rattle.cyc_buffer.specs.Marks.{is_marked}
+use Rattle.cyc_buffer.specs.Answers.{fault_of}
+use Rattle.cyc_buffer.specs.BufferState.{buffer_of}
+use Rattle.cyc_buffer.specs.Progress.{IsTheOpen, failed, written_of}
+use Rattle.cyc_buffer.specs.declared.answers.BufError.TheVariants as errors
+use Rattle.cyc_buffer.specs.declared.answers.FaultKind.TheVariants as kinds
+use Rattle.cyc_buffer.specs.declared.buffer_state.Open.{Open}
+use Rattle.cyc_buffer.specs.declared.buffer_state.Progress.{Progress}
+use Rattle.cyc_buffer.specs.declared.line.Line.{Line}
 use Rattle.cyc_buffer.specs.declared.marks.Marks.{Marks}
 use Rattle.cyc_buffer.proofs.Writes.{chunk_length, counted_on, fails_by, next_by, image_there}
 use Rattle.cyc_buffer.proofs.Writes.{with_error, without_error}
@@ -31,10 +40,21 @@ block_image-image-requires-clause-room g c =
       chunk_length c.next_stamp-stamp.result.index c.args.text.now,
     )
 
+-- a write that failed is still the open one
+still_open : (write : Open) (p : Option Progress) → IsTheOpen write p → IsTheOpen write (failed p)
+still_open write None owned = owned
+still_open write (Some p) owned = owned
+
 pub returns-then-is_err-clause-written : goal.returns-then-is_err-clause-written
-returns-then-is_err-clause-written g c can = record {
+returns-then-is_err-clause-written g c can = let stamp = c.next_stamp-stamp.result in record {
   last = tt;
-  fault = search rules;
+  fault = λ trusted h agrees. ap errors.Device (c.fault-fault.ensures
+      ∙ ap (λ (l : Line). fault_of (buffer_of l) kinds.Write stamp.article_length)
+      c.mark_broken.ensures.rest.line
+      ∙ ap (λ (s : Stamp). fault_of (buffer_of c.args.self.now.buffer_state.line) kinds.Write
+      s.article_length) c.next_stamp-stamp.ensures.stamp
+      ∙ ap (λ (b : Buffer). fault_of b kinds.Write c.args.write.now.token.length)
+      (sym agrees.keeps.buffer));
   written = tt;
   count = tt;
   whole = tt;
@@ -54,7 +74,8 @@ returns-then-is_err-clause-written g c can = record {
         honest = λ is. c.write.ensures.honest (agrees.honest is);
         holds = left.1;
       };
-  owned = search rules;
+  owned = subst (IsTheOpen c.args.write.now) (sym c.mark_broken.ensures.progress)
+      (still_open c.args.write.now c.args.self.now.buffer_state.progress can.owned);
   calls = c.write.ensures.calls;
 }
 
@@ -133,3 +154,21 @@ returns-clause-device g c = record {
   honest = c.write.ensures.honest;
   blocks = c.write.ensures.count;
 }
+
+pub returns-then-not-can_write-clause-written : goal.returns-then-not-can_write-clause-written
+returns-then-not-can_write-clause-written g c can =
+    absurd (false≢true (sym c.if-not-can_write.true ∙ c.can_write.ensures.1 can))
+
+pub count_block-requires-clause-left : goal.count_block-requires-clause-left
+count_block-requires-clause-left g c = (c.can_write.ensures.0 c.if-not-can_write.false).left
+
+pub count_block-requires-clause-open : goal.count_block-requires-clause-open
+count_block-requires-clause-open g c = (c.can_write.ensures.0 c.if-not-can_write.false).owned
+
+pub write-requires : goal.write-requires
+write-requires g c =
+    let here = ap (λ (s : Stamp). s.first + s.index) c.next_stamp-stamp.ensures.stamp in
+    subst (λ (n : ℕ). n < length (g.S.BlockStore.blocks c.args.self.now.store)) (sym here)
+    (subst (λ (n : ℕ). c.args.write.now.token.first
+    + written_of c.args.self.now.buffer_state.progress < n) c.args.self.now.counted
+    c.next_stamp-stamp.ensures.within)
