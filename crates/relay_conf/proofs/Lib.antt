@@ -7,6 +7,7 @@ pub mod JoinedLines
 pub mod LinesRead
 pub mod ListedOnce
 pub mod NameTexts
+pub mod NamedLines
 pub mod Numbered
 pub mod OneExpression
 pub mod OneReading

@@ -1,5 +1,5 @@
 -- The identities that relay.conf takes are such as stand in a Path.
-use Rattle.std.proofs.Common.{◌≡◌, ℕ, true, false, List, [], ◌∷◌, ◌++◌, refl, ap, ◌∙◌, rules, tests}
+use Rattle.std.proofs.Common.{◌≡◌, ℕ, true, List, [], ◌∷◌, ◌++◌, refl, ap, ◌∙◌, rules, tests}
 use Rattle.std.proofs.Common.{not, arith}
 use Rattle.std.specs.Prelude.{◌&&◌, ◌==◌, filter}
 use Rattle.std.specs.Char.{is_ascii_graphic}

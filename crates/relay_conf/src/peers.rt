@@ -78,21 +78,13 @@ pub(crate) fn numbered(
     Ok(feeds)
 }
 
-/// The peers with their connections.
-pub(crate) fn connected(
-    alloc: Global,
-    peers: Vec<Peer>,
-    all: &[PeerConnections],
-) -> Result<Vec<Peer>, AllocError>
-    ensures { IfOk result (λ made. made.items ≡ map (terms.connected all.now) peers.items) }
+/// Gives the peers their connections.
+pub(crate) fn connect(peers: &mut [Peer], all: &[PeerConnections])
+    ensures { peers.new ≡ map (terms.connected all.now) peers.old }
 {
-    let mut made = Vec::new(alloc);
-    for peer in peers {
-        let mut peer = peer;
+    for peer in peers.iter_mut() {
         peer.connections = connections_for(all, peer.name.as_slice());
-        made.push(peer)?;
     }
-    Ok(made)
 }
 
 /// How many connections of the peer of a name are served at once.

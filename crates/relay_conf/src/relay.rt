@@ -13,7 +13,7 @@ use crate::expressions::expression_of;
 use crate::faults::{ConfError, Fault, LineFault, Refusal};
 use crate::lines::lines_of;
 use crate::names::add_name;
-use crate::peers::{connected, is_peer, known_names, numbered};
+use crate::peers::{connect, is_peer, known_names, numbered};
 use crate::relay_lines::{Line, relay_line};
 use crate::settings::Relay;
 use line_words::Octets;
@@ -327,7 +327,7 @@ fn finished(alloc: Global, draft: RelayDraft) -> Result<Relay, ConfError>
         remember,
         patience,
         bind,
-        peers,
+        mut peers,
         connections,
         feeds,
         named,
@@ -345,7 +345,7 @@ fn finished(alloc: Global, draft: RelayDraft) -> Result<Relay, ConfError>
     known_names(&peers, &named)?;
     drop(named);
     let feeds = numbered(alloc, &peers, feeds)?;
-    let peers = connected(alloc, peers, &connections)?;
+    connect(&mut peers, &connections);
     Ok(Relay {
         own,
         max_article: max_article.unwrap_or(MAX_ARTICLE),

@@ -37,7 +37,6 @@ impl Drop for Buffers {
 
 /// An entry of storage.conf: the articles that it takes, their class, and the number of the group
 /// of buffers that they go to. Sizes are in octets, both ends included; no upper limit is `None`.
-#[derive(Drop)]
 pub struct StorageEntry {
     pub class: u8,
     pub newsgroups: Expr,
@@ -48,9 +47,22 @@ pub struct StorageEntry {
     pub ghost fits: { class < 2 ^ 8 },
 }
 
+// Written out, so that no crate above proves anew how each part is let go.
+impl Drop for StorageEntry {
+    fn drop(self) {
+        let StorageEntry {
+            class: _,
+            newsgroups: _,
+            group: _,
+            smallest: _,
+            largest: _,
+            exactmatch: _,
+        } = self;
+    }
+}
+
 /// The settings of relay.conf. Peers and feeds are numbered from 0, each in the order of their
 /// lines.
-#[derive(Drop)]
 pub struct Relay {
     /// The relay's own identity.
     pub own: Octets,
@@ -76,6 +88,22 @@ pub struct Relay {
       peers = peers.items;
       feeds = feeds.items;
     }) } by { Prim.hlevel props },
+}
+
+// Written out, so that no crate above proves anew how each part is let go.
+impl Drop for Relay {
+    fn drop(self) {
+        let Relay {
+            own: _,
+            max_article: _,
+            cutoff: _,
+            remember: _,
+            patience: _,
+            bind: _,
+            peers: _,
+            feeds: _,
+        } = self;
+    }
 }
 
 /// The settings of the three files.
