@@ -1,16 +1,17 @@
 -- How far buffers are filled, one after the other, and what a configuration asks of a history.
 use Rattle.std.proofs.Common.{◌≡◌, ◌∙◌, ◌<◌, ◌≤◌, ◌+◌, ◌++◌, ℕ, List, [], ◌∷◌, Option, None, Some}
 use Rattle.std.proofs.Common.{refl, sym, ap, arith, length, map, take, get_or, slice_get}
-use Rattle.std.proofs.Common.{append-nil}
+use Rattle.std.proofs.Common.{append-nil, ◌-◌}
 use Rattle.std.proofs.Common.{Bool, true, false, leb, ltb, not}
 use Rattle.std.proofs.lemmas.Bool.{le-leb, ltb-false, ltb-true}
 use Rattle.std.proofs.lemmas.Bool.Decides.{nat_tests}
 use Rattle.std.proofs.lemmas.List.{length-append, length-map, map_push, take_all, take_more}
 use Rattle.std.proofs.lemmas.List.FromFn.{length-enumerate_from}
+use Rattle.std.proofs.lemmas.List.Sums.{sum_by-cons}
 use Rattle.std.proofs.lemmas.Simd.{map-map}
 use Rattle.std.proofs.lemmas.Option.{get_or_from_slice_get, none-some, same_Some, slice_get-get_or}
 use Rattle.std.proofs.lemmas.Option.{slice_get-map, slice_get_past, slice_get_within}
-use Rattle.std.specs.List.{enumerate_from}
+use Rattle.std.specs.List.{enumerate_from, list_any}
 use Rattle.std.specs.Prelude.{option_map}
 use Rattle.block_shelf.proofs.NewBufferSet.{members_more, numbered_view}
 use Rattle.block_shelf.specs.Filling.{members}
@@ -31,9 +32,46 @@ use Rattle.relay_model.specs.Figures as model
 use Rattle.relay_model.specs.State.{State}
 use Rattle.relay_model.specs.Terms.{Terms}
 use Rattle.relay_core.proofs.Reporting.{numbered_more}
-use Rattle.relay_core.specs.Ahead.{Filled, filled_at, filled_of, filled_view, is_past, is_unbegun}
+use Rattle.relay_core.specs.Ahead.{Filled, all_stored, filled_at, filled_of, filled_view, is_past}
+use Rattle.relay_core.specs.Ahead.{is_unbegun}
 use Rattle.relay_core.specs.Desks.{members_of}
 use Rattle.relay_core.specs.declared.ahead.Filled as code
+
+-- a list with fewer items than it is to have has room for one more
+pub has_room : {count at most room : ℕ} → count ≤ at → at < most → most ≤ room → count < room
+has_room few more fits = omega arith
+
+-- so has one with as many items as were joined
+pub has_room_at : {count at most room : ℕ} → count ≡ at → at < most → most ≤ room → count < room
+has_room_at same more fits = omega arith
+
+-- room stays where a list's memory does
+pub room_stays : {most room after : ℕ} → most ≤ room → after ≡ room → most ≤ after
+room_stays fits same = omega arith
+
+-- where none is left, none of all passes
+pub none_passes : {A B : Type 0} (test : B → Bool) (view : A → B) (left : List A) (any : Bool)
+    → length left ≡ 0 → list_any test (map view left) ≡ any → false ≡ any
+none_passes test view [] any none e = e
+none_passes test view (one ∷ left) any none e = absurd (omega (arith, none))
+
+-- what a buffer has stored is taken off, and the buffer
+pub above_more : (above less gained : ℕ) (one : code.Filled) (others left : List code.Filled)
+    → left ≡ one ∷ others → less ≡ above - one.stored
+    → above - all_stored (map filled_view left) ≡ gained
+    → less - all_stored (map filled_view others) ≡ gained
+above_more above less gained one others left is taken e =
+    let sum : all_stored (map filled_view left)
+    ≡ one.stored + all_stored (map filled_view others) =
+    ap (λ (all : List code.Filled). all_stored (map filled_view all)) is
+    ∙ sum_by-cons (λ (each : Filled). each.stored) (filled_view one) (map filled_view others) in
+    omega (arith, sum, taken, e)
+
+-- where no buffer is left, what is above nothing is above all
+pub above_all : (above gained all : ℕ) (left : List code.Filled) → length left ≡ 0
+    → above - all_stored (map filled_view left) ≡ gained - all → ltb 0 above ≡ ltb all gained
+above_all above gained all [] none e = grind (arith, nat_tests)
+above_all above gained all (one ∷ left) none e = absurd (omega (arith, none))
 
 -- a group has few buffers
 pub few_members : (w : Terms) → IsSound w → (h : ℕ) (group : Group)

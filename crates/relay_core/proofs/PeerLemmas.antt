@@ -1,7 +1,7 @@
 -- What a change of the map does to the peers and to their places.
 use Rattle.std.proofs.Common.{◌≡◌, ◌≢◌, ◌∙◌, ap, refl, subst, sym, rules, ℕ}
 use Rattle.std.proofs.Common.{Option, None, Some, nat_eq, arith, ◌+◌, true≢false}
-use Rattle.std.specs.Prelude.{is_some, option_and_then, if◌then◌else◌}
+use Rattle.std.specs.Prelude.{is_some, option_and_then, if◌then◌else◌, OnErr, Result, Ok, Err}
 use Rattle.std.specs.HashMap.{get, hash_map_len, UpdatesBy, WritesThrough}
 use Rattle.std.specs.List.{list_any}
 use Rattle.std.proofs.lemmas.Bool.{ne_eqb}
@@ -12,6 +12,11 @@ use Rattle.relay_core.specs.declared.peers.Peers.{Peers}
 use Rattle.relay_core.specs.Peers.{peer_at, has_place, place_count, OthersStay}
 use Rattle.relay_core.specs.Peers.{OtherPlacesStay, SamePeers, SamePlaces, TakesPeer, GivesPeer}
 use Rattle.relay_core.specs.Peers.{ClosesPeer, TellsPeer, with_slot}
+
+-- what holds holds where an error is answered
+pub on_err : {T E P : Type 0} (answer : Result T E) → P → OnErr answer P
+on_err (Ok told) holds = tt
+on_err (Err error) holds = holds
 
 -- the peer of what the map has at a number
 abbrev peer_of : Option (Option Peer) → Option Peer

@@ -6,6 +6,8 @@ use Rattle.std.proofs.Common.{◌⊎◌, ◌^◌, inl, inr, slice_get, All}
 use Rattle.std.proofs.lemmas.List.{length-append, length-map, map_push}
 use Rattle.std.proofs.lemmas.List.Elements.{All-push}
 use Rattle.std.proofs.lemmas.Option.{none-some}
+use Rattle.std.specs.Global.{Vec}
+use Rattle.std.specs.declared.alloc.AllocError.{AllocError}
 use Rattle.std.specs.Prelude.{option_map, slice_index, IfSome, IfOk, IfErr, Result, Ok, Err}
 use Rattle.article_verdict.specs.Config.{terms_of}
 use Rattle.block_shelf.specs.Keeping.{KeepsTexts}
@@ -72,6 +74,10 @@ pub ended_gone : (o : Option model.Session)
     → IsGone (option_map (λ (one : model.Session). in_phase one model.Ended) o)
 ended_gone None = tt
 ended_gone (Some session) = refl
+
+-- what isn't more than the groups that there can be has room in a text
+pub few_groups : {count groups : ℕ} → count ≤ 256 → count ≡ groups → groups < 2 ^ 32
+few_groups few same = omega arith
 
 -- what holds of what an option has
 pub some_of : {A : Type 0} (P : A → Type 0) (o : Option A) (one : A) → o ≡ Some one → IfSome o P
@@ -203,7 +209,7 @@ module _ {S : Type 0} {g : Ghosts S} (old : System S g) where
       (closed_texts trusted x agrees (at_rest idle trusted x agrees))
 
   -- the history that is made of the parts is that of each world
-  pub tells_of : (stop : ℕ) (text : List ℕ) (kept : texts.Kept) (count : ℕ)
+  tells_of : (stop : ℕ) (text : List ℕ) (kept : texts.Kept) (count : ℕ)
       (feeds : List code.KeptFeed) → Fits kept
       → text ≡ history_octets kept → kept.stop ≡ stop → kept.newest ≡ newest_kept old.newest
       → TellsPositions old.buffer_set kept.positions → kept.feeds ≡ map feed_view feeds
@@ -227,6 +233,22 @@ module _ {S : Type 0} {g : Ghosts S} (old : System S g) where
           ids = ids x.state.claim agrees.core.claims;
         };
       }
+
+  -- so it is where the text is written
+  pub tells_written : (stop : ℕ) (result : Result (Vec ℕ) AllocError) (kept : texts.Kept)
+      (count : ℕ) (feeds : List code.KeptFeed) → IfOk result (λ text. Fits kept)
+      → IfOk result (λ text. text.items ≡ history_octets kept) → kept.stop ≡ stop
+      → kept.newest ≡ newest_kept old.newest
+      → TellsPositions old.buffer_set kept.positions → kept.feeds ≡ map feed_view feeds
+      → count ≡ length old.config.relay.feeds.items → AreKeptFeeds old.desk count feeds
+      → ((claim : List ℕ → Claim) → KeepsAll old.shards claim → AreLasting kept.ids claim)
+      → IfOk result (λ text. TellsHistory old stop text.items)
+  tells_written stop (Ok text) kept count feeds fits written stops newest positions same all left
+      ids =
+      tells_of stop text.items kept count feeds fits written stops newest positions same all left
+      ids
+  tells_written stop (Err error) kept count feeds fits written stops newest positions same all left
+      ids = tt
 
   -- what closing answers, by the buffer set
   pub shuts_all : (stop : ℕ) (text : List ℕ) (result : Result (Stopped S) (Unstopped S g))

@@ -15,7 +15,6 @@ use feed_queue::FeedDesk;
 use id_history::Shards;
 use relay_conf::Config;
 use std::alloc::{AllocError, Global};
-use std::hash::RandomState;
 use std::io;
 use std::random::RandomSource;
 
@@ -50,26 +49,20 @@ impl<S: BlockStore> System<S> {
     }
 }
 
-/// The seed of the relay's tables, and what is kept beside its buffers before anything has come.
-pub(crate) fn new_desks(
-    rt: &impl RandomSource,
-    alloc: Global,
-    config: &Config,
-) -> io::Result<(RandomState, Desks)>
-    ensures { IfOk result (λ made. AreNew config.now made.1) }
+/// What is kept beside the relay's buffers before anything has come.
+pub(crate) fn new_desks(rt: &impl RandomSource, alloc: Global, config: &Config) -> io::Result<Desks>
+    ensures { IfOk result (AreNew config.now) }
 {
-    let hasher = RandomState::new(rt)?;
     let shards = Shards::new(rt, alloc)?;
     let desk = FeedDesk::new(alloc, &config.relay.feeds)?;
     let expirer = Expirer::new(alloc)?;
     let group_writers = new_group_writers(alloc, config.buffers.groups.len())?;
-    let desks = Desks {
+    Ok(Desks {
         shards,
         desk,
         group_writers,
         expirer,
-    };
-    Ok((hasher, desks))
+    })
 }
 
 /// So many group writers, without jobs.

@@ -25,13 +25,13 @@ impl<S: BlockStore> System<S> {
         ensures refused { RefusedAs (event_view event.now) self.old result self.new }
         ensures frame { KeepsFrame self.old self.new }
     {
-        match event {
-            Event::Open { session, peer } => self.open(*session, *peer),
-            Event::Bytes { session, piece } => self.bytes(*session, piece),
-            Event::Turn { session, now } => self.turn(*session, *now),
-            Event::Write { group, now } => self.write(*group, *now),
-            Event::Break { session } => self.break_off(*session),
-            Event::Expire { shard, now } => self.expire(*shard, *now),
+        match *event {
+            Event::Open { session, peer } => self.open(session, peer),
+            Event::Bytes { session, ref piece } => self.bytes(session, piece),
+            Event::Turn { session, now } => self.turn(session, now),
+            Event::Write { group, now } => self.write(group, now),
+            Event::Break { session } => self.break_off(session),
+            Event::Expire { shard, now } => self.expire(shard, now),
             Event::Restart => self.restart(),
         }
     }

@@ -84,7 +84,7 @@ impl<S: BlockStore> System<S> {
         };
         let text = write(self.alloc, &history);
         drop(history);
-        Ok(text?)
+        text
     }
 }
 

@@ -35,8 +35,15 @@ impl Unbuffered {
     ) -> io::Result<Unbuffered>
         ensures { IfOk result (IsNewUnbuffered config) }
     {
+        let hasher = match RandomState::new(rt) {
+            Ok(hasher) => hasher,
+            Err(error) => {
+                drop(config);
+                return Err(error);
+            }
+        };
         match new_desks(rt, alloc, &config) {
-            Ok((hasher, desks)) => Ok(Unbuffered {
+            Ok(desks) => Ok(Unbuffered {
                 alloc,
                 config,
                 hasher,

@@ -1,9 +1,16 @@
-use Rattle.std.proofs.Common.{◌∙◌, ◌<◌, ap, arith, length, refl, vec_capacity, vec_len}
+use Rattle.std.proofs.Common.{◌∙◌, ◌<◌, ℕ, ap, arith, length, subst, refl, vec_capacity, vec_len}
 use Rattle.std.specs.Global.{Vec}
-use Rattle.relay_core.proofs.Fillings.{filled_all, filled_joins, filled_there}
+use Rattle.relay_core.proofs.Fillings.{filled_all, filled_joins, filled_there, has_room}
 use Rattle.relay_core.specs.declared.ahead.Filled.{Filled}
 use Rattle.relay_core.proofs.ahead.all_filled.Goals as goal
 use Rattle.relay_core.proofs.ahead.all_filled.Goals.{in-Some, in_default}
+
+-- there is room for the next
+pub push_reserved-requires : goal.push_reserved-requires
+push_reserved-requires g c =
+    has_room c.loop-number.invariant.count
+    (subst (λ (n : ℕ). c.loop-number.number < n) (ap length c.deref-buffer-items.ensures.value)
+    c.loop-number-test.true) c.loop-number.invariant.room
 
 -- one buffer more
 pub loop-number-preserved : goal.loop-number-preserved

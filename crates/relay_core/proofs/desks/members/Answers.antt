@@ -1,4 +1,6 @@
-use Rattle.std.proofs.Common.{◌∙◌, ◌<◌, ◌≤◌, length, get_or, rules}
+use Rattle.std.proofs.Common.{◌∙◌, ◌<◌, ◌≤◌, ℕ, List, ap, length, get_or, rules, subst}
+use Rattle.std.proofs.lemmas.List.{take_all}
+use Rattle.block_shelf.specs.Filling.{members}
 use Rattle.relay_core.proofs.Fillings.{member_more, member_none}
 use Rattle.relay_core.proofs.desks.members.Goals as goal
 use Rattle.relay_core.proofs.desks.members.Goals.{then-number-len, else-number-len}
@@ -26,3 +28,13 @@ loop-number-preserved c =
                 c.loop-number.invariant.said;
           }
     ]
+
+-- that was the last
+pub returns : goal.returns
+returns c =
+    let list = c.args.group.now.buffers.items in
+    c.loop-number.invariant.said
+    ∙ ap (λ (ns : List ℕ). length (members c.args.settings.now.buffers.items ns))
+    (take_all c.loop-number.number-index list
+    (subst (λ (n : ℕ). n ≤ c.loop-number.number-index)
+    (ap length c.deref-number-items.ensures.value) c.loop-number-test.false))

@@ -1,11 +1,19 @@
-use Rattle.std.proofs.Common.{◌∙◌, ◌<◌, ap, arith, length, vec_capacity, vec_len}
+use Rattle.std.proofs.Common.{◌∙◌, ◌<◌, ℕ, ap, arith, length, subst, vec_capacity, vec_len}
 use Rattle.std.specs.Global.{Vec}
 use Rattle.article_verdict.specs.Config.{terms_of}
+use Rattle.relay_core.proofs.Fillings.{has_room}
 use Rattle.relay_report.specs.Figures.{named_buffer}
 use Rattle.relay_report.specs.declared.figures.NamedBuffer.{NamedBuffer}
 use Rattle.relay_core.proofs.Reporting.{buffer_joins, buffer_there, numbered_all}
 use Rattle.relay_core.proofs.figures.named_buffers.Goals as goal
 use Rattle.relay_core.proofs.figures.named_buffers.Goals.{in-Some+in_ok-name, in_default}
+
+-- there is room for the next
+pub push_reserved-requires : goal.push_reserved-requires
+push_reserved-requires g c =
+    has_room c.loop-number.invariant.count
+    (subst (λ (n : ℕ). c.loop-number.number < n) (ap length c.deref-buffer-items.ensures.value)
+    c.loop-number-test.true) c.loop-number.invariant.room
 
 -- one buffer more
 pub loop-number-preserved : goal.loop-number-preserved

@@ -1,6 +1,7 @@
-use Rattle.std.proofs.Common.{◌∙◌, ◌<◌, ap, arith, length, rules, vec_capacity, vec_len}
+use Rattle.std.proofs.Common.{◌∙◌, ◌<◌, ℕ, ap, arith, length, rules, subst, vec_capacity, vec_len}
 use Rattle.std.specs.Global.{Vec}
 use Rattle.article_verdict.proofs.FewFeeds.{few_feeds}
+use Rattle.relay_core.proofs.Fillings.{has_room}
 use Rattle.relay_report.specs.Figures.{named_feed}
 use Rattle.relay_report.specs.declared.figures.NamedFeed.{NamedFeed}
 use Rattle.relay_core.proofs.Reporting.{feed_joins, feed_there, numbered_all}
@@ -15,6 +16,17 @@ overflow_cast-number c = omega (
   c.loop-number-test.true,
   ap length c.deref-feed-items.ensures.value,
 )
+
+-- there is room for the next
+pub push_reserved-requires : goal.push_reserved-requires
+push_reserved-requires c =
+    has_room c.loop-number.invariant.count
+    (subst (λ (n : ℕ). c.loop-number.number < n) (ap length c.deref-feed-items.ensures.value)
+    c.loop-number-test.true) c.loop-number.invariant.room
+
+-- a feed took and holds no more than it gained
+pub feed_figures-requires : goal.feed_figures-requires
+feed_figures-requires c = c.in-Some.ensures.within
 
 -- one feed more
 pub loop-number-preserved : goal.loop-number-preserved

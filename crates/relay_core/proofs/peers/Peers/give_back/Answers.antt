@@ -1,4 +1,4 @@
-use Rattle.std.proofs.Common.{◌∙◌, rules, None, Some, refl, sym, true≢false}
+use Rattle.std.proofs.Common.{◌∙◌, None, Some, refl, sym, true≢false}
 use Rattle.relay_core.proofs.PeerLemmas.{GivesPeer-from_write, SamePlaces-from_write}
 use Rattle.relay_core.proofs.PeerLemmas.{has_place-entry}
 use Rattle.relay_core.proofs.peers.Peers.give_back.Goals as goal
@@ -6,14 +6,14 @@ use Rattle.relay_core.proofs.peers.Peers.give_back.Goals as goal
 -- the peer is written to the place
 pub returns-in-Some-clause-given : goal.returns-in-Some-clause-given
 returns-in-Some-clause-given c = λ has.
-    GivesPeer-from_write _ _ _ _ c.in-Some.place.now _ (search rules) c.replace.ensures.after
-    (c.get_mut.follows.holds c.replace.new.self)
+    GivesPeer-from_write _ _ _ _ c.in-Some.place.now _ (sym c.in-Some.ensures.value)
+    c.replace.ensures.after (c.get_mut.follows.holds c.replace.new.self)
 
 -- a number without a place isn't found
 pub returns-in-Some-clause-dropped : goal.returns-in-Some-clause-dropped
 returns-in-Some-clause-dropped c = λ has.
     let found = has_place-entry c.args.self.now c.args.number (Some c.in-Some.place.now)
-    (search rules) in
+    (sym c.in-Some.ensures.value) in
     absurd (true≢false (sym found ∙ has))
 
 -- the place stays
@@ -24,7 +24,7 @@ returns-in-Some-clause-places c =
 -- a number that has a place is found
 pub returns-in-None-clause-given : goal.returns-in-None-clause-given
 returns-in-None-clause-given c = λ has.
-    let missed = has_place-entry c.args.self.now c.args.number None (search rules) in
+    let missed = has_place-entry c.args.self.now c.args.number None (sym c.in-None.ensures.value) in
     absurd (true≢false (sym has ∙ missed))
 
 -- a number without a place has no peer

@@ -1,4 +1,4 @@
-use Rattle.std.proofs.Common.{rules}
+use Rattle.std.proofs.Common.{sym}
 use Rattle.relay_core.proofs.PeerLemmas.{TakesPeer-from_write, TakesPeer-from_none}
 use Rattle.relay_core.proofs.peers.Peers.lend.Goals as goal
 
@@ -6,10 +6,10 @@ use Rattle.relay_core.proofs.peers.Peers.lend.Goals as goal
 pub returns-in-Some : goal.returns-in-Some
 returns-in-Some c =
     rw c.take.ensures.value
-    (TakesPeer-from_write _ _ _ _ _ (search rules) c.take.ensures.after
+    (TakesPeer-from_write _ _ _ _ _ (sym c.in-Some.ensures.value) c.take.ensures.after
     (c.get_mut.follows.holds c.take.new.self))
 
 -- there is no place
 pub returns-in-None : goal.returns-in-None
 returns-in-None c =
-    rw c.get_mut.follows.holds-at-none (TakesPeer-from_none _ _ (search rules))
+    rw c.get_mut.follows.holds-at-none (TakesPeer-from_none _ _ (sym c.in-None.ensures.value))
