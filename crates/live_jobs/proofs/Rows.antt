@@ -1,9 +1,13 @@
 -- Rows that are taken from the front, and rows that grow.
 use Rattle.std.proofs.Common.{◌≡◌, ◌⊎◌, inl, inr, ℕ, zero, suc, ◌+◌, List, [], ◌∷◌, ◌++◌, length}
-use Rattle.std.proofs.Common.{Some, refl, sym, ap, ◌∙◌, subst, ⊎_elim, arith}
+use Rattle.std.proofs.Common.{None, Some, refl, sym, ap, ◌∙◌, subst, ⊎_elim, arith}
 use Rattle.std.proofs.lemmas.Option.{same_Some}
 use Rattle.std.specs.Prelude.{slice_get}
 use Rattle.live_jobs.specs.Rows.{From}
+
+-- what is there isn't missing
+pub never_none : {A B : Type 0} (x : A) → Some x ≡ None → B
+never_none x none = absurd (cc)
 
 module _ {X : Type 0} where
   pub from_head : (P : ℕ → X → Type 0) (n : ℕ) (xs : List X) (x : X) (ys : List X) → From P n xs

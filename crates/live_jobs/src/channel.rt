@@ -17,13 +17,23 @@ pub const LOOKS: u32 = 64;
 
 /// The queue of a group. Who finds it full or empty sleeps until another thread tells of a parcel
 /// that was taken or pushed.
-#[derive(Drop)]
 pub struct JobChannel {
     pub(crate) queue: JobQueue,
     // Told of each parcel that is pushed.
     filled: EventCount,
     // Told of each parcel that is taken.
     emptied: EventCount,
+}
+
+// Written out, so that no crate above proves anew how each part is let go.
+impl Drop for JobChannel {
+    fn drop(self) {
+        let JobChannel {
+            queue: _,
+            filled: _,
+            emptied: _,
+        } = self;
+    }
 }
 
 impl JobChannel {

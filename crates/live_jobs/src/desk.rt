@@ -32,7 +32,6 @@ impl Posts {
 }
 
 /// The feed desk, and how many posts it made, which a ledger counts with it.
-#[derive(Drop)]
 pub struct CountedDesk<L: Ledger> {
     desk: FeedDesk,
     /// The most tokens that one of its feeds had gained when it was made.
@@ -42,6 +41,18 @@ pub struct CountedDesk<L: Ledger> {
     ghost counted: { posts ≡ book.total },
     ghost room: { before + posts ≤ 2 ^ 62 },
     ghost kept: { ∥ KeepsAtMost desk (before + posts) ∥₁ },
+}
+
+// Written out, so that no crate above proves anew how each part is let go.
+impl<L: Ledger> Drop for CountedDesk<L> {
+    fn drop(self) {
+        let CountedDesk {
+            desk: _,
+            before: _,
+            posts: _,
+            book: _,
+        } = self;
+    }
 }
 
 impl<L: Ledger> CountedDesk<L> {

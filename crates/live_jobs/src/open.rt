@@ -84,7 +84,7 @@ fn give_passes<V>(
     ensures fit { IfOk result (λ _. From (λ e p. IsUnused (channels.now ++ channel.now ∷ []) e
         p.seat) 0 plans.new.items) }
 {
-    let _ = channels.len();
+    let _ = channels;
     for end in 0..plans.len() {
         let pass = job_queue::end_pass(&channel.queue, first);
         plans[end].seat.passes.push(pass)?;

@@ -35,13 +35,13 @@ pub enum SeatsError {
 /// Starts the writers' threads, in order, until one can't be started.
 fn start_writers<
     's,
-    E,
+    'e: 's,
     L: Ledger + Send + Sync + 's,
     O: Outcome + Drop + Send + 's,
     S: Store<L, O, R> + Sync,
-    R: Threads + Wait + Sync,
+    R: Wait + Sync,
 >(
-    scope: &'s Scope<'s, E>,
+    scope: &'s Scope<'s, &'e ()>,
     rt: &'s R,
     channels: &'s [JobChannel],
     store: &'s S,
@@ -70,8 +70,8 @@ fn start_writers<
 
 /// Starts the ends' threads, in order. Where one can't be started, this end and all after it leave
 /// here and now.
-fn start_ends<'s, E, V: Service<R> + Drop + Send + 's, R: Threads + Wait + Sync>(
-    scope: &'s Scope<'s, E>,
+fn start_ends<'s, 'e: 's, V: Service<R> + Drop + Send + 's, R: Wait + Sync>(
+    scope: &'s Scope<'s, &'e ()>,
     rt: &'s R,
     channels: &'s [JobChannel],
     plans: Vec<Plan<V>>,
@@ -119,7 +119,7 @@ fn join_writers<'a, L: Ledger, O: Outcome + Drop, R: Threads>(
     ensures all { length writers.new.items ≡ length running.entry.items }
     ensures ended { AllEnded channels.now ends writers.new.items }
 {
-    let _ = channels.len();
+    let _ = channels;
     let _ = ends;
     for handle in running {
         writers.push_reserved(handle.join(rt));
@@ -146,7 +146,7 @@ fn join_ends<'a, V: Accounts + Drop, R: Threads>(
     ensures marks { map V.mark services.new.items
         ≡ map (λ h. V.mark h.promise.service.value) serving.entry.items }
 {
-    let _ = channels.len();
+    let _ = channels;
     for handle in serving {
         let Leaver { seat, service } = handle.join(rt);
         lefts.push_reserved(seat);
@@ -178,14 +178,14 @@ fn leave_running<V: Drop, R: Wait>(
 /// All threads of a run: the writers' first, then the ends'.
 fn run_threads<
     's,
-    E,
+    'e: 's,
     L: Ledger + Send + Sync + 's,
     O: Outcome + Drop + Send + 's,
     V: Service<R> + Drop + Send + 's,
     S: Store<L, O, R> + Sync,
     R: Threads + Wait + Sync,
 >(
-    scope: &'s Scope<'s, E>,
+    scope: &'s Scope<'s, &'e ()>,
     rt: &'s R,
     channels: &'s [JobChannel],
     store: &'s S,

@@ -17,7 +17,7 @@ use std::snapshot::Snapshot;
 use std::sync::Wait;
 use std::sync::atomic::{AtomicBool, Ordering};
 use std::sync::ledger::Ledger;
-use std::thread::{Promise, PromisedHandle, Scope, Threads};
+use std::thread::{Promise, PromisedHandle, Scope};
 
 /// What an end keeps of the jobs that it handed over, and what it is whatever it serves.
 pub trait Accounts {
@@ -85,13 +85,13 @@ impl<'a, L: Ledger, O: Outcome> Promise<WriterSeat<L, O>> for WriterFinished<'a>
 /// Starts a writer's thread.
 pub(crate) fn start_writer<
     's,
-    E,
+    'e: 's,
     L: Ledger + Send + Sync + 's,
     O: Outcome + Drop + Send + 's,
     S: Store<L, O, R> + Sync,
-    R: Threads + Wait + Sync,
+    R: Wait + Sync,
 >(
-    scope: &'s Scope<'s, E>,
+    scope: &'s Scope<'s, &'e ()>,
     rt: &'s R,
     channel: &'s JobChannel,
     store: &'s S,
@@ -169,8 +169,8 @@ fn serve_end<V: Service<R>, R: Wait>(
 }
 
 /// Starts an end's thread. Where no thread can be made, the end leaves here and now.
-pub(crate) fn start_end<'s, E, V: Service<R> + Drop + Send + 's, R: Threads + Wait + Sync>(
-    scope: &'s Scope<'s, E>,
+pub(crate) fn start_end<'s, 'e: 's, V: Service<R> + Drop + Send + 's, R: Wait + Sync>(
+    scope: &'s Scope<'s, &'e ()>,
     rt: &'s R,
     channels: &'s [JobChannel],
     plan: Plan<V>,

@@ -12,7 +12,6 @@ use std::marker::{Brand, PhantomData};
 use std::mem::size_of;
 
 /// What became of a job in its writer's hands (docs/PROTOCOL.md, Threads).
-#[derive(Drop)]
 pub enum StoreResult<J: StorePremises> {
     /// The article is stored, the id is Stored and the feeds have its token: what the store and
     /// what the settling say of it.
@@ -21,6 +20,17 @@ pub enum StoreResult<J: StorePremises> {
     Failed(Fault),
     /// What the core can't meet: another write was open, or the text is none for the buffer.
     Conflict,
+}
+
+// Written out, so that no crate above proves anew how each part is let go.
+impl<J: StorePremises> Drop for StoreResult<J> {
+    fn drop(self) {
+        match self {
+            StoreResult::Kept(_, _) => {}
+            StoreResult::Failed(_) => {}
+            StoreResult::Conflict => {}
+        }
+    }
 }
 
 // What the README says of the memory of what became of a job.

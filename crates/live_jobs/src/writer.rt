@@ -26,7 +26,6 @@ pub trait Store<L: Ledger, O: Outcome, R> {
 
 /// A writer's right to take from one queue, what became of the jobs that it took, and its share of
 /// the posts.
-#[derive(Drop)]
 pub struct WriterSeat<L: Ledger, O: Outcome> {
     pub(crate) pass: QueuePass,
     /// The jobs that it took, in order.
@@ -39,6 +38,20 @@ pub struct WriterSeat<L: Ledger, O: Outcome> {
     ghost counted: { kept ≡ kept_in O.kept finished.items },
     ghost shared: { (share.parts ≡ (if lent then 0 else 1))
         × (share.amount ≡ (if lent then 0 else kept)) },
+}
+
+// Written out, so that no crate above proves anew how each part is let go.
+impl<L: Ledger, O: Outcome + Drop> Drop for WriterSeat<L, O> {
+    fn drop(self) {
+        let WriterSeat {
+            pass: _,
+            finished: _,
+            closed: _,
+            kept: _,
+            share: _,
+            lent: _,
+        } = self;
+    }
 }
 
 impl<L: Ledger, O: Outcome> WriterSeat<L, O> {

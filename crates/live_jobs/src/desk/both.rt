@@ -38,12 +38,23 @@ pub struct Unsettled<'a> {
 /// That an article was settled and posted, once: under which message-id, for which session, under
 /// which token, and to which feeds it is permitted. `settle_both` alone makes one, for each step
 /// that it makes, and nothing copies one. Its parts are for contracts alone: it takes no memory.
-#[derive(Drop)]
 pub struct Posted {
     id: Snapshot<MsgId>,
     session: Snapshot<u64>,
     token: Snapshot<Token>,
     permitted: Snapshot<Vec<u16>>,
+}
+
+// Written out, so that no crate above proves anew how each part is let go.
+impl Drop for Posted {
+    fn drop(self) {
+        let Posted {
+            id: _,
+            session: _,
+            token: _,
+            permitted: _,
+        } = self;
+    }
 }
 
 // What its comment says of its memory.

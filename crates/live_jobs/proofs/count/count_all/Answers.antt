@@ -27,38 +27,23 @@ sum_kept-requires g c =
       c.count.ensures,
     )
 
-pub returns-clause-accepted : goal.returns-clause-accepted
-returns-clause-accepted g c =
+pub returns : goal.returns
+returns g c =
     let at = read_at c.args.writers.now.items 0 _ c.requires.parts.1 c.index_mut.ensures.value in
-    c.sum_kept.ensures
-    ∙ ap (λ (l : List (WriterSeat _ _ _)). kept_by_all g.O.Outcome.kept
-    (map (λ w. w.finished.items) l)) c.deref.ensures.value
-    ∙ ap (kept_by_all g.O.Outcome.kept) (c.lend_all.ensures.finished
-    ∙ map_set_same (λ w. w.finished.items) c.args.writers.now.items 0 _ _ at
-    c.no_share-all.ensures.same.1)
-
-pub returns-clause-posted : goal.returns-clause-posted
-returns-clause-posted g c =
-    c.posted-posted.ensures.amount ∙ c.lend_all.ensures.amount
-    ∙ ap (kept_by_all g.O.Outcome.kept) (sym c.lend_all.ensures.finished)
-    ∙ ap (λ (l : List (WriterSeat _ _ _)). kept_by_all g.O.Outcome.kept
-    (map (λ w. w.finished.items) l)) (sym c.deref.ensures.value)
-    ∙ sym c.sum_kept.ensures
-
-pub returns-clause-finished : goal.returns-clause-finished
-returns-clause-finished g c =
-    let at = read_at c.args.writers.now.items 0 _ c.requires.parts.1 c.index_mut.ensures.value in
-    c.lend_all.ensures.finished ∙ map_set_same (λ w. w.finished.items) c.args.writers.now.items 0 _
-    _ at c.no_share-all.ensures.same.1
-
-pub returns-clause-pass : goal.returns-clause-pass
-returns-clause-pass g c =
-    let at = read_at c.args.writers.now.items 0 _ c.requires.parts.1 c.index_mut.ensures.value in
-    c.lend_all.ensures.pass ∙ map_set_same (λ w. w.pass) c.args.writers.now.items 0 _
-    _ at c.no_share-all.ensures.same.0
-
-pub returns-clause-closed : goal.returns-clause-closed
-returns-clause-closed g c =
-    let at = read_at c.args.writers.now.items 0 _ c.requires.parts.1 c.index_mut.ensures.value in
-    c.lend_all.ensures.closed ∙ map_set_same (λ w. w.closed.items) c.args.writers.now.items 0 _
-    _ at c.no_share-all.ensures.same.2
+    let none = c.no_share-all.ensures.same in
+    let lent = c.lend_all.ensures in
+    let these = ap (λ (l : List (WriterSeat _ _ _)). kept_by_all g.O.Outcome.kept
+    (map (λ w. w.finished.items) l)) c.deref.ensures.value in
+    record {
+      accepted = c.sum_kept.ensures ∙ these
+          ∙ ap (kept_by_all g.O.Outcome.kept) (lent.finished
+          ∙ map_set_same (λ w. w.finished.items) c.args.writers.now.items 0 _ _ at none.1);
+      posted = c.posted-posted.ensures.amount ∙ lent.amount
+          ∙ ap (kept_by_all g.O.Outcome.kept) (sym lent.finished)
+          ∙ sym these ∙ sym c.sum_kept.ensures;
+      finished = lent.finished
+          ∙ map_set_same (λ w. w.finished.items) c.args.writers.now.items 0 _ _ at none.1;
+      pass = lent.pass ∙ map_set_same (λ w. w.pass) c.args.writers.now.items 0 _ _ at none.0;
+      closed = lent.closed
+          ∙ map_set_same (λ w. w.closed.items) c.args.writers.now.items 0 _ _ at none.2;
+    }

@@ -59,12 +59,19 @@ loop-group-preserved g c =
           c.index_mut.result.now c.lend.new.self at e.same.2 ∙ inv.closed;
     }
 
-pub returns-clause-amount : goal.returns-clause-amount
-returns-clause-amount g c =
+pub returns : goal.returns
+returns g c =
     let all = c.args.writers.now.ok.0 in
+    let inv = c.loop-group.invariant in
     let past = c.loop-group-test.false in
     let long = length_map (λ w. w.finished.items) c.args.writers.now.items in
-    c.loop-group.invariant.amount
-    ∙ ap (kept_by_all g.O.Outcome.kept) (take_all c.loop-group.group
-    (map (λ w. w.finished.items) c.args.writers.now.items)
-    (omega (arith, c.len-group-end.ensures)))
+    record {
+      parts = omega (arith, inv.parts, c.len-group-end.ensures);
+      amount = inv.amount
+          ∙ ap (kept_by_all g.O.Outcome.kept) (take_all c.loop-group.group
+          (map (λ w. w.finished.items) c.args.writers.now.items)
+          (omega (arith, c.len-group-end.ensures)));
+      finished = inv.finished;
+      pass = inv.pass;
+      closed = inv.closed;
+    }

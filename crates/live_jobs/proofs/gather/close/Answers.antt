@@ -1,4 +1,4 @@
-use Rattle.std.proofs.Common.{◌∙◌, ℕ, List, map, subst, sym}
+use Rattle.std.proofs.Common.{◌∙◌, ℕ, List, map, refl, subst, sym}
 use Rattle.live_jobs.specs.declared.outcome.FinishedJob.{FinishedJob}
 use Rattle.live_jobs.specs.Gathered.{AllTold, NoneElse, RestsFit, WritersFit, hands_of}
 use Rattle.live_jobs.proofs.Ends.{lefts_fit, writers_fit}
@@ -12,12 +12,6 @@ compare_all-requires-clause-writers g c =
     let e = c.count_all.ensures in
     writers_fit (λ w. w.pass) (λ w. w.lent) (λ w. w.closed.items) _ _ c.args.seats.now.writers.items
     _ _ c.requires.writers.0 c.requires.writers.1 e.pass e.closed
-
-pub returns-clause-jobs : goal.returns-clause-jobs
-returns-clause-jobs g c =
-    subst (λ (finished_lists : List (List (FinishedJob _))). AllTold g.O.Outcome.fits finished_lists
-    (hands_of c.args.seats.now.lefts.items)) c.count_all.ensures.finished
-    c.compare_all.ensures.told
 
 pub count_all-requires-clause-parts : goal.count_all-requires-clause-parts
 count_all-requires-clause-parts g c = (sym c.requires.parts.0, c.requires.parts.1)
@@ -41,18 +35,21 @@ compare_rests-requires-clause-writers g c =
     (map (λ w. w.closed.items) c.compare_all.new.writers.items))
     (sym same) c.compare_all.ensures.writers
 
-pub returns-clause-none : goal.returns-clause-none
-returns-clause-none g c =
-    let same = c.len.ensures ∙ c.compare_all.new.lefts.ok.0 ∙ c.compare_all.ensures.long in
-    let finished = c.compare_all.ensures.finished ∙ c.count_all.ensures.finished in
-    subst (λ (x : ℕ × List (List (FinishedJob _))). NoneElse x.0 x.1)
-    (λ i. (same i, finished i)) c.compare_rests.ensures.none
-
 -- what the writers told and what the ends handed over stay
-pub returns-clause-finished : goal.returns-clause-finished
-returns-clause-finished g c =
-    c.compare_rests.ensures.finished ∙ c.compare_all.ensures.finished
-    ∙ c.count_all.ensures.finished
-
-pub returns-clause-handed : goal.returns-clause-handed
-returns-clause-handed g c = c.compare_all.ensures.handed
+pub returns : goal.returns
+returns g c =
+    let same = c.len.ensures ∙ c.compare_all.new.lefts.ok.0 ∙ c.compare_all.ensures.long in
+    let counted = c.count_all.ensures in
+    let finished = c.compare_all.ensures.finished ∙ counted.finished in
+    record {
+      jobs = subst (λ (finished_lists : List (List (FinishedJob _))).
+          AllTold g.O.Outcome.fits finished_lists (hands_of c.args.seats.now.lefts.items))
+          counted.finished c.compare_all.ensures.told;
+      none = subst (λ (x : ℕ × List (List (FinishedJob _))). NoneElse x.0 x.1)
+          (λ i. (same i, finished i)) c.compare_rests.ensures.none;
+      accepted = counted.accepted;
+      posted = counted.posted;
+      finished = c.compare_rests.ensures.finished ∙ finished;
+      handed = c.compare_all.ensures.handed;
+      services = refl;
+    }

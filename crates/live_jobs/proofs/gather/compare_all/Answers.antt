@@ -69,12 +69,19 @@ loop-group-preserved g c =
           c.loop-group.group c.index_mut.result.now at.0) refl inv.handed refl e.told inv.told;
     }
 
-pub returns-clause-told : goal.returns-clause-told
-returns-clause-told g c =
+pub returns : goal.returns
+returns g c =
     let all = c.args.writers.now.ok.0 in
     let inv = c.loop-group.invariant in
     let past = c.loop-group-test.false in
-    λ k e finished handed jobs at.
-    let less = within (map (λ w. w.finished.items) c.args.writers.now.items) k finished at in
-    let long = length_map (λ w. w.finished.items) c.args.writers.now.items in
-    inv.told k e finished handed jobs (omega (arith, inv.count, c.len-group-end.ensures)) at
+    record {
+      lefts = inv.fit;
+      long = inv.long;
+      handed = inv.handed;
+      writers = inv.writers;
+      finished = inv.finished;
+      told = λ k e finished handed jobs at.
+          let less = within (map (λ w. w.finished.items) c.args.writers.now.items) k finished at in
+          let long = length_map (λ w. w.finished.items) c.args.writers.now.items in
+          inv.told k e finished handed jobs (omega (arith, inv.count, c.len-group-end.ensures)) at;
+    }

@@ -49,9 +49,16 @@ loop-end-preserved g c =
           inv.told;
     }
 
-pub returns-clause-told : goal.returns-clause-told
-returns-clause-told g c =
+pub returns : goal.returns
+returns g c =
     let all = c.args.lefts.now.ok.0 in
     let inv = c.loop-end.invariant in
     let past = c.loop-end-test.false in
-    λ e handed jobs less. inv.told e handed jobs (omega (arith, inv.long, c.len-end-end.ensures))
+    record {
+      lefts = inv.fit;
+      handed = inv.handed;
+      pass = inv.pass;
+      writer = (inv.finished, inv.closed);
+      told = λ e handed jobs less.
+          inv.told e handed jobs (omega (arith, inv.long, c.len-end-end.ensures));
+    }

@@ -68,15 +68,18 @@ loop-group-preserved g c =
       none = none_group _ _ _ _ finished e.none inv.none;
     }
 
-pub returns-clause-none : goal.returns-clause-none
-returns-clause-none g c =
+pub returns : goal.returns
+returns g c =
     let all = c.args.writers.now.ok.0 in
     let inv = c.loop-group.invariant in
     let past = c.loop-group-test.false in
-    λ k e finished at.
-    let less = within (map (λ w. w.finished.items) c.args.writers.now.items) k finished at in
-    let long = length_map (λ w. w.finished.items) c.args.writers.now.items in
-    inv.none k e finished (omega (arith, inv.count, c.len-group-end.ensures)) at
+    record {
+      finished = inv.finished;
+      none = λ k e finished at.
+          let less = within (map (λ w. w.finished.items) c.args.writers.now.items) k finished at in
+          let long = length_map (λ w. w.finished.items) c.args.writers.now.items in
+          inv.none k e finished (omega (arith, inv.count, c.len-group-end.ensures)) at;
+    }
 
 -- there are as many channels as writers
 pub bounds-channels-group : goal.bounds-channels-group

@@ -1,6 +1,7 @@
 use Rattle.std.proofs.Common.{◌∙◌, ◌++◌, ◌∷◌, [], ap, arith, false, sym, subst, length, List, map}
 use Rattle.std.proofs.lemmas.List.{length-replicate}
-use Rattle.std.specs.Prelude.{slice_get}
+use Rattle.std.proofs.lemmas.Result.{IfOk-from_err, err_from_is_err_and}
+use Rattle.std.specs.Prelude.{is_err, slice_get}
 use Rattle.crossbeam_queue.specs.Passes.{IsPassOf}
 use Rattle.job_queue.specs.Passes.{QueuePass}
 use Rattle.live_jobs.specs.Gathered.{IsRest}
@@ -25,14 +26,37 @@ pub new_writer-writer-requires-clause-none : goal.new_writer-writer-requires-cla
 new_writer-writer-requires-clause-none g c = λ e at.
     no_flags c.args.ends e (ap (λ l. slice_get l e) (sym c.in_ok-closed.ensures) ∙ at)
 
-pub returns-clause-services : goal.returns-clause-services
-returns-clause-services g c =
-    c.in_ok-channel.ensures.services
-    ∙ ap (λ (plans : List (Plan _)). map (λ p. p.service) plans) c.reserve_group.ensures.same.2
+-- where memory is refused there is none more
+pub returns-in_err-reserve_group : goal.returns-in_err-reserve_group
+returns-in_err-reserve_group g c =
+    let told = c.from_residual in
+    let err = ap is_err (err_from_is_err_and told.result told.ensures.1).1 in
+    record {
+      fit = IfOk-from_err told.result _ err;
+      services = IfOk-from_err told.result _ err;
+    }
+
+pub returns-in_err-closed : goal.returns-in_err-closed
+returns-in_err-closed g c =
+    let told = c.from_residual-in_err-closed in
+    let err = ap is_err (err_from_is_err_and told.result told.ensures.1).1 in
+    record {
+      fit = IfOk-from_err told.result _ err;
+      services = IfOk-from_err told.result _ err;
+    }
+
+pub returns-in_err-channel : goal.returns-in_err-channel
+returns-in_err-channel g c =
+    let told = c.from_residual-in_err-channel in
+    let err = ap is_err (err_from_is_err_and told.result told.ensures.1).1 in
+    record {
+      fit = IfOk-from_err told.result _ err;
+      services = IfOk-from_err told.result _ err;
+    }
 
 -- the channel, its first pass and its writer stand behind those of the groups before
-pub returns-clause-fit : goal.returns-clause-fit
-returns-clause-fit g c =
+pub returns : goal.returns
+returns g c =
     let before = c.args.opened.now in
     let same = c.reserve_group.ensures.same in
     let was = c.requires.fit in
@@ -47,24 +71,29 @@ returns-clause-fit g c =
     let ends = ap length same.2 ∙ was.ends_count in
     let one = length_snoc _ _ _ writers in
     record {
-      channels = length_snoc _ _ _ channels;
-      count = omega (arith, one, was.count);
-      ends_count = add.ends ∙ ends;
-      plans = subst
-          (λ (ls : List JobChannel). From (λ e p. IsUnused ls e p.seat) 0
-          c.add_channel.new.plans.items)
-          ((λ i. (c.deref.ensures.value ∙ same.0) i ++ c.in_ok-channel.channel ∷ [])
-          ∙ sym channels)
-          add.fit;
-      rests = rests_snoc before.channels.items _ c.in_ok-channel.channel _ before.rests.items _
-          c.in_ok-channel.first was.rests channels rests add.rest.0
-          (subst (λ n. IsRest n c.in_ok-channel.first) ends add.rest.1);
-      writers = ready_grown (λ w. w.pass) (λ w. w.lent) (λ w. w.closed.items)
-          before.channels.items _ c.in_ok-channel.channel _ before.writers.items _
-          c.new_writer-writer.result
-          was.writers was.count channels writers
-          (subst (λ (p : QueuePass). IsPassOf (queue_of c.in_ok-channel.channel) p)
-          (sym made.pass) add.writer.0)
-          made.flags.0
-          (ap length (made.flags.1 ∙ c.in_ok-closed.ensures) ∙ length-replicate c.args.ends false);
+      fit = record {
+        channels = length_snoc _ _ _ channels;
+        count = omega (arith, one, was.count);
+        ends_count = add.ends ∙ ends;
+        plans = subst
+            (λ (ls : List JobChannel). From (λ e p. IsUnused ls e p.seat) 0
+            c.add_channel.new.plans.items)
+            ((λ i. (c.deref.ensures.value ∙ same.0) i ++ c.in_ok-channel.channel ∷ [])
+            ∙ sym channels)
+            add.fit;
+        rests = rests_snoc before.channels.items _ c.in_ok-channel.channel _ before.rests.items _
+            c.in_ok-channel.first was.rests channels rests add.rest.0
+            (subst (λ n. IsRest n c.in_ok-channel.first) ends add.rest.1);
+        writers = ready_grown (λ w. w.pass) (λ w. w.lent) (λ w. w.closed.items)
+            before.channels.items _ c.in_ok-channel.channel _ before.writers.items _
+            c.new_writer-writer.result
+            was.writers was.count channels writers
+            (subst (λ (p : QueuePass). IsPassOf (queue_of c.in_ok-channel.channel) p)
+            (sym made.pass) add.writer.0)
+            made.flags.0
+            (ap length (made.flags.1 ∙ c.in_ok-closed.ensures)
+            ∙ length-replicate c.args.ends false);
+      };
+      services = add.services
+          ∙ ap (λ (plans : List (Plan _)). map (λ p. p.service) plans) same.2;
     }

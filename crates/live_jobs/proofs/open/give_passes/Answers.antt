@@ -1,7 +1,9 @@
 use Rattle.std.proofs.Common.{◌≡◌, ◌+◌, ◌<◌, ◌∙◌, ◌++◌, ◌∷◌, [], ℕ, ap, sym, refl, subst}
-use Rattle.std.proofs.Common.{length, arith}
+use Rattle.std.proofs.Common.{length, arith, false}
+use Rattle.std.proofs.lemmas.Result.{IfOk-from_err, err_from_is_err_and}
+use Rattle.std.specs.Prelude.{is_err}
 use Rattle.job_queue.specs.declared.known.Known.{Known}
-use Rattle.job_queue.specs.Delivery.{knows, end_knows}
+use Rattle.job_queue.specs.Delivery.{knows, end_knows, end_limit}
 use Rattle.live_jobs.specs.Started.{IsUnused}
 use Rattle.live_jobs.proofs.Passes.{read_at, length_set, fits_snoc, map_set_same}
 use Rattle.live_jobs.proofs.Plans.{finished_next, todo_next}
@@ -51,13 +53,32 @@ loop-end-preserved g c =
       todo = todo_next (λ n p. IsUnused c.args.channels.now n p.seat) _ _ _ inv.todo;
     }
 
-pub returns-clause-fit : goal.returns-clause-fit
-returns-clause-fit g c =
+pub returns : goal.returns
+returns g c =
     let inv = c.loop-end.invariant in
-    λ k p at.
-    let less = within c.loop-end.plans.items k p at in
-    let past = c.loop-end-test.false in
-    subst (λ (n : ℕ). IsUnused (c.args.channels.now ++ c.args.channel.now ∷ []) n p.seat)
-    (sym (zero_add k))
-    (inv.finished k p
-    (omega (arith, inv.long, c.len-end-end.ensures, c.args.plans.now.ok.0)) at)
+    let past : c.loop-end.end ≡ length c.args.plans.now.items =
+    omega (arith, inv.long, c.len-end-end.ensures, c.args.plans.now.ok.0) in
+    record {
+      rest = (
+        inv.first.0,
+        inv.first.1 ∙ ap (λ (n : ℕ). knows n end_limit [] false []) past,
+      );
+      ends = inv.long;
+      services = inv.services;
+      fit = λ k p at.
+          let less = within c.loop-end.plans.items k p at in
+          subst (λ (n : ℕ). IsUnused (c.args.channels.now ++ c.args.channel.now ∷ []) n p.seat)
+          (sym (zero_add k)) (inv.finished k p (omega (arith, inv.long, past)) at);
+    }
+
+-- where memory is refused there is none
+pub returns-in_err-push : goal.returns-in_err-push
+returns-in_err-push g c =
+    let told = c.from_residual in
+    let err = ap is_err (err_from_is_err_and told.result told.ensures.1).1 in
+    record {
+      rest = IfOk-from_err told.result _ err;
+      ends = IfOk-from_err told.result _ err;
+      services = IfOk-from_err told.result _ err;
+      fit = IfOk-from_err told.result _ err;
+    }

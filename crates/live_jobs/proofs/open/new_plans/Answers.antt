@@ -24,19 +24,18 @@ loop-service-preserved g c =
     }
 
 -- that was the last
-pub returns-clause-ends : goal.returns-clause-ends
-returns-clause-ends g c =
-    omega (arith, c.loop-service.invariant.count, c.in-None.ensures.steps.0)
-
-pub returns-clause-fresh : goal.returns-clause-fresh
-returns-clause-fresh g c = c.loop-service.invariant.fresh
-
-pub returns-clause-services : goal.returns-clause-services
-returns-clause-services g c =
+pub returns : goal.returns
+returns g c =
+    let inv = c.loop-service.invariant in
+    let done = c.in-None.ensures.steps.0 in
     let rest = c.loop-service.service-iterator in
     let none : into_iter_items rest ≡ [] = nil_from_length rest.rest.items
-    (omega (arith, c.in-None.ensures.steps.0, rest.rest.ok)) in
+    (omega (arith, done, rest.rest.ok)) in
     let plans = c.loop-service.plans.items in
-    sym (append-nil (map (λ p. p.service) plans))
-    ∙ ap (λ services. map (λ p. p.service) plans ++ services) (sym none)
-    ∙ c.loop-service.invariant.services
+    record {
+      ends = omega (arith, inv.count, done);
+      fresh = inv.fresh;
+      services = sym (append-nil (map (λ p. p.service) plans))
+          ∙ ap (λ services. map (λ p. p.service) plans ++ services) (sym none)
+          ∙ inv.services;
+    }

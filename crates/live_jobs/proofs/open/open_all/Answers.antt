@@ -1,4 +1,6 @@
 use Rattle.std.proofs.Common.{◌∙◌, ◌+◌, ◌≡◌, ℕ, ap, arith, length, rules, subst, sym}
+use Rattle.std.proofs.lemmas.Result.{IfOk-from_err, err_from_is_err_and}
+use Rattle.std.specs.Prelude.{is_err}
 use Rattle.live_jobs.specs.Started.{AreOpened, Ready}
 use Rattle.live_jobs.proofs.Rows.{from_none}
 use Rattle.live_jobs.proofs.Unused.{fresh_unused}
@@ -44,21 +46,40 @@ add_group-requires-clause-fit g c =
     subst (λ (x : ℕ × ℕ). AreOpened x.0 x.1 c.loop-group.opened)
     (λ i. (sym inv.fit.channels i, sym (c.len-ends.ensures ∙ c.args.services.ok.0) i)) inv.fit
 
+-- where memory is refused nothing is opened
+pub returns-in_err-plans : goal.returns-in_err-plans
+returns-in_err-plans g c =
+    let told = c.from_residual in
+    let err = ap is_err (err_from_is_err_and told.result told.ensures.1).1 in
+    record {
+      channels = IfOk-from_err told.result _ err;
+      rests = IfOk-from_err told.result _ err;
+      ends = IfOk-from_err told.result _ err;
+      services = IfOk-from_err told.result _ err;
+      writers = IfOk-from_err told.result _ err;
+    }
+
+pub returns-in_err-add_group : goal.returns-in_err-add_group
+returns-in_err-add_group g c =
+    let told = c.from_residual-in_err-add_group in
+    let err = ap is_err (err_from_is_err_and told.result told.ensures.1).1 in
+    record {
+      channels = IfOk-from_err told.result _ err;
+      rests = IfOk-from_err told.result _ err;
+      ends = IfOk-from_err told.result _ err;
+      services = IfOk-from_err told.result _ err;
+      writers = IfOk-from_err told.result _ err;
+    }
+
 -- that was the last
-pub returns-clause-channels : goal.returns-clause-channels
-returns-clause-channels g c =
-    let fit = c.loop-group.invariant.fit in
+pub returns : goal.returns
+returns g c =
+    let inv = c.loop-group.invariant in
     let past : c.loop-group._group ≡ c.args.groups = search rules in
-    (fit.channels ∙ past, fit.count ∙ past, fit.ends_count)
-
-pub returns-clause-rests : goal.returns-clause-rests
-returns-clause-rests g c = c.loop-group.invariant.fit.rests
-
-pub returns-clause-ends : goal.returns-clause-ends
-returns-clause-ends g c = c.loop-group.invariant.fit.plans
-
-pub returns-clause-services : goal.returns-clause-services
-returns-clause-services g c = c.loop-group.invariant.services
-
-pub returns-clause-writers : goal.returns-clause-writers
-returns-clause-writers g c = c.loop-group.invariant.fit.writers
+    record {
+      channels = (inv.fit.channels ∙ past, inv.fit.count ∙ past, inv.fit.ends_count);
+      rests = inv.fit.rests;
+      ends = inv.fit.plans;
+      services = inv.services;
+      writers = inv.fit.writers;
+    }

@@ -26,27 +26,6 @@ loop-handle-init g c =
       kept = none_kept g.V.Accounts.fits c.args.lefts.now.items _ c.requires.none.1;
     }
 
-pub push_reserved-requires : goal.push_reserved-requires
-push_reserved-requires g c =
-    let here = c.loop-handle.lefts.ok.0 in
-    omega (
-      arith,
-      c.loop-handle.invariant.count,
-      c.loop-handle.invariant.room,
-      c.in-Some.ensures.steps.1,
-    )
-
-pub push_reserved-requires-in-loop-handle : goal.push_reserved-requires-in-loop-handle
-push_reserved-requires-in-loop-handle g c =
-    let here = c.loop-handle.services.ok.0 in
-    omega (
-      arith,
-      c.loop-handle.invariant.count,
-      c.loop-handle.invariant.both,
-      c.loop-handle.invariant.spare,
-      c.in-Some.ensures.steps.1,
-    )
-
 pub loop-handle-preserved : goal.loop-handle-preserved
 loop-handle-preserved g c =
     let inv = c.loop-handle.invariant in
@@ -76,10 +55,17 @@ loop-handle-preserved g c =
     }
 
 -- that was the last
-pub returns-clause-marks : goal.returns-clause-marks
-returns-clause-marks g c =
+pub returns : goal.returns
+returns g c =
+    let inv = c.loop-handle.invariant in
+    let done = c.in-None.ensures.steps.0 in
     let rest = c.loop-handle.handle-iterator in
     let none : into_iter_items rest ≡ [] = nil_from_length rest.rest.items
-    (omega (arith, c.in-None.ensures.steps.0, rest.rest.ok)) in
-    services_end g.V.Accounts.mark c.loop-handle.services.items _ _ c.loop-handle.invariant.marks
-    (ap (map (λ h. g.V.Accounts.mark h.promise.service.value)) none)
+    (omega (arith, done, rest.rest.ok)) in
+    record {
+      all = (omega (arith, inv.count, done), omega (arith, inv.count, inv.both, done));
+      left = inv.fit;
+      kept = inv.kept;
+      marks = services_end g.V.Accounts.mark c.loop-handle.services.items _ _ inv.marks
+          (ap (map (λ h. g.V.Accounts.mark h.promise.service.value)) none);
+    }

@@ -19,16 +19,6 @@ loop-handle-init g c =
           _ c.requires.none;
     }
 
-pub push_reserved-requires : goal.push_reserved-requires
-push_reserved-requires g c =
-    let here = c.loop-handle.writers.ok.0 in
-    omega (
-      arith,
-      c.loop-handle.invariant.count,
-      c.loop-handle.invariant.room,
-      c.in-Some.ensures.steps.1,
-    )
-
 pub loop-handle-preserved : goal.loop-handle-preserved
 loop-handle-preserved g c =
     let inv = c.loop-handle.invariant in
@@ -50,3 +40,9 @@ loop-handle-preserved g c =
           c.in-Some.handle.promise.channel.now c.in-Some.handle.promise.ends c.join.result.pass _ _
           head c.join.ensures.0 c.join.ensures.1 c.join.ensures.2);
     }
+
+-- that was the last
+pub returns : goal.returns
+returns g c =
+    let inv = c.loop-handle.invariant in
+    record { all = omega (arith, inv.count, c.in-None.ensures.steps.0); ended = inv.fit }

@@ -44,16 +44,6 @@ start_end-requires-clause-kept g c κs within =
     (from_head (λ n p. g.V.Accounts.fits p.service n (count_of p.seat) (handed_by p.seat))
     (length c.loop-plan.serving.items) _ _ _ inv.kept steps.items)
 
-pub push_reserved-requires : goal.push_reserved-requires
-push_reserved-requires g c =
-    omega (
-      arith,
-      c.loop-plan.invariant.count,
-      c.loop-plan.invariant.room.0,
-      c.in-Some.ensures.len,
-      c.loop-plan.serving.ok,
-    )
-
 -- those that are left can leave
 pub leave_running-requires-clause-fit : goal.leave_running-requires-clause-fit
 leave_running-requires-clause-fit g c = λ k p at.
@@ -83,35 +73,26 @@ loop-plan-preserved g c =
           _ inv.fit pushed.items (told.1 ∙ head.0, told.0);
     }
 
-pub returns-in-None-clause-all : goal.returns-in-None-clause-all
-returns-in-None-clause-all g c = λ yes. absurd (false≢true yes)
-
-pub returns-in-None-clause-some : goal.returns-in-None-clause-some
-returns-in-None-clause-some g c = omega (arith, c.loop-plan.invariant.count)
-
-pub returns-in-None-clause-fit : goal.returns-in-None-clause-fit
-returns-in-None-clause-fit g c = c.loop-plan.invariant.fit
-
-pub returns-in-None-clause-marks : goal.returns-in-None-clause-marks
-returns-in-None-clause-marks g c = λ yes. absurd (false≢true yes)
+pub returns-in-None : goal.returns-in-None
+returns-in-None g c = record {
+  all = λ yes. absurd (false≢true yes);
+  some = omega (arith, c.loop-plan.invariant.count);
+  fit = c.loop-plan.invariant.fit;
+  marks = λ yes. absurd (false≢true yes);
+}
 
 -- that was the last
-pub returns-clause-all : goal.returns-clause-all
-returns-clause-all g c = λ yes.
-    omega (arith, c.loop-plan.invariant.count, c.in_default.ensures.cases.0)
-
-pub returns-clause-some : goal.returns-clause-some
-returns-clause-some g c = omega (arith, c.loop-plan.invariant.count)
-
-pub returns-clause-fit : goal.returns-clause-fit
-returns-clause-fit g c = c.loop-plan.invariant.fit
-
-pub returns-clause-marks : goal.returns-clause-marks
-returns-clause-marks g c = λ yes.
+pub returns : goal.returns
+returns g c =
     let rest = c.loop-plan.left in
     let none : into_iter_items rest ≡ [] = nil_from_length rest.rest.items
     (omega (arith, c.in_default.ensures.cases.0, rest.rest.ok)) in
     let marks = map (λ h. g.V.Accounts.mark h.promise.service.value) c.loop-plan.serving.items in
-    sym (append-nil marks)
-    ∙ ap (λ plans. marks ++ map (λ p. g.V.Accounts.mark p.service) plans) (sym none)
-    ∙ c.loop-plan.invariant.marks
+    record {
+      all = λ yes. omega (arith, c.loop-plan.invariant.count, c.in_default.ensures.cases.0);
+      some = omega (arith, c.loop-plan.invariant.count);
+      fit = c.loop-plan.invariant.fit;
+      marks = λ yes. sym (append-nil marks)
+          ∙ ap (λ plans. marks ++ map (λ p. g.V.Accounts.mark p.service) plans) (sym none)
+          ∙ c.loop-plan.invariant.marks;
+    }

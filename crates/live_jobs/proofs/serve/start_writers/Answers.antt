@@ -62,16 +62,6 @@ bounds-channels-group g c =
       c.requires.channels,
     )
 
-pub push_reserved-requires : goal.push_reserved-requires
-push_reserved-requires g c =
-    let here = c.loop-seat.running.ok.0 in
-    omega (
-      arith,
-      c.loop-seat.invariant.count,
-      c.loop-seat.invariant.room,
-      c.in-Some.ensures.steps.1,
-    )
-
 pub loop-seat-preserved : goal.loop-seat-preserved
 loop-seat-preserved g c =
     let pushed = c.push_reserved.ensures in
@@ -100,22 +90,17 @@ loop-seat-preserved g c =
     }
 
 -- that was the last
-pub returns-clause-all : goal.returns-clause-all
-returns-clause-all g c = λ yes.
-    omega (arith, c.loop-seat.invariant.count, c.in-None.ensures.steps.0)
-
-pub returns-clause-some : goal.returns-clause-some
-returns-clause-some g c = omega (arith, c.loop-seat.invariant.count)
-
-pub returns-clause-fit : goal.returns-clause-fit
-returns-clause-fit g c = c.loop-seat.invariant.fit
+pub returns : goal.returns
+returns g c = record {
+  all = λ yes. omega (arith, c.loop-seat.invariant.count, c.in-None.ensures.steps.0);
+  some = omega (arith, c.loop-seat.invariant.count);
+  fit = c.loop-seat.invariant.fit;
+}
 
 -- or one couldn't be started
-pub returns-in-None-start_writer-clause-all : goal.returns-in-None-start_writer-clause-all
-returns-in-None-start_writer-clause-all g c = λ yes. absurd (false≢true yes)
-
-pub returns-in-None-start_writer-clause-some : goal.returns-in-None-start_writer-clause-some
-returns-in-None-start_writer-clause-some g c = omega (arith, c.loop-seat.invariant.count)
-
-pub returns-in-None-start_writer-clause-fit : goal.returns-in-None-start_writer-clause-fit
-returns-in-None-start_writer-clause-fit g c = c.loop-seat.invariant.fit
+pub returns-in-None-start_writer : goal.returns-in-None-start_writer
+returns-in-None-start_writer g c = record {
+  all = λ yes. absurd (false≢true yes);
+  some = omega (arith, c.loop-seat.invariant.count);
+  fit = c.loop-seat.invariant.fit;
+}

@@ -31,7 +31,10 @@ loop-group-preserved g c =
     c.close_end.ensures.pass (handed_more _ _ _ _ at.2 c.close_end.ensures.marked) in
     (step.0, step.1 ∙ c.loop-group.invariant.1)
 
-pub returns-clause-fits : goal.returns-clause-fits
-returns-clause-fits g c =
+pub returns : goal.returns
+returns g c =
     let end : c.loop-group.group ≡ c.args.groups = omega arith in
-    fits_marks _ _ _ _ _ c.loop-group.invariant.0 (λ k less. ap (ltb k) end)
+    record {
+      fits = fits_marks _ _ _ _ _ c.loop-group.invariant.0 (λ k less. ap (ltb k) end);
+      handed = c.loop-group.invariant.1;
+    }

@@ -1,4 +1,4 @@
-use Rattle.std.proofs.Common.{◌∙◌}
+use Rattle.std.proofs.Common.{◌∙◌, rules}
 use Rattle.live_jobs.proofs.writer.run_writer.Goals as goal
 
 pub take_step-requires-clause-pass : goal.take_step-requires-clause-pass
@@ -14,11 +14,7 @@ loop-preserved g c = (
   c.take_step.ensures.ends ∙ c.loop.invariant.2,
 )
 
-pub returns-then-all_closed-clause-pass : goal.returns-then-all_closed-clause-pass
-returns-then-all_closed-clause-pass g c = c.loop.invariant.0
-
-pub returns-then-all_closed-clause-here : goal.returns-then-all_closed-clause-here
-returns-then-all_closed-clause-here g c = c.loop.invariant.1
-
-pub returns-then-all_closed-clause-ends : goal.returns-then-all_closed-clause-ends
-returns-then-all_closed-clause-ends g c = c.loop.invariant.2
+pub returns-then-all_closed : goal.returns-then-all_closed
+returns-then-all_closed g c =
+    let inv = c.loop.invariant in
+    record { pass = inv.0; here = inv.1; ends = inv.2; closed = search rules }

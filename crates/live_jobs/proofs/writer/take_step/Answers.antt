@@ -55,19 +55,19 @@ pub invariant_of-seat-in-Mark-clause-counted : goal.invariant_of-seat-in-Mark-cl
 invariant_of-seat-in-Mark-clause-counted g c =
     rw c.reserve_one.ensures.items c.args.seat.now.counted
 
-pub returns-in-Job-clause-pass : goal.returns-in-Job-clause-pass
-returns-in-Job-clause-pass g c = c.take.ensures.pass
+pub returns-in-Job : goal.returns-in-Job
+returns-in-Job g c =
+    record { pass = c.take.ensures.pass; here = c.requires.here; ends = refl }
 
-pub returns-in-Job-clause-here : goal.returns-in-Job-clause-here
-returns-in-Job-clause-here g c = c.requires.here
+pub returns-in-Mark : goal.returns-in-Mark
+returns-in-Mark g c = record {
+  pass = c.take.ensures.pass;
+  here = c.requires.here;
+  ends = ap (λ (l : List Bool). length l) c.close_flag.ensures
+      ∙ length_set c.args.seat.now.closed.items c.in-Mark.end true;
+}
 
-pub returns-in-Job-clause-ends : goal.returns-in-Job-clause-ends
-returns-in-Job-clause-ends g c = refl
-
-pub returns-in-Mark-clause-here : goal.returns-in-Mark-clause-here
-returns-in-Mark-clause-here g c = c.requires.here
-
-pub returns-in-Mark-clause-ends : goal.returns-in-Mark-clause-ends
-returns-in-Mark-clause-ends g c =
-    ap (λ (l : List Bool). length l) c.close_flag.ensures
-    ∙ length_set c.args.seat.now.closed.items c.in-Mark.end true
+-- where memory is refused, the seat is as it was
+pub returns-then-is_err : goal.returns-then-is_err
+returns-then-is_err g c =
+    record { pass = c.requires.pass; here = c.requires.here; ends = refl }

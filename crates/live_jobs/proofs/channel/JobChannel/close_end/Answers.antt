@@ -17,13 +17,11 @@ loop-preserved g c = (
   c.try_close.ensures.full c.if-try_close.false ∙ c.loop.invariant.1,
 )
 
-pub returns-then-try_close-clause-pass : goal.returns-then-try_close-clause-pass
-returns-then-try_close-clause-pass g c = c.try_close.ensures.pass
-
-pub returns-then-try_close-clause-closed : goal.returns-then-try_close-clause-closed
-returns-then-try_close-clause-closed g c = c.try_close.ensures.closed c.if-try_close.true
-
-pub returns-then-try_close-clause-marked : goal.returns-then-try_close-clause-marked
-returns-then-try_close-clause-marked g c =
-    subst (λ before. HasHanded before (parcels.Mark c.args.end) (view c.try_close.new.pass))
-    c.loop.invariant.1 (c.try_close.ensures.marked c.if-try_close.true)
+pub returns-then-try_close : goal.returns-then-try_close
+returns-then-try_close g c = record {
+  pass = c.try_close.ensures.pass;
+  closed = c.try_close.ensures.closed c.if-try_close.true;
+  marked = subst
+      (λ before. HasHanded before (parcels.Mark c.args.end) (view c.try_close.new.pass))
+      c.loop.invariant.1 (c.try_close.ensures.marked c.if-try_close.true);
+}

@@ -31,34 +31,29 @@ loop-preserved g c =
       again.0 ∙ once.0 ∙ c.loop.invariant.2,
     )
 
-pub returns-in-Ok-clause-pass : goal.returns-in-Ok-clause-pass
-returns-in-Ok-clause-pass g c = c.try_often.ensures.pass
-
-pub returns-in-Ok-clause-open : goal.returns-in-Ok-clause-open
-returns-in-Ok-clause-open g c =
-    subst (λ (j : Handed). IsOpen j.end (view c.try_often.new.pass)) c.loop.invariant.2
-    c.try_often.ensures.open
-
-pub returns-in-Ok-clause-taken : goal.returns-in-Ok-clause-taken
-returns-in-Ok-clause-taken g c =
+pub returns-in-Ok : goal.returns-in-Ok
+returns-in-Ok g c =
+    let inv = c.loop.invariant in
+    let told = c.try_often.ensures in
     let after = view c.try_often.new.pass in
-    subst (λ before. HasHanded before (parcels.Job c.args.job) after) c.loop.invariant.1
-    (subst (λ j. HasHanded (view c.loop.pass) (parcels.Job j) after) c.loop.invariant.2
-    c.in-Ok.ensures.taken)
+    record {
+      pass = told.pass;
+      «open» = subst (λ (j : Handed). IsOpen j.end after) inv.2 told.open;
+      taken = subst (λ before. HasHanded before (parcels.Job c.args.job) after) inv.1
+          (subst (λ j. HasHanded (view c.loop.pass) (parcels.Job j) after) inv.2
+          c.in-Ok.ensures.taken);
+    }
 
-pub returns-in-Ok-try_hand_over-clause-pass : goal.returns-in-Ok-try_hand_over-clause-pass
-returns-in-Ok-try_hand_over-clause-pass g c = c.try_hand_over.ensures.pass
-
-pub returns-in-Ok-try_hand_over-clause-open : goal.returns-in-Ok-try_hand_over-clause-open
-returns-in-Ok-try_hand_over-clause-open g c =
-    subst (λ (j : Handed). IsOpen j.end (view c.try_hand_over.new.pass))
-    (c.in-Err.ensures.full.0 ∙ c.loop.invariant.2) c.try_hand_over.ensures.open
-
-pub returns-in-Ok-try_hand_over-clause-taken : goal.returns-in-Ok-try_hand_over-clause-taken
-returns-in-Ok-try_hand_over-clause-taken g c =
+pub returns-in-Ok-try_hand_over : goal.returns-in-Ok-try_hand_over
+returns-in-Ok-try_hand_over g c =
+    let inv = c.loop.invariant in
     let once = c.in-Err.ensures.full in
+    let told = c.try_hand_over.ensures in
     let after = view c.try_hand_over.new.pass in
-    subst (λ before. HasHanded before (parcels.Job c.args.job) after)
-    (once.1 ∙ c.loop.invariant.1)
-    (subst (λ j. HasHanded (view c.try_often.new.pass) (parcels.Job j) after)
-    (once.0 ∙ c.loop.invariant.2) c.in-Ok-try_hand_over.ensures.taken)
+    record {
+      pass = told.pass;
+      «open» = subst (λ (j : Handed). IsOpen j.end after) (once.0 ∙ inv.2) told.open;
+      taken = subst (λ before. HasHanded before (parcels.Job c.args.job) after) (once.1 ∙ inv.1)
+          (subst (λ j. HasHanded (view c.try_often.new.pass) (parcels.Job j) after)
+          (once.0 ∙ inv.2) c.in-Ok-try_hand_over.ensures.taken);
+    }

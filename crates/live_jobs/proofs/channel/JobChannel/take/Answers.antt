@@ -22,25 +22,19 @@ loop-preserved g c = (
       ∙ c.loop.invariant.1,
 )
 
-pub returns-in-Some-take_soon-clause-pass : goal.returns-in-Some-take_soon-clause-pass
-returns-in-Some-take_soon-clause-pass g c = c.take_soon.ensures.pass
+pub returns-in-Some-take_soon : goal.returns-in-Some-take_soon
+returns-in-Some-take_soon g c = record {
+  pass = c.take_soon.ensures.pass;
+  writer = c.take_soon.ensures.writer;
+  taken = subst (λ before. HasTaken before c.in-Some-take_soon.parcel (view c.take_soon.new.pass))
+      c.loop.invariant.1 c.in-Some-take_soon.ensures.taken;
+}
 
-pub returns-in-Some-take_soon-clause-writer : goal.returns-in-Some-take_soon-clause-writer
-returns-in-Some-take_soon-clause-writer g c = c.take_soon.ensures.writer
-
-pub returns-in-Some-take_soon-clause-taken : goal.returns-in-Some-take_soon-clause-taken
-returns-in-Some-take_soon-clause-taken g c =
-    subst (λ before. HasTaken before c.in-Some-take_soon.parcel (view c.take_soon.new.pass))
-    c.loop.invariant.1 c.in-Some-take_soon.ensures.taken
-
-pub returns-in-Some-try_take-clause-pass : goal.returns-in-Some-try_take-clause-pass
-returns-in-Some-try_take-clause-pass g c = c.try_take.ensures.pass
-
-pub returns-in-Some-try_take-clause-writer : goal.returns-in-Some-try_take-clause-writer
-returns-in-Some-try_take-clause-writer g c = c.try_take.ensures.writer
-
-pub returns-in-Some-try_take-clause-taken : goal.returns-in-Some-try_take-clause-taken
-returns-in-Some-try_take-clause-taken g c =
-    subst (λ before. HasTaken before c.in-Some-try_take.parcel (view c.try_take.new.pass))
-    (c.take_soon.ensures.empty c.in_default.is ∙ c.loop.invariant.1)
-    c.in-Some-try_take.ensures.taken
+pub returns-in-Some-try_take : goal.returns-in-Some-try_take
+returns-in-Some-try_take g c = record {
+  pass = c.try_take.ensures.pass;
+  writer = c.try_take.ensures.writer;
+  taken = subst (λ before. HasTaken before c.in-Some-try_take.parcel (view c.try_take.new.pass))
+      (c.take_soon.ensures.empty c.in_default.is ∙ c.loop.invariant.1)
+      c.in-Some-try_take.ensures.taken;
+}

@@ -11,20 +11,26 @@ try_hand_over-requires-clause-open g c =
     (subst (λ (j : Handed). IsOpen j.end (view c.args.pass.now)) (sym c.loop.invariant.2)
     c.requires.open)
 
-pub returns-in-Ok-clause-pass : goal.returns-in-Ok-clause-pass
-returns-in-Ok-clause-pass g c = c.try_hand_over.ensures.pass
-
-pub returns-in-Ok-clause-open : goal.returns-in-Ok-clause-open
-returns-in-Ok-clause-open g c =
-    subst (λ (j : Handed). IsOpen j.end (view c.try_hand_over.new.pass)) c.loop.invariant.2
-    c.try_hand_over.ensures.open
-
-pub returns-in-Ok-clause-taken : goal.returns-in-Ok-clause-taken
-returns-in-Ok-clause-taken g c =
+pub returns-in-Ok : goal.returns-in-Ok
+returns-in-Ok g c =
+    let inv = c.loop.invariant in
+    let told = c.try_hand_over.ensures in
     let after = view c.try_hand_over.new.pass in
-    subst (λ before. HasHanded before (parcels.Job c.args.job) after) c.loop.invariant.1
-    (subst (λ j. HasHanded (view c.loop.pass) (parcels.Job j) after) c.loop.invariant.2
-    c.in-Ok.ensures.taken)
+    record {
+      pass = told.pass;
+      «open» = subst (λ (j : Handed). IsOpen j.end after) inv.2 told.open;
+      taken = subst (λ before. HasHanded before (parcels.Job c.args.job) after) inv.1
+          (subst (λ j. HasHanded (view c.loop.pass) (parcels.Job j) after) inv.2
+          c.in-Ok.ensures.taken);
+      full = tt;
+    }
 
-pub returns-clause-open : goal.returns-clause-open
-returns-clause-open g c = subst (IsOpen c.args.job.end) (sym c.loop.invariant.1) c.requires.open
+pub returns : goal.returns
+returns g c =
+    let inv = c.loop.invariant in
+    record {
+      pass = inv.0;
+      «open» = subst (IsOpen c.args.job.end) (sym inv.1) c.requires.open;
+      taken = tt;
+      full = (inv.2, inv.1);
+    }

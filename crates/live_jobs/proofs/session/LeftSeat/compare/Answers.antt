@@ -1,4 +1,4 @@
-use Rattle.std.proofs.Common.{List, sym, subst}
+use Rattle.std.proofs.Common.{List, refl, sym, subst}
 use Rattle.job_queue.specs.declared.parcel.Handed.{Handed}
 use Rattle.live_jobs.specs.Gathered.{Told}
 use Rattle.live_jobs.proofs.Passes.{fits_at, same_step, jobs_at, read_at, of_channel}
@@ -16,26 +16,23 @@ compare-requires-clause-own g c =
     (fits_at _ _ _ _ _ _ _ c.requires.left c.requires.group c.index-channels-group.is
     c.index_mut.ensures.value).2
 
-pub returns-clause-left : goal.returns-clause-left
-returns-clause-left g c =
-    (same_step _ _ _ _ _ _ _ _ c.requires.left c.requires.group c.index-channels-group.is
-    c.index_mut.ensures.value c.compare.ensures.passes.1 c.compare.ensures.pass).0
-
-pub returns-clause-handed : goal.returns-clause-handed
-returns-clause-handed g c =
-    (same_step _ _ _ _ _ _ _ _ c.requires.left c.requires.group c.index-channels-group.is
-    c.index_mut.ensures.value c.compare.ensures.passes.1 c.compare.ensures.pass).1
-
-pub returns-clause-pass : goal.returns-clause-pass
-returns-clause-pass g c =
-    of_channel _ _ _ c.compare.new.self.pass c.requires.group c.index-channels-group.is
-    c.compare.ensures.passes.0
-
-pub returns-clause-told : goal.returns-clause-told
-returns-clause-told g c = λ jobs at.
-    let here = (fits_at _ _ _ _ _ _ _ c.requires.left c.requires.group c.index-channels-group.is
-    c.index_mut.ensures.value).0 in
-    subst (λ (js : List Handed). Told g.O.Outcome.fits c.args.self.now.end
-    c.args.writer.now.finished.items js)
-    (sym (jobs_at c.args.self.now.passes.items c.args.group _ jobs here at))
-    c.compare.ensures.told
+pub returns : goal.returns
+returns g c =
+    let step = same_step _ _ _ _ _ _ _ _ c.requires.left c.requires.group
+    c.index-channels-group.is c.index_mut.ensures.value c.compare.ensures.passes.1
+    c.compare.ensures.pass in
+    record {
+      left = step.0;
+      end = refl;
+      handed = step.1;
+      pass = of_channel _ _ _ c.compare.new.self.pass c.requires.group c.index-channels-group.is
+          c.compare.ensures.passes.0;
+      writer = c.compare.ensures.writer;
+      told = λ jobs at.
+          let here = (fits_at _ _ _ _ _ _ _ c.requires.left c.requires.group
+          c.index-channels-group.is c.index_mut.ensures.value).0 in
+          subst (λ (js : List Handed). Told g.O.Outcome.fits c.args.self.now.end
+          c.args.writer.now.finished.items js)
+          (sym (jobs_at c.args.self.now.passes.items c.args.group _ jobs here at))
+          c.compare.ensures.told;
+    }

@@ -1,3 +1,4 @@
+use Rattle.std.proofs.Common.{refl}
 use Rattle.live_jobs.proofs.Passes.{fits_at, job_step, handed_more}
 use Rattle.live_jobs.proofs.session.SessionSeat.hand_over.Goals as goal
 
@@ -11,18 +12,11 @@ hand_over-requires-clause-open g c =
     let at = fits_at _ _ _ _ _ _ _ c.requires.seat c.requires.group c.index-channels-group.is
     c.index_mut.ensures.value in (at.2, at.3)
 
-pub returns-clause-seat : goal.returns-clause-seat
-returns-clause-seat g c =
+pub returns : goal.returns
+returns g c =
     let at = fits_at _ _ _ _ _ _ _ c.requires.seat c.requires.group c.index-channels-group.is
     c.index_mut.ensures.value in
-    (job_step _ _ _ _ _ _ c.hand_over.new.pass _ c.requires.seat c.requires.group
+    let step = job_step _ _ _ _ _ _ c.hand_over.new.pass _ c.requires.seat c.requires.group
     c.index-channels-group.is c.index_mut.ensures.value c.hand_over.ensures.pass
-    (handed_more _ _ _ _ at.2 c.hand_over.ensures.taken)).0
-
-pub returns-clause-taken : goal.returns-clause-taken
-returns-clause-taken g c =
-    let at = fits_at _ _ _ _ _ _ _ c.requires.seat c.requires.group c.index-channels-group.is
-    c.index_mut.ensures.value in
-    (job_step _ _ _ _ _ _ c.hand_over.new.pass _ c.requires.seat c.requires.group
-    c.index-channels-group.is c.index_mut.ensures.value c.hand_over.ensures.pass
-    (handed_more _ _ _ _ at.2 c.hand_over.ensures.taken)).1
+    (handed_more _ _ _ _ at.2 c.hand_over.ensures.taken) in
+    record { seat = step.0; end = refl; number = refl; count = refl; taken = step.1 }
