@@ -122,6 +122,24 @@ pub struct CountedRun<L: Ledger, O: Outcome, V> {
     pub counted: Counted,
 }
 
+impl<
+    'a,
+    X: Drop,
+    S: BlockStore + Drop,
+    J: StorePremises,
+    L: Ledger,
+    C: Clock,
+    G,
+    Q: RegisterRef,
+> CountedRun<L, StoreResult<J>, PeerServer<'a, X, S, J, L, C, G, Q>> {
+    /// What was counted, without the seats.
+    pub fn into_counted(self) -> Counted
+        ensures { result ≡ self.entry.counted }
+    {
+        self.counted
+    }
+}
+
 /// Why nothing is counted, where no seats come back.
 fn live_error(why: SeatsError) -> LiveError {
     match why {

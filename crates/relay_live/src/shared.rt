@@ -24,7 +24,6 @@ use std::sync::{Mutex, Wait};
 /// What the threads of a relay share, each value behind its lock: sixteen shards, the feed desk,
 /// the buffers and the groups of the configuration, a slot for each end, the number of the last
 /// session.
-#[derive(Drop)]
 pub struct Shared<S: BlockStore + Drop, J: StorePremises, L: Ledger> {
     pub(crate) shards: Vec<Claims>,
     pub(crate) desk: Mutex<CountedDesk<L>>,
@@ -47,8 +46,25 @@ pub struct Shared<S: BlockStore + Drop, J: StorePremises, L: Ledger> {
     ghost few_feeds: { feeds ≤ 1024 },
 }
 
+// Written out, so that no crate above proves anew how each part is let go.
+impl<S: BlockStore + Drop, J: StorePremises, L: Ledger> Drop for Shared<S, J, L> {
+    fn drop(self) {
+        let Self {
+            shards: _,
+            desk: _,
+            feeds: _,
+            buffers: _,
+            placed_groups: _,
+            slots: _,
+            last: _,
+            stop: _,
+            remember: _,
+            rounds: _,
+        } = self;
+    }
+}
+
 /// Why a relay isn't stopped, in the order of trial; want of memory comes last before the devices.
-#[derive(Drop)]
 pub enum Unshut<S: BlockStore + Drop, J: StorePremises, L: Ledger> {
     /// A message-id is being stored, or a write is open in a buffer. The relay goes on, and nothing
     /// was written.
@@ -58,6 +74,17 @@ pub enum Unshut<S: BlockStore + Drop, J: StorePremises, L: Ledger> {
     /// The device of the buffer of this number failed. All stores; heads may say that they are
     /// closed.
     Device(u8, Vec<S>),
+}
+
+// Written out, so that no crate above proves anew how each part is let go.
+impl<S: BlockStore + Drop, J: StorePremises, L: Ledger> Drop for Unshut<S, J, L> {
+    fn drop(self) {
+        match self {
+            Unshut::NotIdle(_) => {}
+            Unshut::Memory(_) => {}
+            Unshut::Device(_, _) => {}
+        }
+    }
 }
 
 impl<S: BlockStore + Drop, J: StorePremises, L: Ledger> Shared<S, J, L> {
