@@ -1,10 +1,16 @@
--- What a call that asks was handed.
-use Rattle.std.proofs.Common.{ℕ, List, Result, refl}
+-- What a call that asks was handed, and what is told where it isn't heard.
+use Rattle.std.proofs.Common.{◌≡◌, ℕ, List, Option, Result, Err, refl, subst}
 use denote.Ref.{Bor}
 use Rattle.std.specs.Global.{Vec}
+use Rattle.std.specs.IoError.{error_kind}
 use Rattle.std.specs.declared.io.Error.{Error}
-use Rattle.relay_command.specs.Ask.{Answered}
+use Rattle.std.specs.declared.io.ErrorKind.{ErrorKind}
+use Rattle.std.specs.declared.io.ErrorKind.TheVariants.{ConnectionRefused, NotFound, OutOfMemory}
+use Rattle.relay_command.specs.Ask.{Answered, Asking, AsksIn, IsUnheard}
+use Rattle.relay_command.specs.declared.ask.AskError.{AskError}
+use Rattle.relay_command.specs.declared.ask.AskError.TheVariants.{Unwritten}
 use Rattle.relay_command.specs.declared.ask.Request.{Request}
+use Rattle.relay_command.proofs.Checks.{keeps_same}
 
 -- What `post` says of a call is what the call was handed, and its answer.
 pub answered : (post : Bor (List ℕ) → Request → Result (Vec ℕ) Error → Type 0)
@@ -15,3 +21,20 @@ answered post folder request answer posts = record {
   posts = posts;
   of_folder = refl;
 }
+
+-- That the writer failed is no reason why a relay isn't heard.
+not_unheard : (folder : List ℕ) (kind : ErrorKind) → IsUnheard folder kind Unwritten → ⊥
+not_unheard folder OutOfMemory is = cc
+not_unheard folder NotFound is = is
+not_unheard folder ConnectionRefused is = is
+not_unheard folder kind is = cc
+
+-- Where a relay isn't heard, that is told and nothing is written.
+pub unheard : (asking : Asking) (folder : List ℕ) (request : Request) (failure : Error)
+    (kind : ErrorKind) (error : AskError) (held : Option (List ℕ))
+    → asking folder request (Err failure) → kind ≡ error_kind failure → IsUnheard folder kind error
+    → AsksIn asking folder request (Err error) held held
+unheard asking folder request failure kind Unwritten held asked same is =
+    absurd (not_unheard folder kind is)
+unheard asking folder request failure kind error held asked same is =
+    (failure, asked, subst (λ k. IsUnheard folder k error) same is, keeps_same held)

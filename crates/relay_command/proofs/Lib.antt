@@ -7,3 +7,4 @@ pub mod Numbers
 pub mod Questions
 pub mod Scripts
 pub mod Servings
+pub mod Tokens

@@ -101,12 +101,17 @@ abbrev pub version_words : App
 version_words =
     record { top = record (new_app (codes "cnrelay")).top { has_version = true }; subs = [] }
 
+-- the words of what is done with a configuration alone, which no relay serves
+abbrev pub unserved_words : App
+unserved_words =
+    with_subcommand (with_subcommand (with_subcommand version_words check_words.top)
+    drill_words.top) explain_words.top
+
 -- the words that there are
 abbrev pub program_words : App
 program_words =
-    with_subcommand (with_subcommand (with_subcommand (with_subcommand (with_subcommand
-    (with_subcommand (with_subcommand version_words check_words.top) drill_words.top)
-    explain_words.top) report_words.top) serve_words.top) stop_words.top) token_words.top
+    with_subcommand (with_subcommand (with_subcommand (with_subcommand unserved_words
+    report_words.top) serve_words.top) stop_words.top) token_words.top
 
 -- the command reads these words, and has no argument that counts below it too
 pub record Reads (command : Command) (app : App) : Type 0 where

@@ -1,6 +1,6 @@
 //! Reading the program's words (docs/PROTOCOL.md, Commands).
 ghost use Rattle.std.specs.Prelude.{◌≡◌, codes, false, map, option_and_then, string_bytes, None};
-ghost use Rattle.std.specs.Prelude.{IfOk, Some};
+ghost use Rattle.std.specs.Prelude.{IfOk, Some, bytes_eq};
 ghost use Rattle.clap.specs.Words.{App, Rule, found_of, new_app, one_of, rows_of, rule_of};
 ghost use Rattle.clap.specs.Words.{subcommand_rows_of, with_rule, with_subcommand};
 ghost use Rattle.relay_command.specs.CommandLine.{Reads, ReadsWords, asked, asked_by};
@@ -9,6 +9,7 @@ ghost use Rattle.relay_command.specs.CommandLine.{Drills, Explains, Serves};
 ghost use Rattle.relay_command.specs.CommandLine.{fresh_given, fresh_rule};
 ghost use Rattle.relay_command.specs.CommandLine.{sessions_given, sessions_rule};
 ghost use Rattle.relay_command.specs.CommandLine.{needed, program_words, serve_words};
+ghost use Rattle.relay_command.specs.CommandLine.{unserved_words};
 ghost use Rattle.relay_command.specs.CommandLine.{version_words};
 ghost use Rattle.relay_command.specs.Numbers.{number_of};
 ghost use Rattle.relay_command.specs.Questions.{optional, question_given};
@@ -108,26 +109,33 @@ fn job_named(alloc: Global, name: &str, given: &ArgMatches<'_>) -> Result<Job, A
     ensures { IfOk result (λ job. asked job
         ≡ asked_by (Some (name.now, rows_of (found_of given.now)))) }
 {
-    if name == "token" {
+    if is(name, "token") {
         return Ok(Job::Token(word(alloc, given, "TEXT")?));
     }
     let folder = word(alloc, given, "DIR")?;
-    if name == "check" {
+    if is(name, "check") {
         return Ok(Job::Check(folder));
     }
-    if name == "explain" {
+    if is(name, "explain") {
         return explanation(alloc, given, folder);
     }
-    if name == "serve" {
+    if is(name, "serve") {
         return Ok(service(given, folder));
     }
-    if name == "stop" {
+    if is(name, "stop") {
         return Ok(Job::Stop(folder));
     }
-    if name == "report" {
+    if is(name, "report") {
         return Ok(Job::Report(folder));
     }
     drilling(alloc, given, folder)
+}
+
+/// Whether a name is this one.
+fn is(name: &str, other: &str) -> bool
+    ensures { result ≡ bytes_eq name.now other.now }
+{
+    name == other
 }
 
 /// What `drill` asks for in this folder, with what was given for its words.
@@ -196,15 +204,22 @@ fn word(alloc: Global, given: &ArgMatches<'_>, name: &str) -> Result<String, All
 fn command<'a>(alloc: Global) -> Result<Command<'a>, AllocError>
     ensures { IfOk result (λ command. Reads command program_words) }
 {
-    let checks = of_word(alloc, "check", CHECKS, "DIR", CONFIGURED);
-    let words = with_command(Ok(program(alloc)), checks);
-    let words = with_command(words, drill(alloc));
-    let words = with_command(words, explain(alloc));
+    let words = unserved_words(alloc);
     let words = with_command(words, of_word(alloc, "report", REPORTS, "DIR", SERVED));
     let words = with_command(words, serve(alloc));
     let words = with_command(words, of_word(alloc, "stop", STOPS, "DIR", SERVED));
     let tells = of_word(alloc, "token", TELLS, "TEXT", "The text of the token");
     with_command(words, tells)
+}
+
+/// The words of what is done with a configuration alone, which no relay serves.
+fn unserved_words<'a>(alloc: Global) -> Result<Command<'a>, AllocError>
+    ensures { IfOk result (λ command. Reads command unserved_words) }
+{
+    let checks = of_word(alloc, "check", CHECKS, "DIR", CONFIGURED);
+    let words = with_command(Ok(program(alloc)), checks);
+    let words = with_command(words, drill(alloc));
+    with_command(words, explain(alloc))
 }
 
 /// A command with one more below it, where both could be made.

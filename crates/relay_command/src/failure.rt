@@ -43,7 +43,7 @@ impl Display for Unbegun {
 impl error::Error for Unbegun {}
 
 /// Why the program ends with a status other than 0. Its text is what the program prints.
-#[derive(Drop, Error)]
+#[derive(Error)]
 pub enum Failure {
     /// The words could not be had, or there was no memory for the output.
     #[error(transparent)]
@@ -72,6 +72,23 @@ pub enum Failure {
     /// Standard output took no more. What it took before stands.
     #[error("stdout: unwritten")]
     Unwritten,
+}
+
+// Written out, so that no crate above proves anew how each part is let go.
+impl Drop for Failure {
+    fn drop(self) {
+        match self {
+            Failure::Unbegun(_) => {}
+            Failure::Words(_) => {}
+            Failure::Check(_) => {}
+            Failure::Explain(_) => {}
+            Failure::Drill(_) => {}
+            Failure::Token(_) => {}
+            Failure::Serve(_) => {}
+            Failure::Ask(_) => {}
+            Failure::Unwritten => {}
+        }
+    }
 }
 
 impl fmt::Debug for Failure {

@@ -1,0 +1,52 @@
+use Rattle.std.proofs.Common.{◌≡◌, ◌∙◌, ap, sym, Bool, false, true, codes}
+use Rattle.std.specs.Prelude.{bytes_eq}
+use Rattle.relay_command.specs.CommandLine.{Checks, Stops, Reports}
+use Rattle.relay_command.proofs.command_line.job_named.Goals as goal
+
+pub returns-then-is-2 : goal.returns-then-is-2
+returns-then-is-2 c =
+    let check = sym c.is-2.ensures ∙ c.if-is-2.true in
+    rw check (ap Checks c.in_ok-folder.ensures)
+
+pub returns-then-is-3 : goal.returns-then-is-3
+returns-then-is-3 c =
+    let check = sym c.is-2.ensures ∙ c.if-is-2.false in
+    let explain = sym c.is-3.ensures ∙ c.if-is-3.true in
+    rw (check, explain, ← c.in_ok-folder.ensures) c.explanation.ensures
+
+pub returns-then-is-4 : goal.returns-then-is-4
+returns-then-is-4 c =
+    let token = sym c.is.ensures ∙ c.if-is.false in
+    let check = sym c.is-2.ensures ∙ c.if-is-2.false in
+    let explain = sym c.is-3.ensures ∙ c.if-is-3.false in
+    let serve = sym c.is-4.ensures ∙ c.if-is-4.true in
+    rw (check, explain, token, serve, ← c.in_ok-folder.ensures) c.service.ensures
+
+pub returns-then-is-5 : goal.returns-then-is-5
+returns-then-is-5 c =
+    let token = sym c.is.ensures ∙ c.if-is.false in
+    let check = sym c.is-2.ensures ∙ c.if-is-2.false in
+    let explain = sym c.is-3.ensures ∙ c.if-is-3.false in
+    let serve = sym c.is-4.ensures ∙ c.if-is-4.false in
+    let stop = sym c.is-5.ensures ∙ c.if-is-5.true in
+    rw (check, explain, token, serve, stop) (ap Stops c.in_ok-folder.ensures)
+
+pub returns-then-is-6 : goal.returns-then-is-6
+returns-then-is-6 c =
+    let token = sym c.is.ensures ∙ c.if-is.false in
+    let check = sym c.is-2.ensures ∙ c.if-is-2.false in
+    let explain = sym c.is-3.ensures ∙ c.if-is-3.false in
+    let serve = sym c.is-4.ensures ∙ c.if-is-4.false in
+    let stop = sym c.is-5.ensures ∙ c.if-is-5.false in
+    let report = sym c.is-6.ensures ∙ c.if-is-6.true in
+    rw (check, explain, token, serve, stop, report) (ap Reports c.in_ok-folder.ensures)
+
+pub returns : goal.returns
+returns c =
+    let token = sym c.is.ensures ∙ c.if-is.false in
+    let check = sym c.is-2.ensures ∙ c.if-is-2.false in
+    let explain = sym c.is-3.ensures ∙ c.if-is-3.false in
+    let serve = sym c.is-4.ensures ∙ c.if-is-4.false in
+    let stop = sym c.is-5.ensures ∙ c.if-is-5.false in
+    let report = sym c.is-6.ensures ∙ c.if-is-6.false in
+    rw (check, explain, token, serve, stop, report, ← c.in_ok-folder.ensures) c.drilling.ensures
