@@ -1,8 +1,8 @@
 -- The peer sources of peers, one after the other.
-use Rattle.std.proofs.Common.{◌≡◌, ℕ, ◌+◌, List, [], ◌∷◌, ◌++◌, false, ap, ◌∙◌}
-use Rattle.std.proofs.Common.{append_assoc, ◌<◌, length, get_or, drop, sym}
+use Rattle.std.proofs.Common.{◌≡◌, ℕ, ◌+◌, ◌≤◌, List, [], ◌∷◌, ◌++◌, false, true, ap, ◌∙◌}
+use Rattle.std.proofs.Common.{append-nil, append_assoc, ◌<◌, length, get_or, drop, sym}
 use Rattle.std.specs.Prelude.{replicate, ◌==◌}
-use Rattle.std.proofs.lemmas.List.{replicate-append-replicate}
+use Rattle.std.proofs.lemmas.List.{drop_all, replicate-append-replicate}
 use Rattle.relay_conf.specs.declared.relay.Peer.{Peer}
 use Rattle.relay_conf.proofs.FirstFaults.{drop_one}
 use Rattle.relay_serve.specs.Ports.{ends_from}
@@ -29,3 +29,17 @@ pub drop_peer : (peers : List Peer) (k : ℕ) (peer : Peer) → k < length peers
     → peer ≡ get_or peers k peer → drop k peers ≡ peer ∷ drop (k + 1) peers
 drop_peer peers k peer within same =
     drop_one peers k peer within ∙ ap (λ (one : Peer). one ∷ drop (k + 1) peers) (sym same)
+
+-- A peer that has no port has none.
+pub without_port : (made : List ℕ) (number : ℕ) (peer : Peer) (rest : List Peer)
+    → (peer.port == 0) ≡ true
+    → made ++ ends_from (number + 1) rest ≡ made ++ ends_from number (peer ∷ rest)
+without_port made number peer rest e = rw e
+
+-- Those of all peers are all.
+pub of_all : (made all : List ℕ) (number : ℕ) (peers : List Peer) → length peers ≤ number
+    → made ++ ends_from number (drop number peers) ≡ all → made ≡ all
+of_all made all number peers last so_far =
+    sym (append-nil made)
+    ∙ ap (λ (rest : List Peer). made ++ ends_from number rest) (sym (drop_all number peers last))
+    ∙ so_far

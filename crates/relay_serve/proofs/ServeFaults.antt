@@ -75,20 +75,7 @@ relay_serves g config stores faults.Memory fault = tt
 relay_serves g config stores faults.NoThread fault = tt
 relay_serves g config stores faults.Unwritten fault = absurd fault
 
--- that it couldn't be stopped names none
-pub stop_serves : (config : Config) (error : ServeError) → IsStopFault error
-    → IsServeFault config error
-stop_serves config (faults.Stop fault) stops = tt
-stop_serves config faults.Memory e = tt
-stop_serves config (faults.File lost) e = subst (IsServeFault config) (sym e) tt
-stop_serves config (faults.Port lost) e = subst (IsServeFault config) (sym e) tt
-stop_serves config faults.Control e = subst (IsServeFault config) (sym e) tt
-stop_serves config (faults.Start fault) e = subst (IsServeFault config) (sym e) tt
-stop_serves config faults.Unseeded e = tt
-stop_serves config faults.NoThread e = tt
-stop_serves config faults.Unwritten e = subst (IsServeFault config) (sym e) tt
-
--- nor that it isn't known what it begins from
+-- that it isn't known what it begins from names none
 pub origin_serves : (config : Config) (error : ServeError) → IsOriginFault error
     → IsServeFault config error
 origin_serves config error (inl memory) = subst (IsServeFault config) (sym memory) tt
@@ -119,6 +106,3 @@ served_none config error (Ok finished) held is e fault = absurd (cc is)
 served_none config error (Err same) held is e fault =
     let P : ServeError → Type 0 = λ it. ServeGives config (Err it) held held in
     subst P (sym e) (none_served config error held fault)
-
--- why a relay that was run, or couldn't be stopped, is not served
-pub ruleset run_fails = (relay_serves, stop_serves)

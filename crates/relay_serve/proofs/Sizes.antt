@@ -1,5 +1,6 @@
 -- How many blocks stores in files have.
-use Rattle.std.proofs.Common.{◌≡◌, ◌∙◌, ℕ, List, [], ◌∷◌, ap, length, map, refl}
+use Rattle.std.proofs.Common.{◌≡◌, ◌∙◌, ℕ, List, [], ◌∷◌, ap, length, map, refl, sym}
+use Rattle.std.proofs.lemmas.List.{length-map}
 use Rattle.file_blocks.specs.Blocks.{blocks_of}
 use Rattle.file_blocks.specs.declared.host.HostFile.{HostFile}
 use Rattle.run_blocks.specs.Overlay.{overlaid}
@@ -26,3 +27,8 @@ watched_sizes {R} (one ∷ all) =
     (length-seen one.store.count one.store.gathered.first one.store.gathered.count []
     one.store.gathered.octets.items one.store.gathered_within)
     ∙ ap (λ (ns : List ℕ). one.store.count ∷ ns) (watched_sizes all)
+
+-- There are as many of one as of the other where so much is the same of both, one by one.
+pub same_count : {X Y : Type 0} (f : X → ℕ) (h : Y → ℕ) (xs : List X) (ys : List Y)
+    → map f xs ≡ map h ys → length xs ≡ length ys
+same_count f h xs ys same = sym (length-map xs f) ∙ ap length same ∙ length-map ys h

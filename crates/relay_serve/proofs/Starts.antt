@@ -15,6 +15,9 @@ use Rattle.relay_conf.specs.declared.settings.Buffers.{Buffers}
 use Rattle.relay_conf.specs.declared.settings.Config.{Config}
 use Rattle.relay_core.specs.declared.stopped.NotStarted.{NotStarted}
 use Rattle.relay_core.specs.declared.stopped.NotStarted.TheVariants as nots
+use Rattle.relay_live.specs.declared.running.Counted.{Counted}
+use Rattle.relay_live.specs.declared.shared.Shared.{Shared}
+use Rattle.live_store.specs.declared.record.StorePremises as store_premises
 use Rattle.relay_report.specs.declared.fault.ServeError.{ServeError}
 use Rattle.relay_report.specs.declared.fault.ServeError.TheVariants as faults
 use Rattle.relay_report.specs.declared.keeping.BufferFault.{BufferFault}
@@ -22,10 +25,13 @@ use Rattle.relay_report.specs.declared.keeping.BufferFault.TheVariants.{Device, 
 use Rattle.relay_report.specs.declared.keeping.BufferFault.TheVariants.{Damaged, Mixed}
 use Rattle.relay_report.specs.declared.keeping.StartFault.TheVariants as starts
 use Rattle.relay_serve.specs.Files.{IsFaultAt}
-use Rattle.relay_serve.specs.Lives.{IsNoStart, IsUnbegun, IsUnstartedAs, StartsAsTold}
-use Rattle.relay_serve.specs.Running.{IsRelayFault, IsRunFault, IsStopFault, unbegun_as}
+use Rattle.relay_serve.specs.Lives.{Finishes, IsNoStart, IsUnbegun, IsUnstartedAs, RunsRelay}
+use Rattle.relay_serve.specs.Lives.{StartsAsTold}
+use Rattle.relay_serve.specs.Running.{CountsOf, IsRelayFault, IsRunFault, IsServeFault}
+use Rattle.relay_serve.specs.Running.{IsStopFault, Ran, unbegun_as}
 use Rattle.relay_serve.specs.Starting.{IsFaultAtAny, IsFaultOfBuffer, IsRefusal}
-use Rattle.relay_serve.proofs.ServeFaults.{run_serves, stop_stays}
+use Rattle.relay_serve.specs.declared.running.Finished.{Finished}
+use Rattle.relay_serve.proofs.ServeFaults.{relay_serves, run_serves, stop_stays}
 
 -- What ends a run isn't that it can't start,
 pub run_other : (error : ServeError) → IsRunFault error → IsNoStart error
@@ -73,33 +79,16 @@ other_told g config stores (origins.Stopped text) (faults.Stop fault) other = tt
 other_told g config stores (origins.Stopped text) faults.Unwritten other = tt
 
 -- So what ends a run says nothing of a start,
-pub run_told : {S : Type 0} (g : Ghosts S) (config : Config) (stores : List S) (origin : Origin)
+run_told : {S : Type 0} (g : Ghosts S) (config : Config) (stores : List S) (origin : Origin)
     (error : ServeError) → IsRunFault error → StartsAsTold g config stores origin error
 run_told g config stores origin error fault =
     other_told g config stores origin error (run_other error fault)
 
 -- nor does that it couldn't be stopped.
-pub stop_told : {S : Type 0} (g : Ghosts S) (config : Config) (stores : List S) (origin : Origin)
+stop_told : {S : Type 0} (g : Ghosts S) (config : Config) (stores : List S) (origin : Origin)
     (error : ServeError) → IsStopFault error → StartsAsTold g config stores origin error
 stop_told g config stores origin error fault =
     other_told g config stores origin error (stop_other error fault)
-
-pub stopped_told : {S X : Type 0} (g : Ghosts S) (config : Config) (stores : List S)
-    (origin : Origin) (result : Result X ServeError) → IfErr result IsStopFault
-    → IfErr result (StartsAsTold g config stores origin)
-stopped_told g config stores origin (Ok finished) stop = tt
-stopped_told g config stores origin (Err error) stop =
-    stop_told g config stores origin error stop
-
--- What is so of what was counted is so of what the relay that was stopped has come to.
-pub counted_still : {X Y : Type 0} (IsSo : Y → Type 0) (of : X → Y) (counted : Y)
-    (result : Result X ServeError) → IsSo counted → IfOk result (λ run. of run ≡ counted)
-    → IfOk result (λ run. IsSo (of run))
-counted_still IsSo of counted (Ok run) so same = subst IsSo (sym same) so
-counted_still IsSo of counted (Err error) so same = tt
-
--- what is said of a relay that isn't run, for another reason than a start
-pub ruleset run_ends = (run_serves, stop_stays, run_told, stop_told)
 
 -- what is said of a relay that isn't begun from nothing
 pub ruleset begin_ends = (run_serves, run_other, file_other)
@@ -172,7 +161,7 @@ unbegun_runs OutOfMemory = inl refl
 unbegun_runs kind = inr (inl refl)
 
 -- and so is why it isn't started.
-pub unstarted_stays : {S : Type 0} (g : Ghosts S) (config : Config) (stores : List S)
+unstarted_stays : {S : Type 0} (g : Ghosts S) (config : Config) (stores : List S)
     (refused : NotStarted S) (error : ServeError) → IsUnstartedAs config.buffers refused error
     → IsRelayFault g config stores error
 unstarted_stays g config stores (nots.Host why back) error e =
@@ -182,7 +171,7 @@ unstarted_stays g config stores (nots.Refused refused) error e =
     refusal_stays g config stores refused.buffer refused.error error e
 
 -- So is why it isn't begun,
-pub unbegun_fails : {S : Type 0} (g : Ghosts S) (config : Config) (stores : List S)
+unbegun_fails : {S : Type 0} (g : Ghosts S) (config : Config) (stores : List S)
     (origin : Origin) (error : ServeError) → IsUnbegun g config stores origin error
     → IsRelayFault g config stores error
 unbegun_fails g config stores origins.Formatted error unbegun = unbegun.1
@@ -190,7 +179,7 @@ unbegun_fails g config stores (origins.Stopped text) error unbegun =
     unstarted_stays g config stores unbegun.refused error unbegun.told
 
 -- which is told where it is that it can't start.
-pub unbegun_told : {S : Type 0} (g : Ghosts S) (config : Config) (stores : List S)
+unbegun_told : {S : Type 0} (g : Ghosts S) (config : Config) (stores : List S)
     (origin : Origin) (error : ServeError) → IsUnbegun g config stores origin error
     → StartsAsTold g config stores origin error
 unbegun_told g config stores origins.Formatted error unbegun = unbegun.0
@@ -203,3 +192,62 @@ unbegun_told g config stores (origins.Stopped text) faults.Memory unbegun = tt
 unbegun_told g config stores (origins.Stopped text) faults.NoThread unbegun = tt
 unbegun_told g config stores (origins.Stopped text) (faults.Stop fault) unbegun = tt
 unbegun_told g config stores (origins.Stopped text) faults.Unwritten unbegun = tt
+
+-- A relay that isn't run comes to nothing else: where an error ended it,
+pub ended_gives : {S J : Type 0} (g : Ghosts S) (j : store_premises.Ghosts J) (config : Config)
+    (stores : List S) (origin : Origin) (peers : List ℕ) (error : ServeError)
+    → IsRunFault error → RunsRelay g j config stores origin peers (Err error)
+ended_gives g j config stores origin peers error fault = record {
+  totals = tt;
+  counted = tt;
+  ran = tt;
+  start = run_told g config stores origin error fault;
+  fault = run_serves g config stores error fault;
+}
+
+-- or where it isn't begun.
+pub unbegun_gives : {S J : Type 0} (g : Ghosts S) (j : store_premises.Ghosts J) (config : Config)
+    (stores : List S) (origin : Origin) (peers : List ℕ) (error : ServeError)
+    → IsUnbegun g config stores origin error
+    → RunsRelay g j config stores origin peers (Err error)
+unbegun_gives g j config stores origin peers error unbegun = record {
+  totals = tt;
+  counted = tt;
+  ran = tt;
+  start = unbegun_told g config stores origin error unbegun;
+  fault = unbegun_fails g config stores origin error unbegun;
+}
+
+-- One that was run and stopped comes to what was counted, or why it isn't stopped.
+pub finished_gives : {S J L : Type 0} {s : Ghosts S} {j : store_premises.Ghosts J}
+    (config : Config) (shared : Shared S J L s j) (stores : List S) (origin : Origin)
+    (peers : List ℕ) (counts : Counted) (result : Result (Finished S) ServeError)
+    → Ran j config peers counts → Finishes config shared counts result
+    → RunsRelay s j config stores origin peers result
+finished_gives {S} {J} {L} {s} {j} config shared stores origin peers counts (Ok run) ran finishes =
+    let same = sym finishes.counted in
+    record {
+      totals = finishes.totals;
+      counted = subst (λ (n : Counted). IfOk run.totals (λ totals. CountsOf totals n)) same
+          finishes.numbers;
+      ran = subst (Ran j config peers) same ran;
+      start = tt;
+      fault = tt;
+    }
+finished_gives {S} {J} {L} {s} {j} config shared stores origin peers counts (Err error) ran
+    finishes =
+    record {
+      totals = tt;
+      counted = tt;
+      ran = tt;
+      start = stop_told s config stores origin error finishes.fault;
+      fault = stop_stays s config stores error finishes.fault;
+    }
+
+-- Why one isn't run names a file of the configuration, where it names one.
+pub unrun_serves : {S J : Type 0} {s : Ghosts S} {j : store_premises.Ghosts J} {config : Config}
+    {stores : List S} {origin : Origin} {peers : List ℕ} (result : Result (Finished S) ServeError)
+    → RunsRelay s j config stores origin peers result → IfErr result (IsServeFault config)
+unrun_serves (Ok run) runs = tt
+unrun_serves {S} {J} {s} {j} {config} {stores} {origin} {peers} (Err error) runs =
+    relay_serves s config stores error runs.fault

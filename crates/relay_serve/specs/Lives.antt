@@ -1,6 +1,7 @@
 -- How a relay is started and stopped from one life to the next, and why it isn't (docs/PROTOCOL.md,
 -- Clean stop and start).
-use Rattle.std.specs.Prelude.{◌≡◌, ℕ, List}
+use Rattle.std.specs.Prelude.{◌≡◌, ℕ, List, length}
+use Rattle.std.specs.Prelude.{Result, IfErr, IfOk}
 use Rattle.std.specs.IoError.{error_kind}
 use Rattle.cyc_block.specs.declared.store.BlockStore as blocks
 use Rattle.relay_folder.specs.declared.origin.Origin.{Origin}
@@ -10,16 +11,20 @@ use Rattle.relay_conf.specs.declared.settings.Buffers.{Buffers}
 use Rattle.relay_conf.specs.declared.settings.Config.{Config}
 use Rattle.relay_core.specs.declared.stopped.NotStarted.{NotStarted}
 use Rattle.relay_core.specs.declared.stopped.NotStarted.TheVariants as nots
+use Rattle.relay_live.specs.Making.{buffers_in}
 use Rattle.relay_live.specs.Starting.{IsNotStarted, WereStopped}
 use Rattle.relay_live.specs.Stopping.{IsUnshut}
+use Rattle.relay_live.specs.declared.running.Counted.{Counted}
 use Rattle.relay_live.specs.declared.shared.Shared.{Shared}
 use Rattle.relay_live.specs.declared.shared.Unshut.{Unshut}
 use Rattle.relay_live.specs.declared.shared.Unshut.TheVariants as unshut
+use Rattle.relay_report.specs.Serve.{AreOf}
 use Rattle.relay_report.specs.declared.fault.ServeError.{ServeError}
 use Rattle.relay_report.specs.declared.fault.ServeError.TheVariants as faults
 use Rattle.relay_report.specs.declared.keeping.StopFault.TheVariants as stops
-use Rattle.relay_serve.specs.Running.{IsRelayFault, unbegun_as}
+use Rattle.relay_serve.specs.Running.{CountsOf, IsRelayFault, IsStopFault, Ran, unbegun_as}
 use Rattle.relay_serve.specs.Starting.{IsRefusal}
+use Rattle.relay_serve.specs.declared.running.Finished.{Finished}
 
 -- where a relay is to begin from what it was stopped with, each store holds its buffer as stopped
 abbrev pub AreOfOrigin : {S : Type 0} → blocks.Ghosts S → Origin → (stores : List S) → Type 0
@@ -75,3 +80,28 @@ pub record TellsStop {S J L : Type 0} {s : blocks.Ghosts S} {j : store_premises.
   pub refused : Unshut S J L s j
   pub rightly : IsUnshut shared refused
   pub told : error ≡ stopped_as refused
+
+-- What a relay comes to whose threads have ended, and of which this was counted: what was counted,
+-- totals of its configuration with the same numbers, and a store of each buffer; or the error tells
+-- why it isn't stopped.
+pub record Finishes {S J L : Type 0} {s : blocks.Ghosts S} {j : store_premises.Ghosts J}
+    (config : Config) (shared : Shared S J L s j) (counts : Counted)
+    (result : Result (Finished S) ServeError) : Type 0 where
+  pub counted : IfOk result (λ run. run.counted ≡ counts)
+  pub totals : IfOk result (λ run. IfOk run.totals (AreOf config))
+  pub numbers : IfOk result (λ run. IfOk run.totals (λ totals. CountsOf totals counts))
+  pub stores : IfOk result (λ run. length run.stopped.stores.items ≡ buffers_in shared)
+  pub told : IfErr result (TellsStop shared)
+  pub fault : IfErr result IsStopFault
+
+-- What a relay comes to that is run over these stores for these peers: totals of its configuration,
+-- whose numbers are those that were counted, and this of a run of these ends; or the error tells
+-- why it isn't run, and why it can't start where that is so.
+pub record RunsRelay {S J : Type 0} (s : blocks.Ghosts S) (j : store_premises.Ghosts J)
+    (config : Config) (stores : List S) (origin : Origin) (peers : List ℕ)
+    (result : Result (Finished S) ServeError) : Type 0 where
+  pub totals : IfOk result (λ run. IfOk run.totals (AreOf config))
+  pub counted : IfOk result (λ run. IfOk run.totals (λ totals. CountsOf totals run.counted))
+  pub ran : IfOk result (λ run. Ran j config peers run.counted)
+  pub start : IfErr result (StartsAsTold s config stores origin)
+  pub fault : IfErr result (IsRelayFault s config stores)

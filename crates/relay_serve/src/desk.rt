@@ -1,6 +1,6 @@
 //! Whoever is asked while a relay is served.
 use crate::gate::CountingGate;
-use crate::side_thread::{Figured, SideThread};
+use crate::side_thread::Figured;
 use live_wire::Stop;
 use relay_folder::{Control, Teller, Word};
 use relay_report::text_of;
@@ -64,7 +64,9 @@ impl<'a> Desk<'a> {
         teller: &Teller,
     ) -> Result<(), AllocError> {
         let figures = relay.figures(rt, self.alloc)?;
-        let mut text = text_of(self.alloc, &figures)?;
+        let text = text_of(self.alloc, &figures);
+        drop(figures);
+        let mut text = text?;
         self.gate.put_peers(&mut text)?;
         teller.tell(rt, &text);
         Ok(())
@@ -92,10 +94,9 @@ impl<'a> Desk<'a> {
             }
         }
     }
-}
 
-impl<R: Wait + Clock + Eprint> SideThread<R> for Desk<'_> {
-    fn attend<F: Figured<R>>(&self, rt: &R, relay: &F) {
+    /// Goes on until the relay has ended.
+    pub(crate) fn attend<F: Figured<R>, R: Wait + Clock + Eprint>(&self, rt: &R, relay: &F) {
         let mut last_round = second_of(rt);
         for _ in rt.forever() {
             if self.ended.load(Ordering::SeqCst) {
@@ -110,7 +111,8 @@ impl<R: Wait + Clock + Eprint> SideThread<R> for Desk<'_> {
         }
     }
 
-    fn ended(&self) {
+    /// Is told that the relay has ended.
+    pub(crate) fn ended(&self) {
         self.ended.store(true, Ordering::SeqCst);
     }
 }

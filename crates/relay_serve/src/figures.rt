@@ -10,7 +10,6 @@ ghost use Rattle.relay_report.specs.Serve.{AreOf};
 ghost use Rattle.relay_serve.specs.Figures.{HasNames, figures_by};
 ghost use Rattle.relay_serve.specs.Running.{CountsOf};
 
-use block_shelf::BufferFigures;
 use cyc_block::BlockStore;
 use feed_queue::Counts;
 use line_words::Octets;
@@ -78,24 +77,12 @@ fn buffers_of<S: BlockStore + Drop, J: StorePremises, L: Ledger, R: Wait>(
     let mut named = Vec::with_capacity(alloc, buffers.len())?;
     for (number, buffer) in buffers.iter().enumerate() {
         let name = Octets::copied(alloc, buffer.name.as_slice())?;
-        let figures = figures_at(rt, shared, number);
+        let Some(figures) = shared.buffer_figures(rt, number) else {
+            unreachable!()
+        };
         named.push_reserved(NamedBuffer { name, figures });
     }
     Ok(named)
-}
-
-/// The figures of the buffer of this number.
-fn figures_at<S: BlockStore + Drop, J: StorePremises, L: Ledger, R: Wait>(
-    rt: &R,
-    shared: &Shared<S, J, L>,
-    number: usize,
-) -> BufferFigures
-    requires { number < buffers_in shared.now }
-{
-    match shared.buffer_figures(rt, number) {
-        Some(figures) => figures,
-        None => unreachable!(),
-    }
 }
 
 /// Each feed with its figures.

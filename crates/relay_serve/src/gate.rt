@@ -3,8 +3,9 @@ use live_session::{Command, Finish, Gate};
 use live_wire::Tally;
 use relay_conf::Peer;
 use std::alloc::{AllocError, Global};
-use std::str;
+use std::fmt::{Display, Formatter};
 use std::sync::atomic::{AtomicU64, Ordering};
+use std::{fmt, str};
 
 /// What the sessions of a peer have said and read so far, and how many of them are open.
 #[derive(Drop)]
@@ -39,18 +40,43 @@ impl PeerCounts {
         self.octets.fetch_add(more.octets, Ordering::SeqCst);
     }
 
+    /// What its sessions have said and read so far.
+    fn told(&self) -> Told {
+        Told(Tally {
+            accepted: self.accepted.load(Ordering::SeqCst),
+            known: self.known.load(Ordering::SeqCst),
+            refused: self.refused.load(Ordering::SeqCst),
+            later: self.later.load(Ordering::SeqCst),
+            octets: self.octets.load(Ordering::SeqCst),
+        })
+    }
+
     /// Puts the line of a peer of this name behind a text.
     fn put(&self, alloc: Global, name: &str, text: &mut Vec<u8>) -> Result<(), AllocError> {
-        let line = format!(in alloc;
-            "peer {name} open={} accepted={} known={} refused={} later={} octets={}\n",
-            self.open.load(Ordering::SeqCst),
-            self.accepted.load(Ordering::SeqCst),
-            self.known.load(Ordering::SeqCst),
-            self.refused.load(Ordering::SeqCst),
-            self.later.load(Ordering::SeqCst),
-            self.octets.load(Ordering::SeqCst),
-        )?;
+        let open = self.open.load(Ordering::SeqCst);
+        let told = self.told();
+        let line = format!(in alloc; "peer {name} open={open} {told}\n")?;
         text.extend_from_slice(line.as_bytes())
+    }
+}
+
+/// What was said and read, as a line tells it.
+#[derive(Clone, Copy)]
+struct Told(Tally);
+
+impl Display for Told {
+    fn fmt<W: fmt::Write>(&self, formatter: &mut Formatter<W>) -> fmt::Result {
+        let Tally {
+            accepted,
+            known,
+            refused,
+            later,
+            octets,
+        } = self.0;
+        write!(
+            formatter,
+            "accepted={accepted} known={known} refused={refused} later={later} octets={octets}",
+        )
     }
 }
 
@@ -144,15 +170,10 @@ impl<R: Eprint> Gate<R> for CountingGate<'_> {
             return;
         };
         let _lost = eprintln!(rt;
-            "closed peer={} session={session} finish={} seconds={seconds} accepted={} known={} \
-            refused={} later={} octets={}",
+            "closed peer={} session={session} finish={} seconds={seconds} {}",
             name_of(peer),
             word_of(finish),
-            tally.accepted,
-            tally.known,
-            tally.refused,
-            tally.later,
-            tally.octets,
+            Told(*tally),
         );
     }
 }

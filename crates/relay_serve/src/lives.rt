@@ -1,11 +1,10 @@
 //! What a relay's threads share is stopped, and why it isn't started or stopped.
-ghost use Rattle.std.specs.Prelude.{◌≡◌, IfErr, IfOk, length};
+ghost use Rattle.std.specs.Prelude.{◌≡◌, length};
 ghost use Rattle.live_jobs.specs.Desks.{posts_in};
 ghost use Rattle.relay_live.specs.Counts.{accepted_in, posted_in};
 ghost use Rattle.relay_live.specs.Making.{buffers_in};
-ghost use Rattle.relay_serve.specs.Lives.{IsUnstartedAs, TellsStop, stopped_as};
-ghost use Rattle.relay_serve.specs.Running.{CountsOf, IsStopFault};
-ghost use Rattle.relay_report.specs.Serve.{AreOf};
+ghost use Rattle.relay_serve.specs.Lives.{Finishes, IsUnstartedAs, stopped_as};
+ghost use Rattle.relay_serve.specs.Running.{IsStopFault};
 
 use crate::figures::totals_of;
 use crate::running::{Finished, unbegun};
@@ -46,12 +45,7 @@ pub(crate) fn finish<S: BlockStore + Drop, J: StorePremises, L: Ledger, R: Wait>
 ) -> Result<Finished<S>, ServeError>
     requires buffers { buffers_in shared ≡ length config.now.buffers.buffers.items }
     requires posted { posts_in (posted_in counted) ≡ accepted_in counted }
-    ensures counted { IfOk result (λ run. run.counted ≡ counted) }
-    ensures totals { IfOk result (λ run. IfOk run.totals (AreOf config.now)) }
-    ensures numbers { IfOk result (λ run. IfOk run.totals (λ totals. CountsOf totals counted)) }
-    ensures stores { IfOk result (λ run. length run.stopped.stores.items ≡ buffers_in shared) }
-    ensures told { IfErr result (TellsStop shared) }
-    ensures fault { IfErr result IsStopFault }
+    ensures { Finishes config.now shared counted result }
 {
     let totals = totals_of(rt, alloc, config, &shared, &counted);
     match shared.shut(alloc) {
@@ -62,31 +56,23 @@ pub(crate) fn finish<S: BlockStore + Drop, J: StorePremises, L: Ledger, R: Wait>
         }),
         Err(refused) => {
             drop(totals);
-            drop(counted);
-            Err(unstopped(refused))
+            let error = unstopped(&refused);
+            drop(refused);
+            Err(error)
         }
     }
 }
 
 /// Why a relay isn't stopped so that it can start again.
 fn unstopped<S: BlockStore + Drop, J: StorePremises, L: Ledger>(
-    refused: Unshut<S, J, L>,
+    refused: &Unshut<S, J, L>,
 ) -> ServeError
-    ensures error { result ≡ stopped_as refused }
+    ensures error { result ≡ stopped_as refused.now }
     ensures fault { IsStopFault result }
 {
     match refused {
-        Unshut::NotIdle(shared) => {
-            drop(shared);
-            ServeError::Stop(StopFault::NotIdle)
-        }
-        Unshut::Memory(shared) => {
-            drop(shared);
-            ServeError::Memory
-        }
-        Unshut::Device(_, stopped) => {
-            drop(stopped);
-            ServeError::Stop(StopFault::Device)
-        }
+        Unshut::NotIdle(_) => ServeError::Stop(StopFault::NotIdle),
+        Unshut::Memory(_) => ServeError::Memory,
+        Unshut::Device(_, _) => ServeError::Stop(StopFault::Device),
     }
 }

@@ -4,19 +4,19 @@ ghost use Rattle.std.specs.Prelude.{length, map};
 ghost use Rattle.block_shelf.specs.Filling.{IsBeginRefusal};
 ghost use Rattle.relay_live.specs.Holding.{has_buffer};
 ghost use Rattle.relay_live.specs.Making.{buffers_in, ends_in, slots_of};
-ghost use Rattle.relay_serve.specs.Lives.{AreOfOrigin, IsNoStart, IsUnbegun, StartsAsTold};
-ghost use Rattle.relay_serve.specs.Running.{CanRun, CountsOf, IsRelayFault, IsRunFault, Ran};
+ghost use Rattle.relay_serve.specs.Lives.{AreOfOrigin, IsNoStart, IsUnbegun, RunsRelay};
+ghost use Rattle.relay_serve.specs.Running.{CanRun, IsRelayFault, IsRunFault};
 ghost use Rattle.relay_serve.specs.Running.{RunGives};
 ghost use Rattle.relay_serve.specs.Running.{ended_as};
 ghost use Rattle.relay_serve.specs.Running.{channel_count, unbegun_as};
-ghost use Rattle.relay_report.specs.Serve.{AreOf};
 ghost use Rattle.relay_report.specs.declared.fault.ServeError.TheVariants as faults;
 
 use crate::clock::MachineClock;
+use crate::desk::Desk;
 use crate::files::unformatted;
 use crate::gate::CountingGate;
 use crate::lives::{finish, unstarted};
-use crate::side_thread::{Figured, Served, SideThread, start_side_thread};
+use crate::side_thread::{Figured, Served, start_side_thread};
 use block_shelf::BeginError;
 use cyc_block::BlockStore;
 use live_store::{ArticleLog, StorePremises};
@@ -67,13 +67,13 @@ pub(crate) struct Records<'a> {
 
 /// What stands around a relay.
 #[derive(Drop)]
-pub(crate) struct Surroundings<'a, R, B> {
+pub(crate) struct Surroundings<'a, R> {
     /// The clock that it goes by.
     pub clock: &'a MachineClock<'a, R>,
     /// What lets its sessions' commands in, and is told of them.
     pub gate: &'a CountingGate<'a>,
     /// What goes on beside it.
-    pub side: &'a B,
+    pub side: &'a Desk<'a>,
 }
 
 /// Runs a relay of this configuration over these stores, the i-th for buffer i: an end behind each
@@ -84,12 +84,10 @@ pub(crate) struct Surroundings<'a, R, B> {
 /// for these, and what it was stopped with. The error is that it can't start, or not be stopped, or
 /// want of memory, of random numbers, or of a thread, or the file of a buffer whose device failed
 /// when it was formatted; what was served before stands, and nothing is counted.
-#[tactic(auto, using(crate::proofs::Starts::run_ends))]
 pub(crate) fn run_relay<
     S: BlockStore + Drop + Send,
     J: StorePremises + Send + Sync,
     L: Ledger + Send + Sync,
-    B: SideThread<R> + Sync,
     R: Threads + Wait + Clock + Eprint + RandomSource + Sync,
 >(
     rt: &R,
@@ -98,7 +96,7 @@ pub(crate) fn run_relay<
     beginning: Beginning<S>,
     records: Records<'_>,
     peer_sources: Vec<PeerSource<Port<'_>>>,
-    surroundings: Surroundings<'_, R, B>,
+    surroundings: Surroundings<'_, R>,
 ) -> Result<Finished<S>, ServeError>
     requires register { records.register.now ≡ J.register }
     requires holds { J.holds ≡ has_buffer config.now.buffers }
@@ -111,14 +109,9 @@ pub(crate) fn run_relay<
     requires stopped { J.trusted ≡ true
         → AreOfOrigin ⟦<S as BlockStore>⟧ beginning.origin beginning.stores.items }
     requires few { length peer_sources.items < 2 ^ 62 }
-    ensures totals { IfOk result (λ run. IfOk run.totals (AreOf config.now)) }
-    ensures counted { IfOk result (λ run. IfOk run.totals (λ totals. CountsOf totals run.counted)) }
-    ensures ran { IfOk result (λ run. Ran ⟦<J as StorePremises>⟧ config.now
-        (map (λ peer_source. peer_source.peer) peer_sources.entry.items) run.counted) }
-    ensures start { IfErr result (StartsAsTold ⟦<S as BlockStore>⟧ config.now
-        beginning.stores.items beginning.origin) }
-    ensures fault { IfErr result
-        (IsRelayFault ⟦<S as BlockStore>⟧ config.now beginning.stores.items) }
+    ensures { RunsRelay ⟦<S as BlockStore>⟧ ⟦<J as StorePremises>⟧ config.now
+        beginning.stores.items beginning.origin
+        (map (λ peer_source. peer_source.peer) peer_sources.entry.items) result }
 {
     // A relay that was started and can't be served would have lost what it was stopped with.
     let hasher = hasher_of(rt)?;
@@ -240,7 +233,7 @@ fn run_shared<
 {
     let groups = channels_of(serving.config);
     match serve_all(rt, alloc, keeper, serving, groups, all) {
-        Ok(ran) => Ok(ran.counted),
+        Ok(ran) => Ok(ran.into_counted()),
         Err(error) => Err(ended(error)),
     }
 }
@@ -252,7 +245,6 @@ fn attended<
     S: BlockStore + Drop + Send,
     J: StorePremises + Send + Sync,
     L: Ledger + Send + Sync,
-    B: SideThread<R> + Sync,
     R: Threads + Wait + Clock + Eprint + Sync,
 >(
     rt: &R,
@@ -262,15 +254,13 @@ fn attended<
     serving: Serving<'a, Port<'a>, CountingGate<'a>>,
     all: Share<L>,
     clock: &'a MachineClock<'a, R>,
-    side: &B,
+    side: &Desk<'_>,
 ) -> Result<Counted, ServeError>
     requires register { register.now ≡ J.register }
     requires holds { J.holds ≡ has_buffer serving.config.now.buffers }
     requires buffers { buffers_in shared.now ≡ length serving.config.now.buffers.buffers.items }
-    requires parts { (all.parts ≡ channel_count serving.config.now) × (all.amount ≡ 0)
-        × (L.parts ≡ channel_count serving.config.now) }
-    requires slots { ends_in shared.now ≡ length serving.peer_sources.items }
-    requires few { length serving.peer_sources.items < 2 ^ 62 }
+    requires can { CanRun (channel_count serving.config.now) L.parts all.parts all.amount
+        (ends_in shared.now) (length serving.peer_sources.items) }
     ensures { RunGives ⟦<J as StorePremises>⟧ serving.entry.config.now
         (map (λ peer_source. peer_source.peer) serving.entry.peer_sources.items) result }
 {
@@ -291,10 +281,9 @@ fn attended<
 /// thread is to be had for that nothing is run.
 fn run_beside<
     W: FnOnce() -> Result<Counted, ServeError> + Drop,
-    B: SideThread<R> + Sync,
     F: Figured<R> + Sync,
-    R: Threads + Wait + Sync,
->(rt: &R, run: W, side: &B, served: &F) -> Result<Counted, ServeError>
+    R: Threads + Wait + Clock + Eprint + Sync,
+>(rt: &R, run: W, side: &Desk<'_>, served: &F) -> Result<Counted, ServeError>
     requires { W.pre run }
     ensures { (result ≡ Err faults.NoThread) ⊎ W.post run result }
 {

@@ -63,15 +63,9 @@ where
     ensures { ServeGives config.now result (W.contents writer.old) (W.contents writer.new) }
 {
     fill_streams(rt);
-    let stop = Stop::new();
+    let mut history = HostHistory::in_folder(rt, alloc, folder)?;
     let gate = CountingGate::new(alloc, &config.relay.peers)?;
-    let mut history = match HostHistory::in_folder(rt, alloc, folder) {
-        Ok(history) => history,
-        Err(_) => {
-            drop(gate);
-            return Err(ServeError::Memory);
-        }
-    };
+    let stop = Stop::new();
     let asked = Asked {
         folder,
         sessions,
@@ -89,10 +83,16 @@ where
     );
     drop(history);
     drop(gate);
+    drop(stop);
     if answer.is_ok() {
-        let _lost = eprintln!(rt; "stopped");
+        tell_stopped(rt);
     }
     answer
+}
+
+/// Tells that a relay was served, and has stopped.
+fn tell_stopped<R: Eprint>(rt: &R) {
+    let _lost = eprintln!(rt; "stopped");
 }
 
 /// How a relay is to be served.
@@ -284,7 +284,6 @@ where
 
 /// Runs the relay over what was opened, by the machine's clock. Nothing says that a file of the
 /// machine is honest, so nothing is promised of what the stores give.
-#[tactic(auto, using(crate::proofs::ServeFaults::run_fails))]
 fn run_watched<'a, R>(
     rt: &'a R,
     alloc: Global,
@@ -304,7 +303,7 @@ where
     let Beginning { stores, origin } = beginning;
     let stores = watch_all(rt, &config.buffers, stores)?;
     let clock = MachineClock::new(rt);
-    run_relay::<Watched<'a, RunBlocks, R>, Brand, Brand, Desk<'_>, R>(
+    run_relay::<Watched<'a, RunBlocks, R>, Brand, Brand, R>(
         rt,
         alloc,
         config,
@@ -332,11 +331,10 @@ fn keep_finished<R, H: HistoryPlace>(
     ensures fault { IfErr result IsStopFault }
 {
     let Finished {
-        counted,
+        counted: _,
         totals,
         stopped,
     } = finished;
-    drop(counted);
     let kept = keep_stopped(history, &stopped);
     drop(stopped);
     match kept {

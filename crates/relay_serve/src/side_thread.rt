@@ -2,9 +2,9 @@
 ghost use Rattle.std.specs.Prelude.{◌≡◌, length};
 ghost use Rattle.relay_live.specs.Making.{buffers_in};
 
+use crate::desk::Desk;
 use crate::figures::figures_of;
 use cyc_block::BlockStore;
-use live_session::Clock;
 use live_store::StorePremises;
 use relay_conf::Config;
 use relay_live::{Shared, expire_round};
@@ -13,6 +13,7 @@ use std::alloc::{AllocError, Global};
 use std::sync::Wait;
 use std::sync::ledger::Ledger;
 use std::thread::{JoinHandle, Scope, Threads};
+use std::time::Clock;
 
 /// A relay that is served, as whoever goes on beside it sees it.
 pub(crate) trait Figured<R> {
@@ -24,36 +25,38 @@ pub(crate) trait Figured<R> {
     fn forget(&self, rt: &R);
 }
 
-/// What goes on beside a relay, in a thread of its own.
-pub(crate) trait SideThread<R> {
-    /// Goes on until the relay has ended.
-    fn attend<F: Figured<R>>(&self, rt: &R, relay: &F);
-
-    /// Is told that the relay has ended.
-    fn ended(&self);
-}
-
 /// Starts the thread of what goes on beside a relay, none where no thread is to be had.
 pub(crate) fn start_side_thread<
     's,
     E,
     F: Figured<R> + Sync,
-    B: SideThread<R> + Sync,
-    R: Threads + Wait + Sync,
->(scope: &'s Scope<'s, E>, rt: &'s R, side: &'s B, relay: &'s F) -> Option<JoinHandle<()>> {
+    R: Threads + Wait + Clock + Eprint + Sync,
+>(scope: &'s Scope<'s, E>, rt: &'s R, side: &'s Desk<'s>, relay: &'s F) -> Option<JoinHandle<()>> {
     scope.spawn(move || side.attend(rt, relay)).ok()
 }
 
 /// A configuration with what the threads of its relay share, and their clock.
 #[derive(Drop)]
-pub(crate) struct Served<'a, S: BlockStore + Drop, J: StorePremises, L: Ledger, C: Clock> {
+pub(crate) struct Served<
+    'a,
+    S: BlockStore + Drop,
+    J: StorePremises,
+    L: Ledger,
+    C: live_session::Clock,
+> {
     config: &'a Config,
     shared: &'a Shared<S, J, L>,
     clock: &'a C,
     ghost buffers: { buffers_in shared.now ≡ length config.now.buffers.buffers.items },
 }
 
-impl<'a, S: BlockStore + Drop, J: StorePremises, L: Ledger, C: Clock> Served<'a, S, J, L, C> {
+impl<'a, S: BlockStore + Drop, J: StorePremises, L: Ledger, C: live_session::Clock> Served<
+    'a,
+    S,
+    J,
+    L,
+    C,
+> {
     /// What is served of this configuration.
     pub(crate) fn new(
         config: &'a Config,
@@ -70,7 +73,7 @@ impl<'a, S: BlockStore + Drop, J: StorePremises, L: Ledger, C: Clock> Served<'a,
     }
 }
 
-impl<S: BlockStore + Drop, J: StorePremises, L: Ledger, C: Clock, R: Wait> Figured<R>
+impl<S: BlockStore + Drop, J: StorePremises, L: Ledger, C: live_session::Clock, R: Wait> Figured<R>
     for Served<'_, S, J, L, C> {
     ghost use Rattle.std.specs.Prelude.{IfOk};
     ghost use Rattle.relay_serve.specs.Figures.{HasNames};

@@ -36,7 +36,7 @@ loop-number-preserved g c =
     let old = c.loop-number.named.items in
     let new = c.push_reserved.new.self.items in
     let one : NamedBuffer =
-    record { name = c.in_ok-name.name; figures = c.figures_at-figures.result } in
+    record { name = c.in_ok-name.name; figures = c.in-Some.figures } in
     let before = c.loop-number.invariant in
     let pushed = c.push_reserved.ensures in
     record {

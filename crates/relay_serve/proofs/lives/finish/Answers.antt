@@ -1,9 +1,28 @@
+use Rattle.std.proofs.Common.{refl}
 use Rattle.relay_serve.proofs.lives.finish.Goals as goal
 
--- the first reason is told
-pub returns-in-Err-clause-told : goal.returns-in-Err-clause-told
-returns-in-Err-clause-told g c = record {
-  refused = c.in-Err.refused;
-  rightly = c.in-Err.ensures.refused;
-  told = c.unstopped.ensures.error;
+-- one that was stopped has a store of each buffer
+pub returns-in-Ok : goal.returns-in-Ok
+returns-in-Ok g c = record {
+  counted = refl;
+  totals = c.totals_of-totals.ensures.totals;
+  numbers = c.totals_of-totals.ensures.counted;
+  stores = c.in-Ok.ensures.stores;
+  told = tt;
+  fault = tt;
+}
+
+-- of one that isn't the first reason is told
+pub returns-in-Err : goal.returns-in-Err
+returns-in-Err g c = record {
+  counted = tt;
+  totals = tt;
+  numbers = tt;
+  stores = tt;
+  told = record {
+    refused = c.in-Err.refused;
+    rightly = c.in-Err.ensures.refused;
+    told = c.unstopped-error.ensures.error;
+  };
+  fault = c.unstopped-error.ensures.fault;
 }

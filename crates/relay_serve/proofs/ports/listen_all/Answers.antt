@@ -1,12 +1,12 @@
 use Rattle.std.proofs.Common.{◌≡◌, ◌∙◌, ◌++◌, ◌<◌, ◌≤◌, ◌+◌, ℕ, List, length, map}
 use Rattle.std.proofs.Common.{drop, get_or, refl, ap, sym, subst, arith}
-use Rattle.std.proofs.lemmas.Bool.{ne_eqb}
+use Rattle.std.proofs.lemmas.Bool.{eq-eqb, ne_eqb}
 use Rattle.std.proofs.lemmas.Result.{err_from_is_err_and}
 use Rattle.live_wire.specs.declared.port.Port.{Port}
 use Rattle.relay_conf.specs.declared.relay.Peer.{Peer}
 use Rattle.relay_live.specs.declared.running.PeerSource.{PeerSource}
 use Rattle.relay_serve.specs.Ports.{IsPortFault, ends_from}
-use Rattle.relay_serve.proofs.PeerSources.{after_peer, drop_peer}
+use Rattle.relay_serve.proofs.PeerSources.{after_peer, drop_peer, of_all, without_port}
 use Rattle.relay_serve.proofs.ports.listen_all.Goals as goal
 
 pub returns-in-Err-clause-fault : goal.returns-in-Err-clause-fault
@@ -37,6 +37,29 @@ returns-in_err-add_peer_sources-in-Ok-clause-fault g c =
     rw (p.1, p.2)
     (c.in_err-add_peer_sources-in-Ok.ensures.fault peers (k, peer, within, sym same, refl))
 
+-- a peer without a port is passed by
+pub loop-number-preserved-then-peer-eq0 : goal.loop-number-preserved-then-peer-eq0
+loop-number-preserved-then-peer-eq0 g c =
+    let peers = c.args.relay.now.peers.items in
+    let peer = c.peer-item.result in
+    let k = c.loop-number.number in
+    let made : List ℕ =
+    map (λ (peer_source : PeerSource Port). peer_source.peer) c.loop-number.peer_sources.items in
+    let within : k < length peers =
+    omega (arith, c.loop-number-test.true, ap length c.deref-peer-items.ensures.value) in
+    let same : peer ≡ get_or peers k peer =
+    c.peer-item.is
+    ∙ ap (λ (all : List Peer). get_or all k peer) c.deref-peer-items.ensures.value in
+    record {
+      few = omega (arith, c.loop-number.invariant.few);
+      peers = without_port made k peer (drop (k + 1) peers)
+          (eq-eqb peer.port 0 c.if-peer-eq0.true)
+          ∙ ap (λ (rest : List Peer). made ++ ends_from k rest)
+          (sym (drop_peer peers k peer within same))
+          ∙ c.loop-number.invariant.peers;
+      left = c.loop-number.invariant.left;
+    }
+
 pub loop-number-preserved : goal.loop-number-preserved
 loop-number-preserved g c =
     let peers = c.args.relay.now.peers.items in
@@ -63,3 +86,12 @@ loop-number-preserved g c =
           ∙ c.loop-number.invariant.peers;
       left = added.left c.args.sessions c.in-Ok.ensures c.loop-number.invariant.left;
     }
+
+-- there is no further peer
+pub returns-clause-peers : goal.returns-clause-peers
+returns-clause-peers g c =
+    let peers = c.args.relay.now.peers.items in
+    of_all (map (λ (one : PeerSource Port). one.peer) c.loop-number.peer_sources.items)
+    (ends_from 0 peers) c.loop-number.number peers
+    (omega (arith, c.loop-number-test.false, ap length c.deref-peer-items.ensures.value))
+    c.loop-number.invariant.peers

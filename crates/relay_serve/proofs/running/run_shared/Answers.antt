@@ -2,10 +2,14 @@ use Rattle.std.proofs.Common.{◌∙◌, ℕ, ap, length, map, subst, sym}
 use Rattle.std.specs.Prelude.{slice_get}
 use Rattle.std.proofs.lemmas.List.{length-map}
 use Rattle.article_verdict.specs.Config.{terms_of}
+use Rattle.live_jobs.specs.Desks.{posts_in}
 use Rattle.live_jobs.specs.Gathered.{NoneElse, hands_of}
 use Rattle.live_jobs.specs.Seats.{left_by}
+use Rattle.relay_live.specs.Counts.{accepted_in, ids_stored_again_of, mismatched_receipts_of}
+use Rattle.relay_live.specs.Counts.{posted_in}
 use Rattle.relay_live.specs.PeerServers.{kept_of, peer_of, terms_at}
 use Rattle.relay_live.specs.Sessions.{Accounted, HasLists}
+use Rattle.relay_live.specs.declared.running.Counted.{Counted}
 use Rattle.relay_model.specs.Terms.{Terms}
 use Rattle.relay_serve.proofs.Kept.{made_there, one_there, same_there}
 use Rattle.relay_serve.proofs.running.run_shared.Goals as goal
@@ -15,6 +19,7 @@ use Rattle.news_terms.proofs.ListPlaces.{mapped_at}
 pub returns-in-Ok : goal.returns-in-Ok
 returns-in-Ok g c =
     let ran = c.in-Ok.ensures in
+    let same = c.into_counted.ensures in
     let seats = c.in-Ok.ran.seats in
     let ends = seats.services.items in
     let config = c.args.serving.config.now in
@@ -51,10 +56,11 @@ returns-in-Ok g c =
                   (subst (λ list. Accounted g.J.StorePremises.trusted (terms_at at.0) end
                   (peer_of at.0) has.0 jobs list) at.2 has.1),
             );
-        accepted = ran.accepted;
-        posted = ran.posted;
-        mismatched_receipts = ran.mismatched_receipts;
-        ids_stored_again = ran.ids_stored_again;
+        accepted = ap accepted_in same ∙ ran.accepted;
+        posted = ap (λ (counts : Counted). posts_in (posted_in counts)) same ∙ ran.posted
+            ∙ sym (ap accepted_in same);
+        mismatched_receipts = ap mismatched_receipts_of same ∙ ran.mismatched_receipts;
+        ids_stored_again = ap ids_stored_again_of same ∙ ran.ids_stored_again;
       };
       fault = tt;
     }
