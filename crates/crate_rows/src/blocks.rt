@@ -3,32 +3,32 @@
 
 use crate::runs::{number, octet};
 use cyc_block::{BLOCK_OCTETS, CHUNK_OCTETS, Stamp, block_image, read_image};
-use row_text::{Row, Sheet, place_of};
+use row_text::{Cells, Sheet, place_of};
 
 /// Writes the answer of a call.
-pub fn answer(call: &[u8], row: &mut Row<'_>) {
+pub fn answer(call: &[u8], cells: &Cells, sheet: &mut Sheet) {
     match place_of("image_read image_write", call) {
-        Some(0) => put_image(row.next(), &mut row.sheet),
-        Some(_) => put_image_of(row),
-        None => row.sheet.refuse(),
+        Some(0) => put_image(cells.next(), sheet),
+        Some(_) => put_image_of(cells, sheet),
+        None => sheet.refuse(),
     }
 }
 
 /// Writes the image of the block with the stamp of five cells and the payload of the last one.
-fn put_image_of(row: &mut Row<'_>) {
+fn put_image_of(cells: &Cells, sheet: &mut Sheet) {
     let stamp = Stamp {
-        cycle: number(row),
-        first: number(row),
-        index: number(row),
-        article_length: number(row),
-        class: octet(row),
+        cycle: number(cells, sheet),
+        first: number(cells, sheet),
+        index: number(cells, sheet),
+        article_length: number(cells, sheet),
+        class: octet(cells, sheet),
     };
-    let payload = row.next();
+    let payload = cells.next();
     if payload.is_empty() || payload.len() > CHUNK_OCTETS {
-        return row.sheet.refuse();
+        return sheet.refuse();
     }
     let block = block_image(&stamp, payload);
-    row.sheet.cell(without_zeros(&block));
+    sheet.cell(without_zeros(&block));
 }
 
 /// Writes the stamp and the payload of the image that a block has, or that it has none.

@@ -9,7 +9,7 @@ mod stops;
 mod texts;
 
 use line_words::is;
-use row_text::{Answers, Names, Row, copy_of, joined, place_of};
+use row_text::{Answers, Cells, Names, Sheet, copy_of, joined, place_of};
 use std::hash::RandomState;
 use std::io;
 use stops::Stops;
@@ -45,52 +45,52 @@ struct Rows {
 }
 
 impl Answers for Rows {
-    fn answer(&mut self, call: &[u8], row: &mut Row<'_>, names: &mut Names) {
+    fn answer(&mut self, call: &[u8], cells: &Cells, names: &mut Names, sheet: &mut Sheet) {
         if is(call, b"part") {
-            self.begin(row, names);
+            self.begin(cells, names, sheet);
         } else if is(call, b"text") && !matches!(self.part, Part::Stops) {
-            name(row, names);
+            name(cells, names, sheet);
         } else {
-            self.put(call, row);
+            self.put(call, cells, sheet);
         }
         // Of want of memory nothing is expected, so that no answer may stand in its place.
-        if says_memory(row.sheet.octets()) {
-            row.sheet.lack();
+        if says_memory(sheet.octets()) {
+            sheet.lack();
         }
     }
 }
 
 impl Rows {
     /// `part NAME`: the rows behind are of this part, and no text has a name.
-    fn begin(&mut self, row: &mut Row<'_>, names: &mut Names) {
-        self.part = match place_of("texts blocks sessions stops", row.next()) {
+    fn begin(&mut self, cells: &Cells, names: &mut Names, sheet: &mut Sheet) {
+        self.part = match place_of("texts blocks sessions stops", cells.next()) {
             Some(0) => Part::Texts,
             Some(1) => Part::Blocks,
             Some(2) => Part::Sessions,
             Some(_) => Part::Stops,
-            None => return row.sheet.refuse(),
+            None => return sheet.refuse(),
         };
         names.clear();
-        row.sheet.put(b"begins");
+        sheet.put(b"begins");
     }
 
     /// Writes the answer of a call of the part.
-    fn put(&mut self, call: &[u8], row: &mut Row<'_>) {
+    fn put(&mut self, call: &[u8], cells: &Cells, sheet: &mut Sheet) {
         match self.part {
-            Part::Texts => texts::answer(call, row),
-            Part::Blocks => blocks::answer(call, row),
-            Part::Sessions => sessions::answer(self.hasher, call, row),
-            Part::Stops => self.stops.answer(call, row),
+            Part::Texts => texts::answer(call, cells, sheet),
+            Part::Blocks => blocks::answer(call, cells, sheet),
+            Part::Sessions => sessions::answer(self.hasher, call, cells, sheet),
+            Part::Stops => self.stops.answer(call, cells, sheet),
         }
     }
 }
 
 /// `text NAME PARTS..`: names a text, and writes how many octets it has.
-fn name(row: &mut Row<'_>, names: &mut Names) {
-    let name = copy_of(row.next(), &mut row.sheet);
-    let octets = joined(row.rest(), &mut row.sheet);
-    row.sheet.number(octets.len() as u64);
-    names.name(name, octets, &mut row.sheet);
+fn name(cells: &Cells, names: &mut Names, sheet: &mut Sheet) {
+    let name = copy_of(cells.next(), sheet);
+    let octets = joined(cells.rest(), sheet);
+    sheet.number(octets.len() as u64);
+    names.name(name, octets, sheet);
 }
 
 /// Whether an answer has the fault `Memory`.

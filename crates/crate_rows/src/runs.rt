@@ -1,7 +1,7 @@
 //! Walks over a text, whose answers are written in runs.
 
 use line_words::is;
-use row_text::{Row, Sheet, copy_of};
+use row_text::{Cells, Sheet, copy_of};
 use std::alloc::Global;
 
 /// What is done to a text at a place.
@@ -102,11 +102,11 @@ fn put_between(between: &[u8], sheet: &mut Sheet) {
 }
 
 /// The number up to 2^32 - 1 that the next cell writes.
-pub fn number(row: &mut Row<'_>) -> u32 {
-    row.number(4_294_967_295) as u32
+pub fn number(cells: &Cells, sheet: &mut Sheet) -> u32 {
+    sheet.read_up_to(4_294_967_295, cells.next()) as u32
 }
 
 /// The number up to 255 that the next cell writes.
-pub fn octet(row: &mut Row<'_>) -> u8 {
-    row.number(255) as u8
+pub fn octet(cells: &Cells, sheet: &mut Sheet) -> u8 {
+    sheet.read_up_to(255, cells.next()) as u8
 }

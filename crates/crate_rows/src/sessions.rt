@@ -5,7 +5,7 @@ use id_history::{Offer, Take};
 use line_words::is;
 use peer_session::{Answer, Outcome, Session};
 use relay_conf::Config;
-use row_text::{Row, Sheet, place_of};
+use row_text::{Cells, Sheet, place_of};
 use std::hash::RandomState;
 
 /// The number of the session.
@@ -16,16 +16,16 @@ const MOMENT: u64 = 1_609_459_200;
 
 /// Writes the answer of a call: what a session of the first peer of K1 says that is sent this line,
 /// and whose steps hear these answers in turn.
-pub fn answer(hasher: RandomState, call: &[u8], row: &mut Row<'_>) {
+pub fn answer(hasher: RandomState, call: &[u8], cells: &Cells, sheet: &mut Sheet) {
     if !is(call, b"ask") {
-        return row.sheet.refuse();
+        return sheet.refuse();
     }
-    match Config::k1(row.sheet.alloc) {
+    match Config::k1(sheet.alloc) {
         Ok(config) => {
-            ask(hasher, &config, row.next(), row.rest(), &mut row.sheet);
+            ask(hasher, &config, cells.next(), cells.rest(), sheet);
             drop(config);
         }
-        Err(_) => row.sheet.lack(),
+        Err(_) => sheet.lack(),
     }
 }
 

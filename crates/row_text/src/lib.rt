@@ -4,14 +4,14 @@
 #![tactic(auto)]
 
 mod cell;
+mod cells;
 mod lists;
 mod names;
-mod row;
 mod rows;
 mod sheet;
 
+pub use cells::Cells;
 pub use lists::{add_octets, copy_of, joined, parts_of, place_of};
 pub use names::Names;
-pub use row::Row;
 pub use rows::{Answers, failed, play};
 pub use sheet::Sheet;

@@ -1,9 +1,9 @@
 //! Playing the rows of a text.
 
 use crate::cell::octets_of;
+use crate::cells::Cells;
 use crate::lists::add_octets;
 use crate::names::Names;
-use crate::row::Row;
 use crate::sheet::Sheet;
 use line_words::{cut, is_skipped};
 use std::io;
@@ -17,7 +17,7 @@ const MEMORY: u8 = 5;
 pub trait Answers {
     /// Writes the answer of a row with this call, in whose cells the texts stand that have a name.
     /// It has none where the call is not known.
-    fn answer(&mut self, call: &[u8], row: &mut Row<'_>, names: &mut Names);
+    fn answer(&mut self, call: &[u8], cells: &Cells, names: &mut Names, sheet: &mut Sheet);
 }
 
 /// Prints the lines of a text with an answer behind each row. A line that is empty or begins with
@@ -66,22 +66,25 @@ fn put_all<A: Answers>(answers: &mut A, lines: &[u8], sheet: &mut Sheet) {
 fn put_answer<A: Answers>(answers: &mut A, line: &[u8], names: &mut Names, sheet: &mut Sheet) {
     let (call, rest) = cut(line, b' ');
     let mut said = Sheet::new(sheet.alloc);
-    let cells = cells_of(rest, names, &mut said);
-    put_said(answers, call, Row::new(&cells, said), names, sheet);
+    let cells = Cells::new(cells_of(rest, names, &mut said));
+    put_said(answers, call, &cells, names, &mut said);
+    said.end(sheet);
 }
 
-/// Writes what a row is answered.
+/// Writes what a row is answered. It has no answer where not all its cells were read, or more.
 fn put_said<A: Answers>(
     answers: &mut A,
     call: &[u8],
-    mut row: Row<'_>,
+    cells: &Cells,
     names: &mut Names,
     sheet: &mut Sheet,
 ) {
-    if !row.sheet.is_spoilt() {
-        answers.answer(call, &mut row, names);
+    if !sheet.is_spoilt() {
+        answers.answer(call, cells, names, sheet);
     }
-    row.end(sheet);
+    if !cells.are_read() {
+        sheet.refuse();
+    }
 }
 
 /// The octets of the cells that follow a call, and of a name its text.

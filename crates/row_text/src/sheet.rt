@@ -13,13 +13,24 @@ const DIGITS: [u8; 16] = *b"0123456789ABCDEF";
 /// What is written as the answer of a row. No call of it has a result: want of memory, and that the
 /// row has no answer, are noted, and told at the end. So what answers a row writes line after line,
 /// and nothing has to be looked at in between.
-#[derive(Drop)]
 pub struct Sheet {
     /// Where the memory comes from.
     pub alloc: Global,
     octets: Vec<u8>,
     lacks: bool,
     refused: bool,
+}
+
+// Written out, so that no crate above proves anew how each part is let go.
+impl Drop for Sheet {
+    fn drop(self) {
+        let Sheet {
+            alloc: _,
+            octets: _,
+            lacks: _,
+            refused: _,
+        } = self;
+    }
 }
 
 impl Sheet {
@@ -146,9 +157,15 @@ impl Sheet {
 
     /// What is written, for another sheet, where the same is noted as here.
     pub fn onto(self, other: &mut Sheet) -> Vec<u8> {
-        other.lacks = other.lacks || self.lacks;
-        other.refused = other.refused || self.refused;
-        self.octets
+        let Sheet {
+            alloc: _,
+            octets,
+            lacks,
+            refused,
+        } = self;
+        other.lacks = other.lacks || lacks;
+        other.refused = other.refused || refused;
+        octets
     }
 
     /// Writes the answer on another sheet behind ` = `, `?` where the row has none; that memory ran

@@ -1,11 +1,11 @@
 //! The articles of a buffer. The text of an article is computed from its class and its octets.
 use crate::runs::{number, octet};
-use crate::stops::bench::{Bench, Store};
-use cyc_block::CHUNK_OCTETS;
+use crate::stops::bench::Bench;
+use cyc_block::{BlockStore, CHUNK_OCTETS};
 use cyc_buffer::{BufError, Buffer, Found, Open};
 use cyc_token::Token;
 use line_words::is;
-use row_text::{Row, Sheet};
+use row_text::{Cells, Sheet};
 
 /// How an article that was begun ends.
 #[derive(Clone, Copy)]
@@ -33,15 +33,15 @@ struct Stored {
 impl Bench {
     /// Writes the token under which an article is stored, or why it isn't. Of one that isn't
     /// finished so many blocks are written as the last cell says; one that is may begin a cycle.
-    pub(crate) fn store(&mut self, end: End, row: &mut Row<'_>) {
-        let class = octet(row);
-        let octets = number(row);
+    pub(crate) fn store(&mut self, end: End, cells: &Cells, sheet: &mut Sheet) {
+        let class = octet(cells, sheet);
+        let octets = number(cells, sheet);
         let mut blocks = u64::from(octets).div_ceil(CHUNK_OCTETS as u64);
         let mut is_fresh = false;
         if !matches!(end, End::Finished) {
-            blocks = row.number(u64::MAX);
-        } else if row.has_more() {
-            is_fresh = is(row.next(), b"fresh");
+            blocks = sheet.read(cells.next());
+        } else if cells.has_more() {
+            is_fresh = is(cells.next(), b"fresh");
         }
         let stored = Stored {
             class,
@@ -50,31 +50,25 @@ impl Bench {
             blocks,
             end,
         };
-        self.put_article(stored, &mut row.sheet);
+        self.put_article(stored, sheet);
     }
 
-    /// Begins an article, writes so many of its blocks, ends it so, and writes its token.
+    /// Stores an article in the buffer that runs, and writes its token.
     fn put_article(&mut self, stored: Stored, sheet: &mut Sheet) {
-        let Bench::Running(buffer) = self else {
-            return sheet.refuse();
-        };
-        if stored.octets == 0 {
-            return sheet.refuse();
-        }
-        match buffer.begin(stored.class, stored.octets, stored.is_fresh) {
-            Ok(open) => write_article(buffer, open, stored, sheet),
-            Err(error) => sheet.debug(&error),
+        match self {
+            Bench::Running(buffer) => begin_article(buffer, stored, sheet),
+            _ => sheet.refuse(),
         }
     }
 
     /// Writes what is read of the article under a token.
-    pub(crate) fn read(&mut self, row: &mut Row<'_>) {
-        match Token::parse(row.next()) {
+    pub(crate) fn read(&mut self, cells: &Cells, sheet: &mut Sheet) {
+        match Token::parse(cells.next()) {
             Ok(token) => {
-                let text = text_of(token.class, token.length, &mut row.sheet);
-                self.compare(&token, &text, &mut row.sheet);
+                let text = text_of(token.class, token.length, sheet);
+                self.compare(&token, &text, sheet);
             }
-            Err(_) => row.sheet.refuse(),
+            Err(_) => sheet.refuse(),
         }
     }
 
@@ -112,24 +106,44 @@ impl Bench {
 
     /// Writes the numbers of a buffer.
     pub(crate) fn put_numbers(&self, sheet: &mut Sheet) {
-        let buffer = match self {
-            Bench::Running(buffer) => buffer,
-            Bench::Unopened(buffer) => buffer.buffer(),
-            _ => return sheet.refuse(),
-        };
-        let numbers = [
-            u64::from(buffer.blocks()),
-            u64::from(buffer.cycle()),
-            buffer.front(),
-            buffer.begun(),
-            buffer.stored(),
-        ];
-        sheet.filled(b"blocks # cycle # front # begun # stored #", &numbers);
+        match self {
+            Bench::Running(buffer) => put_numbers_of(buffer, sheet),
+            Bench::Unopened(buffer) => put_numbers_of(buffer.buffer(), sheet),
+            _ => sheet.refuse(),
+        }
+    }
+}
+
+/// Writes the numbers of a buffer.
+fn put_numbers_of<S: BlockStore>(buffer: &Buffer<S>, sheet: &mut Sheet) {
+    let numbers = [
+        u64::from(buffer.blocks()),
+        u64::from(buffer.cycle()),
+        buffer.front(),
+        buffer.begun(),
+        buffer.stored(),
+    ];
+    sheet.filled(b"blocks # cycle # front # begun # stored #", &numbers);
+}
+
+/// Begins an article, writes so many of its blocks, ends it so, and writes its token.
+fn begin_article<S: BlockStore>(buffer: &mut Buffer<S>, stored: Stored, sheet: &mut Sheet) {
+    if stored.octets == 0 {
+        return sheet.refuse();
+    }
+    match buffer.begin(stored.class, stored.octets, stored.is_fresh) {
+        Ok(open) => write_article(buffer, open, stored, sheet),
+        Err(error) => sheet.debug(&error),
     }
 }
 
 /// Writes so many blocks of an article that was begun, ends it so, and writes its token.
-fn write_article(buffer: &mut Buffer<Store>, open: Open, stored: Stored, sheet: &mut Sheet) {
+fn write_article<S: BlockStore>(
+    buffer: &mut Buffer<S>,
+    open: Open,
+    stored: Stored,
+    sheet: &mut Sheet,
+) {
     let text = text_of(stored.class, stored.octets, sheet);
     if write_blocks(buffer, &open, &text, stored.blocks, sheet) {
         sheet.put(&ended(buffer, open, stored.end).to_text());
@@ -140,8 +154,8 @@ fn write_article(buffer: &mut Buffer<Store>, open: Open, stored: Stored, sheet: 
 
 /// Writes so many blocks of an article; where one fails, that is written, and the answer is
 /// `false`.
-fn write_blocks(
-    buffer: &mut Buffer<Store>,
+fn write_blocks<S: BlockStore>(
+    buffer: &mut Buffer<S>,
     open: &Open,
     text: &[u8],
     blocks: u64,
@@ -157,7 +171,7 @@ fn write_blocks(
 }
 
 /// Ends an article so, and gives its token.
-fn ended(buffer: &mut Buffer<Store>, open: Open, end: End) -> Token {
+fn ended<S: BlockStore>(buffer: &mut Buffer<S>, open: Open, end: End) -> Token {
     match end {
         End::Finished => buffer.finish(open),
         End::Abandoned => {

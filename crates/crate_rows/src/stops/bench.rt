@@ -3,7 +3,7 @@
 use crate::runs::{number, octet};
 use cyc_block::{FailAt, MemoryBlocks};
 use cyc_buffer::{Buffer, FormatError, Unopened};
-use row_text::{Row, Sheet};
+use row_text::{Cells, Sheet};
 use std::mem;
 
 /// Blocks in memory, a call of which can fail.
@@ -29,33 +29,33 @@ impl Bench {
     }
 
     /// Makes a device of so many blocks of zeros.
-    pub fn make(&mut self, row: &mut Row<'_>) {
-        if let Some(device) = zeros(number(row), &mut row.sheet) {
-            row.sheet.put(b"made");
+    pub fn make(&mut self, cells: &Cells, sheet: &mut Sheet) {
+        if let Some(device) = zeros(number(cells, sheet), sheet) {
+            sheet.put(b"made");
             self.set(Bench::Stopped(device));
         }
     }
 
     /// Makes a buffer of the number and at the cycle that the cells say, over a device of so many
     /// blocks, of which a call fails where one is named.
-    pub fn format(&mut self, row: &mut Row<'_>) {
-        let blocks = number(row);
-        let buffer = octet(row);
-        let cycle = number(row);
-        let failing = if row.has_more() {
-            row.number(u64::MAX)
+    pub fn format(&mut self, cells: &Cells, sheet: &mut Sheet) {
+        let blocks = number(cells, sheet);
+        let buffer = octet(cells, sheet);
+        let cycle = number(cells, sheet);
+        let failing = if cells.has_more() {
+            sheet.read(cells.next())
         } else {
             0
         };
-        if let Some(device) = zeros(blocks, &mut row.sheet) {
-            self.set(formatted(device, failing, buffer, cycle, &mut row.sheet));
+        if let Some(device) = zeros(blocks, sheet) {
+            self.set(formatted(device, failing, buffer, cycle, sheet));
         }
     }
 
     /// The call of the device of this number fails; with 0 none does.
-    pub fn fail(&mut self, row: &mut Row<'_>) {
-        self.arm(row.number(u64::MAX));
-        row.sheet.put(b"armed");
+    pub fn fail(&mut self, cells: &Cells, sheet: &mut Sheet) {
+        self.arm(sheet.read(cells.next()));
+        sheet.put(b"armed");
     }
 
     /// From here the call of the device of this number fails; but for a buffer whose head isn't

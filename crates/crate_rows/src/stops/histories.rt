@@ -6,7 +6,7 @@ use crate::stops::octets::octets_by;
 use crate::stops::steps::put_tokens;
 use id_history::{History, HistoryError, KeptFeed, KeptId, Setting, read, write};
 use line_words::is;
-use row_text::{Row, Sheet, joined, parts_of};
+use row_text::{Cells, Sheet, joined, parts_of};
 use std::alloc::Global;
 use std::mem;
 
@@ -34,20 +34,20 @@ impl Texts {
     }
 
     /// From here the setting is that of the cells.
-    pub fn set(&mut self, row: &mut Row<'_>) {
+    pub fn set(&mut self, cells: &Cells, sheet: &mut Sheet) {
         let setting = Setting {
-            buffers: number(row),
-            groups: numbers_of(row.next(), &mut row.sheet),
-            rings: numbers_of(row.next(), &mut row.sheet),
+            buffers: number(cells, sheet),
+            groups: numbers_of(cells.next(), sheet),
+            rings: numbers_of(cells.next(), sheet),
         };
         drop(mem::replace(&mut self.setting, setting));
-        row.sheet.put(b"set");
+        sheet.put(b"set");
     }
 
     /// From here the text is that whose digits stand in the cells.
-    pub fn name(&mut self, row: &mut Row<'_>) {
-        self.text = octets_by(&joined(row.rest(), &mut row.sheet), &mut row.sheet);
-        row.sheet.number(self.text.len() as u64);
+    pub fn name(&mut self, cells: &Cells, sheet: &mut Sheet) {
+        self.text = octets_by(&joined(cells.rest(), sheet), sheet);
+        sheet.number(self.text.len() as u64);
     }
 
     /// Writes the history that the text says, or that it says none.

@@ -6,7 +6,7 @@ use crate::stops::bench::Bench;
 use crate::stops::steps::{Step, start_in};
 use cyc_block::{BLOCK_OCTETS, BlockStore, head_count};
 use hex::FromHexError;
-use row_text::{Row, Sheet, place_of};
+use row_text::{Cells, Sheet, place_of};
 use std::alloc::AllocError;
 
 /// A block of a device.
@@ -18,13 +18,13 @@ enum Block {
 
 impl Bench {
     /// Writes the answer of the call of this place, which is of the block that two cells name.
-    pub(crate) fn answer_of_block(&mut self, place: usize, row: &mut Row<'_>) {
-        let block = block_in(row);
+    pub(crate) fn answer_of_block(&mut self, place: usize, cells: &Cells, sheet: &mut Sheet) {
+        let block = block_in(cells, sheet);
         match place {
-            9 => self.put_octets(block, &mut row.sheet),
-            10 => self.change(block, row),
-            11 => self.walk(block, Change::Turn(octet(row)), row),
-            _ => self.walk(block, Change::Cut, row),
+            9 => self.put_octets(block, sheet),
+            10 => self.change(block, cells, sheet),
+            11 => self.walk(block, Change::Turn(octet(cells, sheet)), cells, sheet),
+            _ => self.walk(block, Change::Cut, cells, sheet),
         }
     }
 
@@ -35,34 +35,31 @@ impl Bench {
     }
 
     /// Puts octets into a block from a place on.
-    fn change(&mut self, block: Block, row: &mut Row<'_>) {
-        let place = number(row) as usize;
-        let other = octets_by(row.next(), &mut row.sheet);
-        let octets = self.octets_of(block, &mut row.sheet);
-        let changed = with_part(octets, place, &other, &mut row.sheet);
-        self.put_block(block, &changed, &mut row.sheet);
-        row.sheet.put(b"put");
+    fn change(&mut self, block: Block, cells: &Cells, sheet: &mut Sheet) {
+        let place = number(cells, sheet) as usize;
+        let other = octets_by(cells.next(), sheet);
+        let octets = self.octets_of(block, sheet);
+        let changed = with_part(octets, place, &other, sheet);
+        self.put_block(block, &changed, sheet);
+        sheet.put(b"put");
     }
 
     /// Writes what a start answers with this change at each octet of a block in turn; it has zeros
     /// behind a cut. The block is then as it was.
-    fn walk(&mut self, block: Block, change: Change, row: &mut Row<'_>) {
-        let start = start_in(row);
-        let octets = self.octets_of(block, &mut row.sheet);
-        if row.sheet.is_spoilt() {
+    fn walk(&mut self, block: Block, change: Change, cells: &Cells, sheet: &mut Sheet) {
+        let start = start_in(cells, sheet);
+        let octets = self.octets_of(block, sheet);
+        if sheet.is_spoilt() {
             return;
         }
-        let mut runs = Runs::new(row.sheet.alloc, false, 0);
+        let mut runs = Runs::new(sheet.alloc, false, 0);
         for place in 0..BLOCK_OCTETS {
-            let other = block_of(
-                &changed(&octets, place, change, &mut row.sheet),
-                &mut row.sheet,
-            );
-            let said = self.said_of(block, &other, start, &mut row.sheet);
-            runs.add(said, &mut row.sheet);
+            let other = block_of(&changed(&octets, place, change, sheet), sheet);
+            let said = self.said_of(block, &other, start, sheet);
+            runs.add(said, sheet);
         }
-        runs.end(&mut row.sheet);
-        self.put_block(block, &octets, &mut row.sheet);
+        runs.end(sheet);
+        self.put_block(block, &octets, sheet);
     }
 
     /// What a start answers where a block has these octets. No buffer runs then.
@@ -116,14 +113,14 @@ impl Bench {
 }
 
 /// The block that the next two cells name.
-fn block_in(row: &mut Row<'_>) -> Block {
-    let kind = place_of("head block", row.next());
-    let block = number(row);
+fn block_in(cells: &Cells, sheet: &mut Sheet) -> Block {
+    let kind = place_of("head block", cells.next());
+    let block = number(cells, sheet);
     match kind {
         Some(0) => Block::Head(block),
         Some(_) => Block::Data(block),
         None => {
-            row.sheet.refuse();
+            sheet.refuse();
             Block::Data(block)
         }
     }

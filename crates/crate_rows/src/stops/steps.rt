@@ -4,7 +4,7 @@ use crate::runs::{Runs, number, octet};
 use crate::stops::bench::{Bench, Store};
 use cyc_buffer::{Buffer, Unopened};
 use cyc_token::Token;
-use row_text::{Row, Sheet, place_of};
+use row_text::{Cells, Sheet, place_of};
 use std::mem;
 
 /// A stop or a start.
@@ -27,19 +27,19 @@ const MOST_CALLS: u64 = 64;
 
 impl Bench {
     /// Writes what the step of this name answers.
-    pub fn put_step(&mut self, name: &[u8], row: &mut Row<'_>) {
-        match step_of(name, row) {
-            Some(step) => self.take_step(step, &mut row.sheet),
-            None => row.sheet.refuse(),
+    pub fn put_step(&mut self, name: &[u8], cells: &Cells, sheet: &mut Sheet) {
+        match step_of(name, cells, sheet) {
+            Some(step) => self.take_step(step, sheet),
+            None => sheet.refuse(),
         }
     }
 
     /// Writes what the step that the cells name answers with each call of the device failing in
     /// turn, the last time none.
-    pub fn put_each(&mut self, row: &mut Row<'_>) {
-        match step_of(row.next(), row) {
-            Some(step) => self.put_failing(step, &mut row.sheet),
-            None => row.sheet.refuse(),
+    pub fn put_each(&mut self, cells: &Cells, sheet: &mut Sheet) {
+        match step_of(cells.next(), cells, sheet) {
+            Some(step) => self.put_failing(step, sheet),
+            None => sheet.refuse(),
         }
     }
 
@@ -82,21 +82,25 @@ impl Bench {
 }
 
 /// The step of this name and these cells.
-fn step_of(name: &[u8], row: &mut Row<'_>) -> Option<Step> {
+fn step_of(name: &[u8], cells: &Cells, sheet: &mut Sheet) -> Option<Step> {
     let step = match place_of("shut restart start open leave", name)? {
-        0 => Step::Shut(row.number(u64::MAX)),
-        1 => Step::Restart(row.number(u64::MAX)),
-        2 => start_in(row),
+        0 => Step::Shut(sheet.read(cells.next())),
+        1 => Step::Restart(sheet.read(cells.next())),
+        2 => start_in(cells, sheet),
         3 => Step::Open,
         _ => Step::Leave,
     };
-    if row.are_read() { Some(step) } else { None }
+    if cells.are_read() && !sheet.is_spoilt() {
+        Some(step)
+    } else {
+        None
+    }
 }
 
 /// The start that the next two cells name.
-pub(crate) fn start_in(row: &mut Row<'_>) -> Step {
-    let buffer = octet(row);
-    let cycle = number(row);
+pub(crate) fn start_in(cells: &Cells, sheet: &mut Sheet) -> Step {
+    let buffer = octet(cells, sheet);
+    let cycle = number(cells, sheet);
     Step::Start(buffer, cycle)
 }
 

@@ -10,30 +10,24 @@ use path_rules::{identities, loops, updated};
 use row_text::Sheet;
 
 /// Writes the answer of a call of a text, behind these cells.
-pub fn of_text(call: usize, heads: [&[u8]; 2], octets: &[u8], sheet: &mut Sheet) {
+pub fn of_text(call: usize, first: &[u8], second: &[u8], octets: &[u8], sheet: &mut Sheet) {
     let fronts = octets.len().saturating_add(1);
     match call {
         17 => sheet.cell(octets),
         18 => sheet.debug(&Article::parse(sheet.alloc, octets).err()),
         19 => walk(Look::Article, octets, Change::Cut, fronts, sheet),
         20 => walk(Look::Overview, octets, Change::Cut, fronts, sheet),
-        25 => walk(
-            Look::Article,
-            octets,
-            put_first(heads[0]),
-            octets.len(),
-            sheet,
-        ),
-        28 => put_behind(heads[0], heads[1], octets, sheet),
-        _ => put_asked(call, heads, octets, sheet),
+        25 => walk(Look::Article, octets, put_first(first), octets.len(), sheet),
+        28 => put_behind(first, second, octets, sheet),
+        _ => put_asked(call, first, second, octets, sheet),
     }
 }
 
 /// Writes what is asked of an article, or the text's fault.
-fn put_asked(call: usize, heads: [&[u8]; 2], octets: &[u8], sheet: &mut Sheet) {
+fn put_asked(call: usize, first: &[u8], second: &[u8], octets: &[u8], sheet: &mut Sheet) {
     match Article::parse(sheet.alloc, octets) {
         Ok(article) => {
-            put_of(call, heads, &article, sheet);
+            put_of(call, first, second, &article, sheet);
             drop(article);
         }
         Err(error) => sheet.debug(&error),
@@ -41,8 +35,7 @@ fn put_asked(call: usize, heads: [&[u8]; 2], octets: &[u8], sheet: &mut Sheet) {
 }
 
 /// Writes what is asked of an article.
-fn put_of(call: usize, heads: [&[u8]; 2], article: &Article<'_>, sheet: &mut Sheet) {
-    let [first, second] = heads;
+fn put_of(call: usize, first: &[u8], second: &[u8], article: &Article<'_>, sheet: &mut Sheet) {
     match call {
         21 => put_parts(article, sheet),
         22 => put_groups(article, sheet),

@@ -2,38 +2,38 @@
 
 use crate::runs::Change;
 use crate::texts::walks::{Look, walk};
-use row_text::{Row, Sheet, add_octets};
+use row_text::{Cells, Sheet, add_octets};
 use stream_cut::{Block, Cut, Want, cut_all};
 
 /// Writes the answer of a call of pieces, which come behind a limit and what is wanted: what is cut
 /// off them, off a stream in pieces of a size that stands in front, or off one of two pieces.
-pub fn of_pieces(call: usize, row: &mut Row<'_>) {
+pub fn of_pieces(call: usize, cells: &Cells, sheet: &mut Sheet) {
     if call == 15 {
-        return put_stream(row);
+        return put_stream(cells, sheet);
     }
-    let limit = row.number(u64::MAX) as usize;
-    let wants = row.next();
+    let limit = sheet.read(cells.next()) as usize;
+    let wants = cells.next();
     if call == 14 {
-        return put_cuts(limit, wants, row.rest(), &mut row.sheet);
+        return put_cuts(limit, wants, cells.rest(), sheet);
     }
-    let stream = row.next();
+    let stream = cells.next();
     let look = Look::Pieces(stream, limit, wants);
     walk(
         look,
         stream,
         Change::Cut,
         stream.len().saturating_add(1),
-        &mut row.sheet,
+        sheet,
     );
 }
 
 /// Writes what is cut off a stream in pieces of a size.
-fn put_stream(row: &mut Row<'_>) {
-    let size = row.number(u64::MAX) as usize;
-    let limit = row.number(u64::MAX) as usize;
-    let wants = row.next();
-    let pieces = pieces_of(size, row.next(), &mut row.sheet);
-    put_cuts(limit, wants, &pieces, &mut row.sheet);
+fn put_stream(cells: &Cells, sheet: &mut Sheet) {
+    let size = sheet.read(cells.next()) as usize;
+    let limit = sheet.read(cells.next()) as usize;
+    let wants = cells.next();
+    let pieces = pieces_of(size, cells.next(), sheet);
+    put_cuts(limit, wants, &pieces, sheet);
 }
 
 /// Writes what is cut off these pieces, between square brackets.
