@@ -14,11 +14,10 @@ mod serving;
 mod waiting;
 
 use crate::print;
-use row_text::{Sheet, parts_of};
+use line_words::cut;
 use serving::played;
 use std::alloc::Global;
 use std::io;
-use std::io::ErrorKind;
 use std::random::RandomSource;
 use std::sync::Wait;
 use std::thread::Threads;
@@ -32,40 +31,28 @@ pub(crate) fn play<R>(rt: &R, alloc: Global, text: &[u8]) -> io::Result<()>
 where
     R: Threads + Wait + Clock + RandomSource + Print + Sync + 'static,
 {
-    let mut faults = Sheet::new(alloc);
-    let lines = parts_of(Some(text), b'\n', &mut faults);
-    if faults.is_spoilt() {
-        return Err(io::Error::from(ErrorKind::OutOfMemory));
-    }
-    print_rows(rt, alloc, &lines)
-}
-
-/// Plays the rows of these lines.
-fn print_rows<R>(rt: &R, alloc: Global, lines: &[&[u8]]) -> io::Result<()>
-where
-    R: Threads + Wait + Clock + RandomSource + Print + Sync + 'static,
-{
-    let mut begin = 0usize;
-    let mut end = 0usize;
-    for line in lines {
+    let mut row = text;
+    let mut unread = Some(text);
+    while let Some(rest) = unread {
+        let (line, after) = cut(rest, b'\n');
         if line.starts_with(MARK) {
-            print_row(rt, alloc, lines.get(begin..end).unwrap_or(&[]))?;
-            begin = end;
+            let count = row.len().saturating_sub(rest.len());
+            print_row(rt, alloc, row.get(..count).unwrap_or(b""))?;
+            row = rest;
         }
-        end = end.saturating_add(1);
+        unread = after;
     }
-    print_row(rt, alloc, lines.get(begin..).unwrap_or(&[]))
+    print_row(rt, alloc, row)
 }
 
 /// Plays the row of these lines, where they begin one.
-fn print_row<R>(rt: &R, alloc: Global, lines: &[&[u8]]) -> io::Result<()>
+fn print_row<R>(rt: &R, alloc: Global, lines: &[u8]) -> io::Result<()>
 where
     R: Threads + Wait + Clock + RandomSource + Print + Sync + 'static,
 {
-    match lines {
-        [head, lines @ ..] if head.starts_with(MARK) => {
-            print(rt, &played(rt, alloc, head, lines))
-        }
-        _ => Ok(()),
+    let (head, lines) = cut(lines, b'\n');
+    if !head.starts_with(MARK) {
+        return Ok(());
     }
+    print(rt, &played(rt, alloc, head, lines))
 }

@@ -5,6 +5,7 @@ use crate::clock::Hands;
 use crate::looks::{MOST_LOOKS, pause};
 use line_words::cut;
 use std::alloc::{AllocError, Global};
+use std::sync::atomic::{AtomicBool, AtomicU64, Ordering};
 use std::sync::{Mutex, Wait};
 use std::time::Clock;
 
@@ -53,9 +54,9 @@ pub(crate) struct Board {
     /// The rooms of the sessions, from number 1 on.
     pub(crate) rooms: Vec<Mutex<Room>>,
     /// A block is being written, or was.
-    is_writing: Mutex<bool>,
+    is_writing: AtomicBool,
     /// How often something was waited for in vain.
-    late: Mutex<u64>,
+    late: AtomicU64,
     pub(crate) clock: Hands,
 }
 
@@ -72,16 +73,15 @@ impl Board {
         }
         Ok(Board {
             rooms,
-            is_writing: Mutex::new(false),
-            late: Mutex::new(0),
+            is_writing: AtomicBool::new(false),
+            late: AtomicU64::new(0),
             clock: Hands::new(moment),
         })
     }
 
     /// The room of a session.
     fn room(&self, session: u64) -> Option<&Mutex<Room>> {
-        let at = usize::try_from(session.checked_sub(1)?).ok()?;
-        self.rooms.get(at)
+        self.rooms.get(session.wrapping_sub(1) as usize)
     }
 
     /// The session is written these octets.
@@ -107,26 +107,25 @@ impl Board {
     }
 
     /// A block is being written.
-    pub(crate) fn writing<R: Wait>(&self, rt: &R) {
-        *self.is_writing.lock(rt) = true;
+    pub(crate) fn writing(&self) {
+        self.is_writing.store(true, Ordering::SeqCst);
     }
 
     /// Something was waited for in vain.
-    pub(crate) fn gave_up<R: Wait>(&self, rt: &R) {
-        let mut late = self.late.lock(rt);
-        *late = late.saturating_add(1);
+    pub(crate) fn gave_up(&self) {
+        self.late.fetch_add(1, Ordering::SeqCst);
     }
 
     /// How often something was waited for in vain.
-    pub(crate) fn late<R: Wait>(&self, rt: &R) -> u64 {
-        *self.late.lock(rt)
+    pub(crate) fn late(&self) -> u64 {
+        self.late.load(Ordering::SeqCst)
     }
 
     /// Whether the sign is there. That of a session that isn't there is.
     fn shows<R: Wait>(&self, rt: &R, sign: Sign) -> bool {
         let session = match sign {
             Sign::Always => return true,
-            Sign::Writing => return *self.is_writing.lock(rt),
+            Sign::Writing => return self.is_writing.load(Ordering::SeqCst),
             Sign::Greeted(session) | Sign::Sent(session) | Sign::Told(session, _) => session,
         };
         match self.room(session) {
@@ -146,7 +145,7 @@ impl Board {
             }
             pause(rt);
         }
-        self.gave_up(rt);
+        self.gave_up();
     }
 }
 

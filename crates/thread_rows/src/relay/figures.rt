@@ -5,11 +5,11 @@ use block_shelf::BufferFigures;
 use cyc_block::BlockStore;
 use feed_queue::Counts as FeedCounts;
 use id_history::Counts as IdCounts;
-use line_words::number_within;
+use line_words::{cut, number_within};
 use live_store::StorePremises;
 use relay_conf::Config;
 use relay_live::{Counted, Shared};
-use row_text::{Sheet, parts_of};
+use row_text::Sheet;
 use std::sync::Wait;
 use std::sync::ledger::Ledger;
 
@@ -69,33 +69,38 @@ fn put_run(sheet: &mut Sheet, run: u64) {
 fn put_codes<R: Wait>(rt: &R, sheet: &mut Sheet, board: &Board) {
     let mut counts = [0u64; 600];
     for room in &board.rooms {
-        count_codes(&mut counts, room.lock(rt).written.as_slice(), sheet);
+        count_codes(&mut counts, room.lock(rt).written.as_slice());
     }
-    for (code, count) in counts.iter().enumerate() {
+    let mut code = 0u64;
+    for count in &counts {
         if *count > 0 {
-            sheet.filled(b"#: # times\n", &[code as u64, *count]);
+            sheet.filled(b"#: # times\n", &[code, *count]);
         }
+        code = code.saturating_add(1);
     }
 }
 
 /// Counts the codes of a text's lines.
-fn count_codes(counts: &mut [u64; 600], written: &[u8], sheet: &mut Sheet) {
-    for line in &parts_of(Some(written), b'\n', sheet) {
+fn count_codes(counts: &mut [u64; 600], written: &[u8]) {
+    let mut unread = Some(written);
+    while let Some(rest) = unread {
+        let (line, after) = cut(rest, b'\n');
         let code = number_within(100, 599, line.get(..3).unwrap_or(b""));
         if let Some(count) = counts.get_mut(code.unwrap_or(600) as usize) {
             *count = count.saturating_add(1);
         }
+        unread = after;
     }
 }
 
 /// Writes what the seats were counted to, and how often something was waited for in vain.
-pub(crate) fn put_counted<R: Wait>(rt: &R, sheet: &mut Sheet, board: &Board, counted: &Counted) {
+pub(crate) fn put_counted(sheet: &mut Sheet, board: &Board, counted: &Counted) {
     let numbers = [counted.accepted(), counted.posted().count()];
     sheet.filled(b"accepted # posted # mismatched receipts ", &numbers);
     sheet.debug(&counted.mismatched_receipts());
     sheet.put(b" ids stored again ");
     sheet.debug(&counted.ids_stored_again());
-    sheet.numbered(b" late ", board.late(rt));
+    sheet.numbered(b" late ", board.late());
     sheet.put(b"\n");
 }
 

@@ -3,7 +3,8 @@
 use crate::looks::{MOST_LOOKS, pause};
 use crate::relay::board::Board;
 use live_session::{Command, Gate};
-use std::sync::{Mutex, Wait};
+use std::sync::Wait;
+use std::sync::atomic::{AtomicUsize, Ordering};
 use std::time::Clock;
 
 /// The place of a session's end among its commands: the session has returned.
@@ -39,7 +40,7 @@ impl Turn {
 }
 
 /// How a gate lets commands in.
-#[derive(Clone, Copy, PartialEq, Eq)]
+#[derive(Clone, Copy)]
 pub(crate) enum Manner {
     /// One after the other, in an order.
     ByTurns,
@@ -55,8 +56,8 @@ pub(crate) struct Turns<'a> {
     board: &'a Board,
     manner: Manner,
     order: &'a [Turn],
-    /// How many turns are done.
-    done: Mutex<usize>,
+    /// How many turns are done. Only the thread of the session whose turn is next changes it.
+    done: AtomicUsize,
 }
 
 impl<'a> Turns<'a> {
@@ -66,43 +67,55 @@ impl<'a> Turns<'a> {
             board,
             manner,
             order,
-            done: Mutex::new(0),
+            done: AtomicUsize::new(0),
         }
     }
 
+    /// The next turn.
+    fn next(&self) -> Option<&Turn> {
+        self.order.get(self.done.load(Ordering::SeqCst))
+    }
+
+    /// The turns up to this place are done.
+    fn end(&self, place: usize) {
+        self.done.store(place.saturating_add(1), Ordering::SeqCst);
+    }
+
+    /// The next turn is done.
+    fn end_next(&self) {
+        self.end(self.done.load(Ordering::SeqCst));
+    }
+
     /// Lets the command in where it is its turn.
-    fn lets_in<R: Wait>(&self, rt: &R, session: u64, command: u64) -> bool {
-        let mut done = self.done.lock(rt);
-        let Some(turn) = self.order.get(*done) else {
-            return false;
-        };
-        if !turn.is_of(session, command) {
-            return false;
+    fn lets_in(&self, session: u64, command: u64) -> bool {
+        match self.next() {
+            Some(turn) if turn.is_of(session, command) => {
+                if turn.is_beside {
+                    self.end_next();
+                }
+                true
+            }
+            _ => false,
         }
-        if turn.is_beside {
-            *done = done.saturating_add(1);
-        }
-        true
     }
 
     /// Waits for the command's turn; false where that doesn't come.
     pub(crate) fn wait<R: Wait + Clock>(&self, rt: &R, session: u64, command: u64) -> bool {
         for _look in 0..MOST_LOOKS {
-            if self.lets_in(rt, session, command) {
+            if self.lets_in(session, command) {
                 return true;
             }
             pause(rt);
         }
-        self.board.gave_up(rt);
+        self.board.gave_up();
         false
     }
 
     /// Where it is the command's turn, that is done.
-    pub(crate) fn answered<R: Wait>(&self, rt: &R, session: u64, command: u64) {
-        let mut done = self.done.lock(rt);
-        if let Some(turn) = self.order.get(*done) {
+    pub(crate) fn answered(&self, session: u64, command: u64) {
+        if let Some(turn) = self.next() {
             if turn.is_of(session, command) {
-                *done = done.saturating_add(1);
+                self.end_next();
             }
         }
     }
@@ -114,12 +127,12 @@ impl<'a> Turns<'a> {
             return;
         };
         for _look in 0..MOST_LOOKS {
-            if self.goes_past(rt, session, at) {
+            if self.goes_past(session, at) {
                 return;
             }
             pause(rt);
         }
-        self.board.gave_up(rt);
+        self.board.gave_up();
     }
 
     /// The place in the order of the turn in which the session has returned.
@@ -135,11 +148,10 @@ impl<'a> Turns<'a> {
     }
 
     /// Where the next turn is the session's, its turns up to this place are done.
-    fn goes_past<R: Wait>(&self, rt: &R, session: u64, at: usize) -> bool {
-        let mut done = self.done.lock(rt);
-        match self.order.get(*done) {
+    fn goes_past(&self, session: u64, at: usize) -> bool {
+        match self.next() {
             Some(turn) if turn.session == session => {
-                *done = at.saturating_add(1);
+                self.end(at);
                 true
             }
             _ => false,
@@ -162,10 +174,10 @@ impl<R: Wait + Clock> Gate<R> for Turns<'_> {
     }
 
     fn is_one_by_one(&self) -> bool {
-        self.manner != Manner::Open
+        !matches!(self.manner, Manner::Open)
     }
 
-    fn leave(&self, rt: &R, command: Command) {
-        self.answered(rt, command.session(), command.number())
+    fn leave(&self, _rt: &R, command: Command) {
+        self.answered(command.session(), command.number())
     }
 }

@@ -117,7 +117,7 @@ impl<'a, R: Wait + Clock + Sync> Connections<R> for Visit<'a, R> {
         if let Some(moment) = script.comes {
             self.turns.wait(rt, self.number, COMES);
             self.board.clock.set(moment);
-            self.turns.answered(rt, self.number, COMES);
+            self.turns.answered(self.number, COMES);
         }
         let voice = Voice {
             rt: self.rt,

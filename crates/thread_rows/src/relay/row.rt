@@ -8,7 +8,7 @@ use crate::relay::gate::{COMES, GONE, Manner, Turn};
 use crate::relay::script::Script;
 use crate::relay::waiting::Waits;
 use crate::words::{number_in, numbered, word_of};
-use line_words::{is_skipped, number_within, two_parts};
+use line_words::{cut, is_skipped, number_within, two_parts};
 use row_text::place_of;
 use std::alloc::Global;
 
@@ -50,11 +50,14 @@ pub(crate) struct Row {
 }
 
 impl Row {
-    /// The row of these lines.
-    pub(crate) fn read(alloc: Global, lines: &[&[u8]]) -> Row {
+    /// The row of these lines, without lines where there are none.
+    pub(crate) fn read(alloc: Global, lines: Option<&[u8]>) -> Row {
         let mut row = Row::new(alloc);
-        for line in lines {
+        let mut unread = lines;
+        while let Some(rest) = unread {
+            let (line, after) = cut(rest, b'\n');
             row.add(alloc, line);
+            unread = after;
         }
         row
     }

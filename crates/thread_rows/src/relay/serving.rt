@@ -1,5 +1,5 @@
 //! A row, played.
-ghost use Rattle.std.specs.Prelude.{◌≡◌, ◌<◌, length};
+ghost use Rattle.std.specs.Prelude.{◌≡◌, ◌<◌, All, length, map};
 ghost use Rattle.relay_live.specs.Holding.{has_buffer};
 ghost use Rattle.relay_live.specs.Making.{ends_in, slots_of};
 
@@ -12,6 +12,7 @@ use crate::relay::gate::{Manner, Turns};
 use crate::relay::rooms::Visit;
 use crate::relay::row::Row;
 use crate::relay::waiting::{Waiting, waiting_stores};
+use cyc_block::BlockStore;
 use line_words::is;
 use live_store::{ArticleLog, StorePremises};
 use relay_conf::Config;
@@ -29,7 +30,7 @@ use std::time::Clock;
 /// What a session waits for before it begins: where commands come by turns, that the one before it
 /// was greeted, so that sessions have numbers in this order.
 fn before(row: &Row, number: u64) -> Sign {
-    if row.manner == Manner::Open || number < 2 {
+    if matches!(row.manner, Manner::Open) || number < 2 {
         return Sign::Always;
     }
     Sign::Greeted(number.saturating_sub(1))
@@ -73,11 +74,11 @@ fn peer_sources_of<'a, R: Sync>(
 
 /// Serves the sessions of a row in threads, over what keeps their articles; none where memory or
 /// threads are missing.
-fn run<'a, J: StorePremises + Send + Sync, L: Ledger + Send + Sync, R>(
+fn run<'a, S: BlockStore + Drop + Send, J: StorePremises + Send + Sync, L: Ledger + Send + Sync, R>(
     rt: &'a R,
     alloc: Global,
     config: &'a Config,
-    keeper: &Keeper<'a, Waiting<'_, R>, J, L, Hands, ArticleLog>,
+    keeper: &Keeper<'a, S, J, L, Hands, ArticleLog>,
     all: Share<L>,
     board: &'a Board,
     row: &'a Row,
@@ -103,17 +104,22 @@ where
         peer_sources,
     };
     match serve_all(rt, alloc, keeper, serving, config.buffers.groups.len(), all) {
-        Ok(ran) => Some(ran.counted),
+        Ok(ran) => Some(ran.into_counted()),
         Err(_) => None,
     }
 }
 
 /// Serves the sessions of a row over what their threads share, and writes what came of it.
-fn put_served<J: StorePremises + Send + Sync, L: Ledger + Send + Sync, R>(
+fn put_served<
+    S: BlockStore + Drop + Send,
+    J: StorePremises + Send + Sync,
+    L: Ledger + Send + Sync,
+    R,
+>(
     rt: &R,
     sheet: &mut Sheet,
     config: &Config,
-    shared: &Shared<Waiting<'_, R>, J, L>,
+    shared: &Shared<S, J, L>,
     register: &ArticleLog,
     all: Share<L>,
     board: &Board,
@@ -133,39 +139,38 @@ where
         return sheet.refuse();
     };
     put_written(rt, sheet, board, row.is_counted);
-    put_counted(rt, sheet, board, &counted);
+    put_counted(sheet, board, &counted);
     put_figures(rt, sheet, shared, config);
     put_fetches(rt, sheet, shared, register, &row.fetches);
 }
 
-/// Serves the sessions of a row before a board, and writes what came of it.
-fn serve<J: StorePremises + Send + Sync, L: Ledger + Send + Sync, R>(
+/// Serves the sessions of a row over these stores, before a board, and writes what came of it.
+fn serve<S: BlockStore + Drop + Send, J: StorePremises + Send + Sync, L: Ledger + Send + Sync, R>(
     rt: &R,
     sheet: &mut Sheet,
     config: &Config,
     register: &ArticleLog,
+    stores: Vec<S>,
     blank: Blank,
     board: &Board,
     row: &Row,
-    failing: u64,
 )
 where
     R: Threads + Wait + Clock + RandomSource + Sync + 'static,
     requires register { register.now ≡ J.register }
     requires holds { J.holds ≡ has_buffer config.now.buffers }
+    requires stores { map (λ store. length (S.blocks store)) stores.items
+        ≡ map (λ buffer. buffer.blocks) config.now.buffers.buffers.items }
+    requires honest { All S.honest stores.items }
     requires name { blank.name ≡ L.name }
     requires parts { (blank.parts ≡ L.parts)
         × (blank.parts ≡ length config.now.buffers.groups.items)
         × (0 < length config.now.buffers.groups.items) }
 {
-    let alloc = sheet.alloc;
-    let Ok(stores) = waiting_stores(rt, alloc, board, &config.buffers, failing, row.waits) else {
-        return sheet.lack();
-    };
     let (book, all) = blank.open::<L>();
-    let made: Result<Shared<Waiting<'_, R>, J, L>, _> = Shared::new(
+    let made: Result<Shared<S, J, L>, _> = Shared::new(
         rt,
-        alloc,
+        sheet.alloc,
         config,
         stores,
         book,
@@ -217,16 +222,24 @@ where
     if groups == 0 {
         return sheet.refuse();
     }
-    let Ok(board) = Board::new(sheet.alloc, row.sessions.len(), row.moment) else {
+    let alloc = sheet.alloc;
+    let Ok(board) = Board::new(alloc, row.sessions.len(), row.moment) else {
         return sheet.lack();
     };
-    let blank = Blank::new(groups as u64);
-    serve::<Brand, Brand, R>(rt, sheet, config, register, blank, &board, row, failing);
+    match waiting_stores(rt, alloc, &board, &config.buffers, failing, row.waits) {
+        Ok(stores) => {
+            let blank = Blank::new(groups as u64);
+            serve::<Waiting<'_, R>, Brand, Brand, R>(
+                rt, sheet, config, register, stores, blank, &board, row,
+            );
+        }
+        Err(_) => sheet.lack(),
+    }
     drop(board);
 }
 
 /// Plays the row of these lines, and says what came of it behind the line that it begins with.
-pub(crate) fn played<R>(rt: &R, alloc: Global, head: &[u8], lines: &[&[u8]]) -> Sheet
+pub(crate) fn played<R>(rt: &R, alloc: Global, head: &[u8], lines: Option<&[u8]>) -> Sheet
 where
     R: Threads + Wait + Clock + RandomSource + Sync + 'static,
 {

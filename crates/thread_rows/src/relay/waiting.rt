@@ -51,7 +51,7 @@ impl<R: Wait + Clock + Sync> BlockStore for Waiting<'_, R> {
     }
 
     fn write(&mut self, k: u32, octets: &[u8; BLOCK_OCTETS]) -> Result<(), DeviceFailed> {
-        self.board.writing(self.rt);
+        self.board.writing();
         self.board.wait(self.rt, self.waits.writes);
         self.store.write(k, octets)
     }

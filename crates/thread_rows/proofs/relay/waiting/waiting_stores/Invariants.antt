@@ -6,4 +6,4 @@ use Rattle.thread_rows.proofs.relay.waiting.waiting_stores.Given as goal
 abbrev pub invariant-loop-buffer : goal.invariant-loop-buffer
 invariant-loop-buffer g l =
     map (λ waiting. length waiting.store.store.blocks.items) l.stores.items
-    ≡ map (λ (conf : BufferConf). conf.blocks) (take l.buffer-index l.settings.buffers.items)
+    ≡ map (λ (conf : BufferConf). conf.blocks) (take l.buffer-index l.buffer-items)
