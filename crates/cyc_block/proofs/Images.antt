@@ -1,7 +1,7 @@
 -- The octets of a block: what is written is the image, and what is read off an image is its block.
 use Rattle.std.proofs.Common.{◌≡◌, ◌∙◌, ℕ, ◌+◌, ◌-◌, ◌≤◌, List, [], ◌∷◌, ◌++◌, length, take, drop}
 use Rattle.std.proofs.Common.{replicate, get_or, append_assoc, refl, sym, ap, arith, Bool, true}
-use Rattle.std.proofs.Common.{false, not}
+use Rattle.std.proofs.Common.{false, not, All, suc}
 use Rattle.std.specs.Int.{w16, from_be_bytes}
 use Rattle.std.proofs.lemmas.Nat.{from_be_bytes-to_be_bytes_2}
 use Rattle.std.proofs.lemmas.List.{drop-replicate, drop-drop, length-drop, length-replicate}
@@ -117,3 +117,12 @@ payload_cut octets end b is_image is_end =
     ap (λ n. take n (drop HEAD_OCTETS octets)) is_end
     ∙ ap (λ (o : List ℕ). take (length b.payload) (drop HEAD_OCTETS o)) is_image
     ∙ payload_of_image b
+
+-- octets each of which is 0 are so many zeros
+pub zeros_alone : (octets : List ℕ) → All (λ octet. octet ≡ 0) octets
+    → octets ≡ replicate (length octets) 0
+zeros_alone [] all = refl
+zeros_alone (octet ∷ octets) all =
+    ap (λ (first : ℕ). first ∷ octets) (all 0 0 (omega arith))
+    ∙ ap (λ (rest : List ℕ). 0 ∷ rest)
+    (zeros_alone octets (λ k d h. all (suc k) d (omega (arith, h))))

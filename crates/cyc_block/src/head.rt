@@ -64,19 +64,37 @@ pub fn head_image(numbers: &HeadNumbers) -> [u8; BLOCK_OCTETS]
 fn places(numbers: &HeadNumbers) -> [u8; 24]
     ensures { result ≡ head_places (head_view numbers.now) }
 {
-    let blocks = numbers.blocks.to_be_bytes();
-    let first_cycle = numbers.first_cycle.to_be_bytes();
-    let cycle = numbers.cycle.to_be_bytes();
-    let head = numbers.head.to_be_bytes();
-    let mut octets = [0u8; 24];
-    octets[..4].copy_from_slice(b"CNH1");
-    octets[4] = state_octet(numbers.state);
-    octets[5] = numbers.number;
-    octets[8..12].copy_from_slice(&blocks);
-    octets[12..16].copy_from_slice(&first_cycle);
-    octets[16..20].copy_from_slice(&cycle);
-    octets[20..24].copy_from_slice(&head);
-    octets
+    let [b0, b1, b2, b3] = numbers.blocks.to_be_bytes();
+    let [f0, f1, f2, f3] = numbers.first_cycle.to_be_bytes();
+    let [c0, c1, c2, c3] = numbers.cycle.to_be_bytes();
+    let [h0, h1, h2, h3] = numbers.head.to_be_bytes();
+    let state = state_octet(numbers.state);
+    [
+        b'C',
+        b'N',
+        b'H',
+        b'1',
+        state,
+        numbers.number,
+        0,
+        0,
+        b0,
+        b1,
+        b2,
+        b3,
+        f0,
+        f1,
+        f2,
+        f3,
+        c0,
+        c1,
+        c2,
+        c3,
+        h0,
+        h1,
+        h2,
+        h3,
+    ]
 }
 
 /// The octets of the number of the stop and of the counts.

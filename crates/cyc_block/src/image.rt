@@ -1,4 +1,4 @@
-ghost use Rattle.std.specs.Prelude.{◌≡◌, ◌≤◌, ◌↔◌, List, ℕ, length, replicate, IfSome, IsSomeAnd};
+ghost use Rattle.std.specs.Prelude.{◌≡◌, ◌≤◌, ◌↔◌, All, List, ℕ, length, IfSome, IsSomeAnd};
 ghost use Rattle.std.specs.Prelude.{IsTrue};
 ghost use Rattle.news_terms.specs.BlockImage.{Block, IsBlock, block_image as image_of, block_head};
 ghost use Rattle.news_terms.specs.BlockImage.{chunk_size};
@@ -75,11 +75,16 @@ pub fn read_image(image: &[u8; BLOCK_OCTETS]) -> Option<Image<'_>>
     })
 }
 
-/// Whether all octets are 0.
-fn are_zeros(octets: &[u8]) -> bool
-    ensures { IsTrue result ↔ (octets.now ≡ replicate (length octets.now) 0) }
+/// Whether each octet is 0.
+pub fn are_zeros(octets: &[u8]) -> bool
+    ensures { IsTrue result ↔ All (λ octet. octet ≡ 0) octets.now }
 {
-    octets.iter().all(|octet| *octet == 0)
+    for octet in octets {
+        if *octet != 0 {
+            return false;
+        }
+    }
+    true
 }
 
 /// The stamp that the octets of a block say.
@@ -100,18 +105,43 @@ fn head(stamp: &Stamp, used: u16) -> [u8; HEAD_OCTETS]
     ensures { (payload : List ℕ) → length payload ≡ used
         → result ≡ block_head (stamped stamp.now payload) }
 {
-    let cycle = stamp.cycle.to_be_bytes();
-    let first = stamp.first.to_be_bytes();
-    let index = stamp.index.to_be_bytes();
-    let length = stamp.article_length.to_be_bytes();
-    let used = used.to_be_bytes();
-    let mut head = [0u8; HEAD_OCTETS];
-    head[..4].copy_from_slice(b"CNB1");
-    head[4..8].copy_from_slice(&cycle);
-    head[8..12].copy_from_slice(&first);
-    head[12..16].copy_from_slice(&index);
-    head[16..20].copy_from_slice(&length);
-    head[20..22].copy_from_slice(&used);
-    head[22] = stamp.class;
-    head
+    let [c0, c1, c2, c3] = stamp.cycle.to_be_bytes();
+    let [f0, f1, f2, f3] = stamp.first.to_be_bytes();
+    let [i0, i1, i2, i3] = stamp.index.to_be_bytes();
+    let [l0, l1, l2, l3] = stamp.article_length.to_be_bytes();
+    let [u0, u1] = used.to_be_bytes();
+    [
+        b'C',
+        b'N',
+        b'B',
+        b'1',
+        c0,
+        c1,
+        c2,
+        c3,
+        f0,
+        f1,
+        f2,
+        f3,
+        i0,
+        i1,
+        i2,
+        i3,
+        l0,
+        l1,
+        l2,
+        l3,
+        u0,
+        u1,
+        stamp.class,
+        0,
+        0,
+        0,
+        0,
+        0,
+        0,
+        0,
+        0,
+        0,
+    ]
 }

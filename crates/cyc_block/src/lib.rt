@@ -15,7 +15,7 @@ mod tally;
 
 pub use failing::FailAt;
 pub use head::{HeadNumbers, HeadState, head_count, head_image, read_head_image};
-pub use image::{Image, Stamp, block_image, read_image};
+pub use image::{Image, Stamp, are_zeros, block_image, read_image};
 pub use memory::MemoryBlocks;
 pub use store::{BlockStore, DeviceFailed};
 pub use tally::Tally;

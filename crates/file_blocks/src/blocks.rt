@@ -7,7 +7,7 @@ ghost use Rattle.file_blocks.specs.Host.{asked_of, held_identity, identity_of};
 
 use crate::host::{HeldFile, HostFile, Unusable};
 use crate::octets::OctetFile;
-use cyc_block::{BLOCK_OCTETS, BlockStore, DeviceFailed, head_count};
+use cyc_block::{BLOCK_OCTETS, BlockStore, DeviceFailed, are_zeros, head_count};
 
 /// The first blocks of a file: block k has the 512 octets from 512 k on. Its head blocks follow
 /// them.
@@ -61,20 +61,8 @@ impl<F: OctetFile> FileBlocks<F> {
     {
         let mut octets = [0; BLOCK_OCTETS];
         self.file.read(place, &mut octets)?;
-        Ok(is_zero(&octets))
+        Ok(are_zeros(&octets))
     }
-}
-
-/// Whether each octet is 0.
-fn is_zero(octets: &[u8]) -> bool
-    ensures { IsTrue result ↔ All (λ octet. octet ≡ 0) octets.now }
-{
-    for octet in octets {
-        if *octet != 0 {
-            return false;
-        }
-    }
-    true
 }
 
 impl FileBlocks<HostFile> {

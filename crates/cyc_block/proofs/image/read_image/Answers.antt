@@ -1,13 +1,14 @@
 -- An image says its own stamp and payload, and what stands around the payload.
-use Rattle.std.proofs.Common.{◌∙◌, ℕ, ◌+◌, ◌-◌, ◌≤◌, List, length, take, drop, replicate, not}
-use Rattle.std.proofs.Common.{sym, ap, arith, rules}
+use Rattle.std.proofs.Common.{◌≡◌, ◌∙◌, ℕ, ◌+◌, ◌-◌, ◌≤◌, List, length, take, drop, replicate, not}
+use Rattle.std.proofs.Common.{sym, ap, arith, rules, All, refl, subst}
+use Rattle.std.proofs.lemmas.List.Elements.{All-replicate}
 use Rattle.std.proofs.lemmas.Bool.{false≢true}
 use Rattle.std.proofs.lemmas.Slice.Eq.{bytes_eq-Decides}
 use Rattle.news_terms.specs.BlockImage.{chunk_size}
 use Rattle.cyc_block.specs.Image.{stamped}
 use Rattle.cyc_block.specs.declared.image.TheConstants.{HEAD_OCTETS}
 use Rattle.cyc_block.proofs.Images.{used_of_image, payload_cut, head_of_image, zeros_of_image}
-use Rattle.cyc_block.proofs.Images.{joined_image, behind, cut_length, not_false}
+use Rattle.cyc_block.proofs.Images.{joined_image, behind, cut_length, not_false, zeros_alone}
 use Rattle.cyc_block.proofs.image.read_image.Goals as goal
 
 pub returns-then-ne-clause-read : goal.returns-then-ne-clause-read
@@ -26,9 +27,10 @@ returns-then-not-are_zeros-clause-read c b h e =
     let image = c.args.image.now in
     let used = c.from-end.ensures ∙ c.from_be_bytes-used.ensures ∙ used_of_image image b h e in
     let rest = behind image (HEAD_OCTETS + c.from-end.result) c.told-image in
+    let zeros = rest ∙ zeros_of_image image c.from-end.result b e used in
     absurd (false≢true (sym c.if-not-are_zeros.true ∙ c.are_zeros.ensures.1
-    (rest ∙ zeros_of_image image c.from-end.result b e used
-    ∙ ap (λ (o : List ℕ). replicate (length o) 0) (sym rest))))
+    (subst (All (λ (octet : ℕ). octet ≡ 0)) (sym zeros)
+    (All-replicate (λ (octet : ℕ). octet ≡ 0) _ 0 refl))))
 
 pub returns-clause-image : goal.returns-clause-image
 returns-clause-image c =
@@ -45,7 +47,7 @@ returns-clause-image c =
       joined_image image c.head.result c.read_stamp-stamp.result used cut c.told-image
           room (omega arith) first
           (c.head.ensures (take cut (drop HEAD_OCTETS image)) (size ∙ c.from-end.ensures))
-          (sym rest ∙ c.are_zeros.ensures.0 c.if-not-are_zeros.false
+          (sym rest ∙ zeros_alone _ (c.are_zeros.ensures.0 c.if-not-are_zeros.false)
           ∙ ap (λ (o : List ℕ). replicate (length o) 0) rest),
     )
 

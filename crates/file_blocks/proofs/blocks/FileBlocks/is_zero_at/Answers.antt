@@ -5,5 +5,5 @@ use Rattle.file_blocks.proofs.blocks.FileBlocks.is_zero_at.Goals as goal
 -- what was read is tested
 pub returns-clause-zero : goal.returns-clause-zero
 returns-clause-zero g c = λ honest.
-    subst (λ (octets : List ℕ). IsTrue c.is_zero.result ↔ All (λ octet. octet ≡ 0) octets)
-    (c.in_ok-read.ensures.octets honest) c.is_zero.ensures
+    subst (λ (octets : List ℕ). IsTrue c.are_zeros.result ↔ All (λ octet. octet ≡ 0) octets)
+    (c.in_ok-read.ensures.octets honest) c.are_zeros.ensures

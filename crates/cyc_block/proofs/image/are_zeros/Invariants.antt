@@ -1,5 +1,5 @@
 use Rattle.std.proofs.Common.{◌≡◌, ◌<◌, ℕ, get_or}
-use Rattle.file_blocks.proofs.blocks.is_zero.Given as goal
+use Rattle.cyc_block.proofs.image.are_zeros.Given as goal
 
 -- each octet is 0 so far
 abbrev pub invariant-loop-octet : goal.invariant-loop-octet

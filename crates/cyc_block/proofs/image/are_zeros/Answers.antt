@@ -2,7 +2,7 @@
 use Rattle.std.proofs.Common.{◌≡◌, ◌∙◌, ℕ, get_or, refl, arith}
 use Rattle.std.proofs.lemmas.List.{get_or_default}
 use borrow.Author.Count.{below_more}
-use Rattle.file_blocks.proofs.blocks.is_zero.Goals as goal
+use Rattle.cyc_block.proofs.image.are_zeros.Goals as goal
 
 pub returns : goal.returns
 returns c = (
