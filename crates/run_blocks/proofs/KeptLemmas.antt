@@ -1,10 +1,11 @@
 -- Which blocks are in memory alone after a call.
-use Rattle.std.proofs.Common.{◌≡◌, ◌∙◌, ◌+◌, ◌<◌, inl, inr, ℕ, List, []}
-use Rattle.std.proofs.Common.{length, sym, ap, subst, arith, Result, Ok, Err, OnErr, OnOk}
+use Rattle.std.proofs.Common.{◌≡◌, ◌∙◌, ◌+◌, ◌-◌, ◌<◌, ◌≤◌, inl, inr, ℕ, List}
+use Rattle.std.proofs.Common.{[], length, sym, ap, subst, arith, Result, Ok, Err, OnErr, OnOk}
 use Rattle.std.proofs.lemmas.Bool.{cases_lt}
 use Rattle.file_blocks.proofs.CutLemmas.{length-blocks_of}
 use Rattle.run_blocks.specs.Run.{Holds}
-use Rattle.run_blocks.specs.Store.{AreWritten, IsSetAside, KeepsAside, gathered_of}
+use Rattle.run_blocks.specs.Store.{AreWritten, IsSetAside, KeepsAside, PassesBy}
+use Rattle.run_blocks.specs.Store.{gathered_of}
 use Rattle.run_blocks.specs.declared.run.Run.{Run}
 use Rattle.run_blocks.specs.declared.store.RunBlocks.{RunBlocks}
 
@@ -56,3 +57,18 @@ keeps_on k old mid new run aside kept = record {
       (kept.rest (sym aside ∙ stays) j other was);
   aside = λ j held. aside ∙ kept.aside j (subst (λ (r : Run). Holds r j) run held);
 }
+
+-- where a block from this one on up to block k is in memory alone, and block k isn't the first of
+-- these, a write of block k waits
+pub not_passed : {F : Type 0} (k index from : ℕ) (store : RunBlocks F) → 0 < store.gathered.count
+    → ¬ (store.gathered.first ≡ k) → from ≡ k - index → store.gathered.first ≤ k
+    → from < store.gathered.first + store.gathered.count → ¬ PassesBy k index store
+not_passed k index from store some other at begins ends passes = elim passes [
+  | inl same ↦ other (sym same)
+  | inr written ↦ elim (cases_lt store.gathered.first from) [
+    | inl later ↦ written from (omega (arith, at)) (omega (arith, at))
+        (omega (arith, later), ends)
+    | inr none ↦ written store.gathered.first (omega (arith, at, none)) begins
+        (omega arith, omega (arith, some))
+  ]
+]

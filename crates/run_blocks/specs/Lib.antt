@@ -3,3 +3,4 @@ pub mod File
 pub mod Overlay
 pub mod Run
 pub mod Store
+pub mod Writing

@@ -2,7 +2,6 @@
 ghost use Rattle.std.specs.Prelude.{◌≡◌, ◌<◌, ◌+◌, ◌*◌, ◌≤◌, ℕ, [], slice_set, OnErr, OnOk};
 ghost use Rattle.news_terms.specs.BlockImage.{Block, IsBlock, block_image as image_of};
 ghost use Rattle.news_terms.specs.BlockImage.{chunk_size};
-ghost use Rattle.cyc_block.specs.Store.{ChangesOnly};
 
 use crate::file::RunFile;
 use crate::last::octets_left;
@@ -12,19 +11,13 @@ use cyc_block::{BLOCK_OCTETS, DeviceFailed};
 use file_blocks::place_of;
 
 impl<F: RunFile> RunBlocks<F> {
-    ghost use Rattle.run_blocks.specs.Store.{asked_of, gathered_of, blocks_seen, heads_seen};
-    ghost use Rattle.run_blocks.specs.Store.{IsHonest, AsksFile, CanTake, KeepsBlocks};
-    ghost use Rattle.run_blocks.specs.Store.{IsInMemory, IsSetAside, WritesBlock};
+    ghost use Rattle.run_blocks.specs.Store.{asked_of, gathered_of, blocks_seen, AsksFile};
+    ghost use Rattle.run_blocks.specs.Store.{CanTake, IsInMemory, IsSetAside, WritesBlock};
+    ghost use Rattle.run_blocks.specs.Writing.{MakesRoom, Settles, WritesRun};
 
     /// Writes what is gathered, in one call of the file. After a failure it is set aside.
     pub(crate) fn write_run(&mut self) -> Result<(), DeviceFailed>
-        ensures seen { KeepsBlocks F.RunFile self.old self.new }
-        ensures written { OnOk result (gathered_of self.new ≡ []) }
-        ensures none { OnOk result (self.new.gathered.count ≡ 0) }
-        ensures kept { OnErr result (self.new.gathered ≡ self.old.gathered) }
-        ensures aside { OnErr result (IsSetAside self.new) }
-        ensures asked { asked_of self.new ≡ asked_of self.old }
-        ensures file { AsksFile F.RunFile 1 self.old self.new result }
+        ensures { WritesRun F.RunFile self.old self.new result }
     {
         if self.gathered.count == 0 {
             return Ok(());
@@ -59,11 +52,7 @@ impl<F: RunFile> RunBlocks<F> {
     /// Makes room for block k behind what is gathered: where it doesn't follow that, this is
     /// written first.
     pub(crate) fn make_room(&mut self, k: u32) -> Result<(), DeviceFailed>
-        ensures seen { KeepsBlocks F.RunFile self.old self.new }
-        ensures room { OnOk result (CanTake self.new k) }
-        ensures aside { OnErr result (IsSetAside self.new) }
-        ensures asked { asked_of self.new ≡ asked_of self.old }
-        ensures file { AsksFile F.RunFile 1 self.old self.new result }
+        ensures { MakesRoom F.RunFile k self.old self.new result }
     {
         if self.gathered.takes(k) {
             return Ok(());
@@ -92,21 +81,7 @@ impl<F: RunFile> RunBlocks<F> {
     /// others are set aside.
     pub(crate) fn settle(&mut self, octets: &[u8; BLOCK_OCTETS]) -> Result<(), DeviceFailed>
         requires { 0 < self.old.gathered.count }
-        ensures written { IsHonest F.RunFile self.old
-            → OnOk result (blocks_seen F.RunFile self.new ≡ blocks_seen F.RunFile self.old) }
-        ensures others { IsHonest F.RunFile self.old
-            → (k : ℕ) → k + 1 ≡ self.old.gathered.first + self.old.gathered.count
-            → ChangesOnly k (blocks_seen F.RunFile self.old) (blocks_seen F.RunFile self.new) }
-        ensures heads { IsHonest F.RunFile self.old
-            → heads_seen F.RunFile self.new ≡ heads_seen F.RunFile self.old }
-        ensures honest { IsHonest F.RunFile self.old → IsHonest F.RunFile self.new }
-        ensures count { self.new.count ≡ self.old.count }
-        ensures last { (b : Block) → IsBlock b → octets.now ≡ image_of b
-            → b.article_length ≤ chunk_size * (b.index + 1)
-            → OnOk result (gathered_of self.new ≡ []) }
-        ensures aside { OnErr result ((j : ℕ) → IsInMemory self.new j → IsSetAside self.new) }
-        ensures asked { asked_of self.new ≡ asked_of self.old }
-        ensures file { AsksFile F.RunFile 1 self.old self.new result }
+        ensures { Settles F.RunFile octets.now self.old self.new result }
     {
         if self.gathered.count < RUN_BLOCKS && octets_left(octets) != 0 {
             return Ok(());

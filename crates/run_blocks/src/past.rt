@@ -1,5 +1,5 @@
 //! Blocks that are written past a run that is set aside.
-ghost use Rattle.std.specs.Prelude.{◌≡◌, ◌<◌, ◌+◌, ◌-◌, ℕ, [], OnErr, OnOk};
+ghost use Rattle.std.specs.Prelude.{◌≡◌, ◌<◌, ◌+◌, ◌-◌, OnOk};
 ghost use Rattle.news_terms.specs.BlockImage.{Block, IsBlock, block_image as image_of};
 ghost use Rattle.cyc_block.specs.Store.{block_at, ChangesOnly};
 
@@ -10,10 +10,10 @@ use cyc_block::{BLOCK_OCTETS, DeviceFailed};
 use file_blocks::place_of;
 
 impl<F: RunFile> RunBlocks<F> {
-    ghost use Rattle.run_blocks.specs.Store.{asked_of, gathered_of, blocks_seen, heads_seen};
-    ghost use Rattle.run_blocks.specs.Store.{blocks_there, IsHonest, AsksFile, KeepsBlocks};
-    ghost use Rattle.run_blocks.specs.Store.{IsInMemory, IsSetAside, AreWritten, PassesBy};
-    ghost use Rattle.run_blocks.specs.Store.{KeepsAside, StaysAside, WritesBlock};
+    ghost use Rattle.run_blocks.specs.Store.{asked_of, blocks_seen, blocks_there, IsHonest};
+    ghost use Rattle.run_blocks.specs.Store.{AsksFile, IsInMemory, IsSetAside, AreWritten};
+    ghost use Rattle.run_blocks.specs.Store.{PassesBy, KeepsAside, WritesBlock};
+    ghost use Rattle.run_blocks.specs.Writing.{ClearsWay, LetsGo};
 
     /// Writes block k into the file at once, where something is set aside.
     pub(crate) fn write_past(
@@ -43,18 +43,7 @@ impl<F: RunFile> RunBlocks<F> {
     /// to be written in its place; where any other of these is among it, all is written first.
     pub(crate) fn let_go(&mut self, k: u32, index: u32) -> Result<(), DeviceFailed>
         requires aside { IsSetAside self.old }
-        ensures others { IsHonest F.RunFile self.old → ChangesOnly k
-            (blocks_seen F.RunFile self.old) (blocks_seen F.RunFile self.new) }
-        ensures heads { IsHonest F.RunFile self.old
-            → heads_seen F.RunFile self.new ≡ heads_seen F.RunFile self.old }
-        ensures honest { IsHonest F.RunFile self.old → IsHonest F.RunFile self.new }
-        ensures count { self.new.count ≡ self.old.count }
-        ensures written { OnOk result (AreWritten (k - index) k self.new) }
-        ensures aside { KeepsAside k self.old self.new }
-        ensures asked { asked_of self.new ≡ asked_of self.old }
-        ensures file { AsksFile F.RunFile 1 self.old self.new result }
-        ensures unasked { PassesBy k index self.old → self.new.file ≡ self.old.file }
-        ensures passes { OnErr result (¬ PassesBy k index self.old) }
+        ensures { LetsGo F.RunFile k index self.old self.new result }
     {
         if self.gathered.first == k {
             self.drop_first();
@@ -107,15 +96,7 @@ impl<F: RunFile> RunBlocks<F> {
     /// Writes what is gathered before a head block is, but for what is set aside: that is of no
     /// article that is kept, so no head block waits for it.
     pub(crate) fn clear_way(&mut self) -> Result<(), DeviceFailed>
-        ensures seen { KeepsBlocks F.RunFile self.old self.new }
-        ensures written { ¬ IsSetAside self.old → OnOk result (gathered_of self.new ≡ []) }
-        ensures failed { OnErr result (IsSetAside self.new) }
-        ensures rest { OnOk result ((j : ℕ) → IsInMemory self.new j → IsSetAside self.new) }
-        ensures aside { IsSetAside self.old → StaysAside self.old self.new }
-        ensures unasked { IsSetAside self.old → self.new.file ≡ self.old.file }
-        ensures passes { OnErr result (¬ IsSetAside self.old) }
-        ensures asked { asked_of self.new ≡ asked_of self.old }
-        ensures file { AsksFile F.RunFile 1 self.old self.new result }
+        ensures { ClearsWay F.RunFile self.old self.new result }
     {
         if self.set_aside {
             return Ok(());
