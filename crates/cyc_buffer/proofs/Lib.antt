@@ -9,6 +9,7 @@ mod Contents
 mod Writes
 pub mod Numbers
 pub mod Reading
+pub mod ReadingLemmas
 pub mod StopLemmas
 mod Apart
 pub mod StartLemmas

@@ -1,8 +1,7 @@
 -- Why a start refuses a device: what the octets that were read rule out.
-use Rattle.std.proofs.Common.{◌≡◌, ◌∙◌, ℕ, sym, ap, subst, arith, cond, List}
-use Rattle.std.specs.Prelude.{Result, Ok, Err, IsErr, IfErr, false, is_ok, is_err}
+use Rattle.std.proofs.Common.{◌≡◌, ◌∙◌, ℕ, sym, ap, arith, cond, List}
+use Rattle.std.specs.Prelude.{Result, Ok, Err, false, is_ok, is_err}
 use Rattle.std.proofs.lemmas.Bool.{false≢true}
-use Rattle.std.specs.Result.{IsErrAnd}
 use Rattle.news_terms.specs.BlockImage.{block_image}
 use Rattle.news_terms.specs.Places.{Buffer}
 use Rattle.news_terms.specs.Token.{Token}
@@ -64,13 +63,6 @@ blamed_on g old mid new errors.Device same blamed = omega (arith, same, blamed)
 blamed_on g old mid new errors.NoHead same blamed = blamed ∙ same
 blamed_on g old mid new errors.Unclosed same blamed = blamed ∙ same
 blamed_on g old mid new errors.Damaged same blamed = blamed ∙ same
-
--- an error that is passed on says what it said
-pub passed_on : {T : Type 0} (says : StartError → Type 0) (error : StartError)
-    (r : Result T StartError)
-    → IsErr r × IsErrAnd r (λ made. made ≡ error) → says error → IfErr r says
-passed_on says error (Ok x) gives told = tt
-passed_on says error (Err made) gives told = subst says (sym gives.1) told
 
 -- damage is a refusal, where head block 0 says whose it is
 pub damage_refuses : {A : Type 0} (heads blocks : List (List ℕ)) (buffer : Buffer)

@@ -7,6 +7,7 @@ pub mod History
 pub mod Look
 pub mod Marks
 pub mod Progress
+pub mod Readings
 pub mod Reads
 pub mod BufferState
 pub mod Remembered

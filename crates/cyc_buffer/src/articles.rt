@@ -1,17 +1,13 @@
 //! What a start reads of a buffer's articles.
-ghost use Rattle.std.specs.Prelude.{◌≡◌, ◌↔◌, ◌+◌, ◌*◌, ◌^◌, ◌<◌, ◌≤◌, ℕ, length, true, false};
-ghost use Rattle.std.specs.Prelude.{IsTrue, IfErr, IfOk, IfSome, IfNone, OnOk};
-ghost use Rattle.std.specs.List.{Contains};
+ghost use Rattle.std.specs.Prelude.{◌≡◌, ◌↔◌, ◌+◌, ◌*◌, ◌^◌, ◌<◌, ◌≤◌, length, false};
+ghost use Rattle.std.specs.Prelude.{IsTrue, IfSome, IfNone};
 ghost use Rattle.news_terms.specs.BlockImage.{Block, IsBlock, block_image as image_of};
 ghost use Rattle.news_terms.specs.Places.{size_of};
 ghost use Rattle.cyc_block.specs.Store.{block_at};
 ghost use Rattle.cyc_token.specs.Token.{token_view};
-ghost use Rattle.cyc_token.specs.declared.Token.{Token as CodeToken};
-ghost use Rattle.cyc_buffer.specs.Marks.{is_marked};
-ghost use Rattle.cyc_buffer.specs.Reads.{StaysHeld, IsBlamed, IsDamageBy, IsOfToken, IsRead};
-ghost use Rattle.cyc_buffer.specs.Reads.{IsFound, IsNone, IsMissing, HasRead};
-ghost use Rattle.cyc_buffer.specs.Remembered.{AreWithin, ListsStarts};
-ghost use Rattle.cyc_buffer.specs.Starting.{blocks_in};
+ghost use Rattle.cyc_buffer.specs.Readings.{ReadsArticle, ReadsArticles, ReadsImages, ReadsOctets};
+ghost use Rattle.cyc_buffer.specs.Readings.{ReadsWhole};
+ghost use Rattle.cyc_buffer.specs.Reads.{IsOfToken};
 ghost use Rattle.cyc_buffer.specs.Stopped.{IsImageUnder};
 
 use crate::answers::StartError;
@@ -32,13 +28,8 @@ pub(crate) struct Stretch {
 /// The octets of a block.
 fn read_octets<S: BlockStore>(store: &mut S, block: u32) -> Result<[u8; BLOCK_OCTETS], StartError>
     requires { block < length (S.blocks store.old) }
-    ensures octets { S.honest store.old
-        → IfOk result (λ octets. octets ≡ block_at (S.blocks store.old) block) }
-    ensures device { IfErr result (λ error. IsDamageBy ⊥ error) }
-    ensures calls { S.calls store.new ≡ S.calls store.old + 1 }
-    ensures held { StaysHeld S.BlockStore store.old store.new }
-    ensures failed { IfErr result (IsBlamed S.BlockStore store.old store.new) }
-    ensures no_failure { OnOk result (S.failures store.new ≡ S.failures store.old) }
+    ensures { ReadsOctets S.BlockStore store.old store.new (block_at (S.blocks store.old) block)
+        result }
 {
     let mut octets = [0; BLOCK_OCTETS];
     match store.read(block, &mut octets) {
@@ -89,20 +80,7 @@ fn read_images<S: BlockStore>(store: &mut S, token: &Token) -> Result<(), StartE
     requires some { 1 ≤ token.now.length }
     requires fits { token.now.first + size_of token.now.length < 2 ^ 32 }
     requires within { token.now.first + size_of token.now.length ≤ length (S.blocks store.old) }
-    ensures images { S.honest store.old → OnOk result ((k : ℕ) → 1 ≤ k
-        → k < size_of token.now.length
-        → IsImageUnder (block_at (S.blocks store.old) (token.now.first + k))
-        (token_view token.now) k) }
-    ensures refused { S.honest store.old → IfErr result (IsDamageBy (((k : ℕ)
-        → k < size_of token.now.length
-        → IsImageUnder (block_at (S.blocks store.old) (token.now.first + k))
-        (token_view token.now) k)
-        → ⊥)) }
-    ensures calls { OnOk result (S.calls store.new + 1
-        ≡ S.calls store.old + size_of token.now.length) }
-    ensures held { StaysHeld S.BlockStore store.old store.new }
-    ensures failed { IfErr result (IsBlamed S.BlockStore store.old store.new) }
-    ensures no_failure { OnOk result (S.failures store.new ≡ S.failures store.old) }
+    ensures { ReadsImages S.BlockStore store.old store.new token.now result }
 {
     for k in 1..size_of(token.length) {
         let octets = read_octets(store, token.first + k)?;
@@ -136,21 +114,7 @@ fn read_article<S: BlockStore>(
 ) -> Result<Token, StartError>
     requires inside { first < stretch.now.end }
     requires within { stretch.now.end ≤ length (S.blocks store.old) }
-    ensures read { S.honest store.old → IfOk result (λ token.
-        IsRead (S.blocks store.old) stretch.now.number stretch.now.cycle stretch.now.end
-        (token_view token)) }
-    ensures only { S.honest store.old → IfOk result (λ token.
-        IsOfToken (block_at (S.blocks store.old) first) (token_view token)) }
-    ensures place { IfOk result (λ token. (token.first ≡ first)
-        × (token.first + size_of token.length ≤ stretch.now.end)) }
-    ensures refused { S.honest store.old → IfErr result (IsDamageBy (
-        IsNone (λ j. false) (S.blocks store.old) stretch.now.number stretch.now.cycle
-        stretch.now.end first)) }
-    ensures calls { IfOk result (λ token.
-        S.calls store.new ≡ S.calls store.old + size_of token.length) }
-    ensures held { StaysHeld S.BlockStore store.old store.new }
-    ensures failed { IfErr result (IsBlamed S.BlockStore store.old store.new) }
-    ensures no_failure { OnOk result (S.failures store.new ≡ S.failures store.old) }
+    ensures { ReadsArticle S.BlockStore store.old store.new stretch.now first result }
 {
     let octets = read_octets(store, first)?;
     let Some(token) = token_of(&octets, stretch.number, stretch.cycle, first) else {
@@ -173,19 +137,8 @@ fn read_whole<S: BlockStore>(
     requires inside { first < stretch.now.end }
     requires within { stretch.now.end ≤ length (S.blocks store.old) }
     requires room { stretch.now.end ≤ 64 * length starts.now.words.items }
-    ensures found { S.honest store.old → IfOk result (λ token.
-        IsFound (is_marked starts.now.words.items) (S.blocks store.old) stretch.now.number
-        stretch.now.cycle stretch.now.end first (token_view token)) }
-    ensures place { IfOk result (λ token. (token.first ≡ first)
-        × (token.first + size_of token.length ≤ stretch.now.end)) }
-    ensures refused { S.honest store.old → IfErr result (IsDamageBy (
-        IsNone (is_marked starts.now.words.items) (S.blocks store.old) stretch.now.number
-        stretch.now.cycle stretch.now.end first)) }
-    ensures calls { IfOk result (λ token.
-        S.calls store.new ≡ S.calls store.old + size_of token.length) }
-    ensures held { StaysHeld S.BlockStore store.old store.new }
-    ensures failed { IfErr result (IsBlamed S.BlockStore store.old store.new) }
-    ensures no_failure { OnOk result (S.failures store.new ≡ S.failures store.old) }
+    ensures { ReadsWhole S.BlockStore store.old store.new starts.now.words.items stretch.now first
+        result }
 {
     let token = read_article(store, stretch, first)?;
     let end = first + size_of(token.length);
@@ -209,26 +162,8 @@ pub(crate) fn read_articles<S: BlockStore>(
     requires within { stretch.now.end ≤ length (S.blocks store.old) }
     requires room { stretch.now.end ≤ 64 * length starts.now.words.items }
     requires kept_room { stretch.now.end ≤ 64 * length kept.old.words.items }
-    ensures read { S.honest store.old → OnOk result (
-        HasRead (is_marked starts.now.words.items) (S.blocks store.old) stretch.now.number
-        stretch.now.cycle stretch.now.end from stretch.now.end
-        tokens.old.items tokens.new.items kept.old.words.items kept.new.words.items) }
-    ensures refused { S.honest store.old → IfErr result (IsDamageBy (
-        IsMissing (is_marked starts.now.words.items) (S.blocks store.old) stretch.now.number
-        stretch.now.cycle stretch.now.end from)) }
-    // Over any store each block from there where an article begins is a listed one's first.
-    ensures listed { OnOk result (ListsStarts from stretch.now.end
-        (is_marked starts.now.words.items) tokens.new.items) }
-    ensures stay_listed { OnOk result ((t : CodeToken)
-        → Contains tokens.old.items t → Contains tokens.new.items t) }
-    ensures within { OnOk result ((blocks : ℕ) → stretch.now.end ≤ blocks
-        → AreWithin blocks tokens.old.items → AreWithin blocks tokens.new.items) }
-    ensures kept { length kept.new.words.items ≡ length kept.old.words.items }
-    ensures calls { OnOk result (S.calls store.new + blocks_in tokens.old.items
-        ≡ S.calls store.old + blocks_in tokens.new.items) }
-    ensures held { StaysHeld S.BlockStore store.old store.new }
-    ensures failed { IfErr result (IsBlamed S.BlockStore store.old store.new) }
-    ensures no_failure { OnOk result (S.failures store.new ≡ S.failures store.old) }
+    ensures { ReadsArticles S.BlockStore store.old store.new starts.now.words.items stretch.now from
+        tokens.old.items tokens.new.items kept.old.words.items kept.new.words.items result }
 {
     for first in from..stretch.end {
         if starts.has(first) {

@@ -1,12 +1,11 @@
 //! What a start reads of a buffer's bitmap.
 ghost use Rattle.std.specs.Prelude.{◌≡◌, ◌⊎◌, ◌+◌, ◌*◌, ◌^◌, ◌<◌, ◌≤◌, ℕ, length, true};
-ghost use Rattle.std.specs.Prelude.{false, IfErr, IfOk, OnOk};
-ghost use Rattle.news_terms.specs.HeadBlocks.{bits_of_block, bitmap_blocks, head_blocks, is_set};
+ghost use Rattle.std.specs.Prelude.{false};
+ghost use Rattle.news_terms.specs.HeadBlocks.{bits_of_block, head_blocks, is_set};
 ghost use Rattle.cyc_block.specs.Store.{block_at};
 ghost use Rattle.cyc_buffer.specs.Marks.{is_marked};
-ghost use Rattle.cyc_buffer.specs.Reads.{StaysHeld, IsBlamed, IsDamageBy, IsBeyond, HasBitPast};
-ghost use Rattle.cyc_buffer.specs.Reads.{HasMark};
-ghost use Rattle.cyc_buffer.specs.Stopped.{has_bit};
+ghost use Rattle.cyc_buffer.specs.Readings.{ReadsBitmap, ReadsOctets};
+ghost use Rattle.cyc_buffer.specs.Reads.{HasBitPast, HasMark};
 
 use crate::answers::StartError;
 use crate::marks::Marks;
@@ -71,13 +70,7 @@ pub(crate) fn read_head_octets<S: BlockStore>(
     k: u32,
 ) -> Result<[u8; BLOCK_OCTETS], StartError>
     requires { k < head_blocks (length (S.blocks store.old)) }
-    ensures octets { S.honest store.old
-        → IfOk result (λ octets. octets ≡ block_at (S.heads store.old) k) }
-    ensures device { IfErr result (λ error. IsDamageBy ⊥ error) }
-    ensures calls { S.calls store.new ≡ S.calls store.old + 1 }
-    ensures held { StaysHeld S.BlockStore store.old store.new }
-    ensures failed { IfErr result (IsBlamed S.BlockStore store.old store.new) }
-    ensures no_failure { OnOk result (S.failures store.new ≡ S.failures store.old) }
+    ensures { ReadsOctets S.BlockStore store.old store.new (block_at (S.heads store.old) k) result }
 {
     let mut octets = [0; BLOCK_OCTETS];
     match store.read_head(k, &mut octets) {
@@ -94,18 +87,8 @@ pub(crate) fn read_bitmap<S: BlockStore>(
 ) -> Result<(), StartError>
     requires count { length (S.blocks store.old) ≡ blocks }
     requires room { blocks ≤ 64 * length starts.old.words.items }
-    ensures bits { S.honest store.old → OnOk result ((j : ℕ) → j < blocks
-        → is_marked starts.new.words.items j ≡ has_bit (S.heads store.old) j) }
-    ensures none_beyond { S.honest store.old → OnOk result ((j : ℕ) → blocks ≤ j
-        → j < bits_of_block * bitmap_blocks blocks → has_bit (S.heads store.old) j ≡ false) }
-    ensures refused { S.honest store.old
-        → IfErr result (IsDamageBy (IsBeyond (S.heads store.old) blocks)) }
-    ensures room { length starts.new.words.items ≡ length starts.old.words.items }
-    ensures calls { OnOk result (S.calls store.new
-        ≡ S.calls store.old + bitmap_blocks blocks) }
-    ensures held { StaysHeld S.BlockStore store.old store.new }
-    ensures failed { IfErr result (IsBlamed S.BlockStore store.old store.new) }
-    ensures no_failure { OnOk result (S.failures store.new ≡ S.failures store.old) }
+    ensures { ReadsBitmap S.BlockStore store.old store.new blocks starts.old.words.items
+        starts.new.words.items result }
 {
     for i in 0..blocks.div_ceil(BLOCK_BITS) {
         let octets = read_head_octets(store, i + 1)?;

@@ -1,14 +1,11 @@
 //! What a start reads of the buffer that was stopped on a store.
-ghost use Rattle.std.specs.Prelude.{◌≡◌, ◌<◌, ◌≤◌, ◌*◌, ℕ, true, false, length, IfErr, IfOk};
-ghost use Rattle.std.specs.Prelude.{◌+◌, OnOk, List, None};
-ghost use Rattle.news_terms.specs.HeadBlocks.{Closed, head_blocks};
+ghost use Rattle.std.specs.Prelude.{◌≡◌, ◌<◌, ◌≤◌, ◌*◌, ℕ, true, false, length};
+ghost use Rattle.std.specs.Prelude.{◌+◌, List, None};
 ghost use Rattle.cyc_block.specs.Heads.{head_view, state_view};
-ghost use Rattle.cyc_buffer.specs.Marks.{is_marked};
-ghost use Rattle.cyc_buffer.specs.Reads.{StaysHeld, IsBlamed, IsDamageBy, IsRefusedBy, SaysOnly};
-ghost use Rattle.cyc_buffer.specs.Reads.{AreSound, AreBits, HasReadBehind, HasReadAll, HasStarted};
 ghost use Rattle.cyc_buffer.specs.BufferState.{numbers_in};
-ghost use Rattle.cyc_buffer.specs.Remembered.{AreWithin, ListsStarts};
-ghost use Rattle.cyc_buffer.specs.Starting.{blocks_in};
+ghost use Rattle.cyc_buffer.specs.Readings.{ReadsAll, ReadsBehind, ReadsClosed, ReadsNumbers};
+ghost use Rattle.cyc_buffer.specs.Readings.{ReadsStopped};
+ghost use Rattle.cyc_buffer.specs.Reads.{AreSound};
 ghost use Rattle.cyc_buffer.specs.Stopped.{IsDamaged};
 
 use crate::answers::StartError;
@@ -37,30 +34,11 @@ pub(crate) fn read_stopped<S: BlockStore>(
     number: u8,
     first_cycle: u32,
 ) -> Result<Stopped, StartError>
-    ensures started { S.honest store.old → IfOk result (λ stopped.
-        HasStarted (S.heads store.old) (S.blocks store.old) (record {
-          number = number;
-          blocks = length (S.blocks store.old);
-          first_cycle = first_cycle;
-        }) stopped.stop stopped.buffer_state stopped.tokens.items) }
-    ensures refused { S.honest store.old → IfErr result (
-        IsRefusedBy (S.heads store.old) (S.blocks store.old) (record {
-          number = number;
-          blocks = length (S.blocks store.old);
-          first_cycle = first_cycle;
-        })) }
-    ensures count { IfOk result (λ stopped.
-        stopped.buffer_state.line.blocks ≡ length (S.blocks store.old)) }
-    ensures idle { IfOk result (λ stopped. stopped.buffer_state.progress ≡ None) }
-    ensures listed { IfOk result (λ stopped. ListsStarts 0 (length (S.blocks store.old))
-        (is_marked stopped.buffer_state.starts.words.items) stopped.tokens.items) }
-    ensures within { IfOk result (λ stopped.
-        AreWithin (length (S.blocks store.old)) stopped.tokens.items) }
-    ensures calls { IfOk result (λ stopped. S.calls store.new ≡ S.calls store.old
-        + head_blocks (length (S.blocks store.old)) + blocks_in stopped.tokens.items) }
-    ensures held { StaysHeld S.BlockStore store.old store.new }
-    ensures failed { IfErr result (IsBlamed S.BlockStore store.old store.new) }
-    ensures no_failure { OnOk result (S.failures store.new ≡ S.failures store.old) }
+    ensures { ReadsStopped S.BlockStore store.old store.new (record {
+      number = number;
+      blocks = length (S.blocks store.old);
+      first_cycle = first_cycle;
+    }) result }
 {
     let numbers = read_closed(store, number, first_cycle)?;
     let mut starts = Marks::new(alloc, numbers.blocks)?;
@@ -81,25 +59,11 @@ fn read_closed<S: BlockStore>(
     number: u8,
     first_cycle: u32,
 ) -> Result<HeadNumbers, StartError>
-    ensures says { S.honest store.old → IfOk result (λ numbers.
-        SaysOnly (S.heads store.old) (record {
-          number = number;
-          blocks = length (S.blocks store.old);
-          first_cycle = first_cycle;
-        }) (head_view numbers)) }
-    ensures closed { IfOk result (λ numbers. state_view numbers.state ≡ Closed) }
-    ensures sound { IfOk result (λ numbers. AreSound (head_view numbers)) }
-    ensures refused { S.honest store.old → IfErr result (
-        IsRefusedBy (S.heads store.old) (S.blocks store.old) (record {
-          number = number;
-          blocks = length (S.blocks store.old);
-          first_cycle = first_cycle;
-        })) }
-    ensures blocks { IfOk result (λ numbers. numbers.blocks ≡ length (S.blocks store.old)) }
-    ensures calls { OnOk result (S.calls store.new ≡ S.calls store.old + 1) }
-    ensures held { StaysHeld S.BlockStore store.old store.new }
-    ensures failed { IfErr result (IsBlamed S.BlockStore store.old store.new) }
-    ensures no_failure { OnOk result (S.failures store.new ≡ S.failures store.old) }
+    ensures { ReadsClosed S.BlockStore store.old store.new (record {
+      number = number;
+      blocks = length (S.blocks store.old);
+      first_cycle = first_cycle;
+    }) result }
 {
     let numbers = read_numbers(store, number, first_cycle)?;
     match numbers.state {
@@ -120,23 +84,11 @@ fn read_numbers<S: BlockStore>(
     number: u8,
     first_cycle: u32,
 ) -> Result<HeadNumbers, StartError>
-    ensures says { S.honest store.old → IfOk result (λ numbers.
-        SaysOnly (S.heads store.old) (record {
-          number = number;
-          blocks = length (S.blocks store.old);
-          first_cycle = first_cycle;
-        }) (head_view numbers)) }
-    ensures refused { S.honest store.old → IfErr result (
-        IsRefusedBy (S.heads store.old) (S.blocks store.old) (record {
-          number = number;
-          blocks = length (S.blocks store.old);
-          first_cycle = first_cycle;
-        })) }
-    ensures blocks { IfOk result (λ numbers. numbers.blocks ≡ length (S.blocks store.old)) }
-    ensures calls { OnOk result (S.calls store.new ≡ S.calls store.old + 1) }
-    ensures held { StaysHeld S.BlockStore store.old store.new }
-    ensures failed { IfErr result (IsBlamed S.BlockStore store.old store.new) }
-    ensures no_failure { OnOk result (S.failures store.new ≡ S.failures store.old) }
+    ensures { ReadsNumbers S.BlockStore store.old store.new (record {
+      number = number;
+      blocks = length (S.blocks store.old);
+      first_cycle = first_cycle;
+    }) result }
 {
     let blocks = store.count();
     let octets = read_head_octets(store, 0)?;
@@ -175,21 +127,8 @@ fn read_all<S: BlockStore>(
     requires count { length (S.blocks store.old) ≡ numbers.now.blocks }
     requires room { numbers.now.blocks ≤ 64 * length starts.now.words.items }
     requires kept_room { numbers.now.blocks ≤ 64 * length kept.old.words.items }
-    ensures read { S.honest store.old → IfOk result (λ tokens.
-        HasReadAll (is_marked starts.now.words.items) (S.blocks store.old) (head_view numbers.now)
-        tokens.items kept.old.words.items kept.new.words.items) }
-    ensures refused { S.honest store.old → (heads : List (List ℕ))
-        → AreBits heads numbers.now.blocks starts.now.words.items → IfErr result (IsDamageBy (
-        IsDamaged heads (S.blocks store.old) (head_view numbers.now))) }
-    ensures listed { IfOk result (λ tokens. ListsStarts 0 numbers.now.blocks
-        (is_marked starts.now.words.items) tokens.items) }
-    ensures within { IfOk result (λ tokens. AreWithin numbers.now.blocks tokens.items) }
-    ensures kept { length kept.new.words.items ≡ length kept.old.words.items }
-    ensures calls { IfOk result (λ tokens.
-        S.calls store.new ≡ S.calls store.old + blocks_in tokens.items) }
-    ensures held { StaysHeld S.BlockStore store.old store.new }
-    ensures failed { IfErr result (IsBlamed S.BlockStore store.old store.new) }
-    ensures no_failure { OnOk result (S.failures store.new ≡ S.failures store.old) }
+    ensures { ReadsAll S.BlockStore store.old store.new numbers.now starts.now.words.items
+        kept.old.words.items kept.new.words.items result }
 {
     // Rising by place, what is behind the head comes first.
     let mut tokens = read_behind(alloc, store, numbers, starts, kept)?;
@@ -215,21 +154,8 @@ fn read_behind<S: BlockStore>(
     requires count { length (S.blocks store.old) ≡ numbers.now.blocks }
     requires room { numbers.now.blocks ≤ 64 * length starts.now.words.items }
     requires kept_room { numbers.now.blocks ≤ 64 * length kept.old.words.items }
-    ensures read { S.honest store.old → IfOk result (λ tokens.
-        HasReadBehind (is_marked starts.now.words.items) (S.blocks store.old)
-        (head_view numbers.now) tokens.items kept.old.words.items kept.new.words.items) }
-    ensures refused { S.honest store.old → (heads : List (List ℕ))
-        → AreBits heads numbers.now.blocks starts.now.words.items → IfErr result (IsDamageBy (
-        IsDamaged heads (S.blocks store.old) (head_view numbers.now))) }
-    ensures listed { IfOk result (λ tokens. ListsStarts numbers.now.head numbers.now.blocks
-        (is_marked starts.now.words.items) tokens.items) }
-    ensures within { IfOk result (λ tokens. AreWithin numbers.now.blocks tokens.items) }
-    ensures kept { length kept.new.words.items ≡ length kept.old.words.items }
-    ensures calls { IfOk result (λ tokens.
-        S.calls store.new ≡ S.calls store.old + blocks_in tokens.items) }
-    ensures held { StaysHeld S.BlockStore store.old store.new }
-    ensures failed { IfErr result (IsBlamed S.BlockStore store.old store.new) }
-    ensures no_failure { OnOk result (S.failures store.new ≡ S.failures store.old) }
+    ensures { ReadsBehind S.BlockStore store.old store.new numbers.now starts.now.words.items
+        kept.old.words.items kept.new.words.items result }
 {
     let mut tokens = Vec::new(alloc);
     if numbers.cycle > numbers.first_cycle {

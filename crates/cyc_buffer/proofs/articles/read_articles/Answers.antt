@@ -8,55 +8,64 @@ use Rattle.cyc_token.specs.declared.Token.{Token}
 use Rattle.news_terms.specs.Places.{size_of}
 use Rattle.cyc_token.specs.Token.{token_view}
 use Rattle.cyc_buffer.specs.Marks.{is_marked, marked_after}
-use Rattle.cyc_buffer.specs.Reads.{IsBlamed, IsDamageBy, IsMissing, IsNone, IsFound, HasRead}
-use Rattle.cyc_buffer.specs.Reads.{StaysHeld}
+use Rattle.cyc_buffer.specs.Readings.{ReadsArticles}
+use Rattle.cyc_buffer.specs.Reads.{IsNone, IsFound, HasRead, StaysHeld}
 use Rattle.cyc_buffer.specs.Remembered.{AreWithin, ListsStarts}
 use Rattle.cyc_buffer.specs.Starting.{blocks_in}
 use Rattle.cyc_buffer.specs.declared.marks.Marks.{Marks}
-use Rattle.cyc_buffer.proofs.Refusals.{blamed_on, damage_by, held_on, passed_on, pushed_on}
+use Rattle.cyc_buffer.proofs.ReadingLemmas.{reads_err_on, told}
+use Rattle.cyc_buffer.proofs.Refusals.{damage_by, held_on, pushed_on}
 use Rattle.cyc_buffer.proofs.RememberedLemmas.{lists_more, lists_skip, stays_listed, within_more}
 use Rattle.cyc_buffer.proofs.Stretches.{read_skip, read_more}
 use Rattle.cyc_buffer.proofs.articles.read_articles.Goals as goal
 use Rattle.cyc_buffer.proofs.articles.read_articles.Goals.{then-has+in_ok-token+else-is_err}
 use Rattle.cyc_buffer.proofs.articles.read_articles.Goals.{else-has}
 
-pub returns-in_err-token-clause-refused : goal.returns-in_err-token-clause-refused
-returns-in_err-token-clause-refused g c honest =
+pub returns-in_err-token : goal.returns-in_err-token
+returns-in_err-token g c =
     let starts = is_marked c.args.starts.now.words.items in
     let stretch = c.args.stretch.now in
     let first = c.loop-first.first in
-    passed_on (IsDamageBy (IsMissing starts (g.S.BlockStore.blocks c.args.store.now) stretch.number
-    stretch.cycle stretch.end c.args.from)) _ _ c.from_residual.ensures
-    (damage_by c.in_err-token.field-0.0 (λ none. record {
-      at = first;
-      behind = c.loop-first.invariant.range;
-      before = c.loop-first-test.true;
-      marked = sym c.has.ensures ∙ c.if-has.true;
-      none = subst (λ blocks. IsNone starts blocks stretch.number stretch.cycle stretch.end first)
-          (c.loop-first.invariant.held.blocks honest) none;
+    told c.from_residual.result c.in_err-token.field-0.0 c.from_residual.ensures
+    (λ r. ReadsArticles g.S.BlockStore c.args.store.now c.read_whole.new.store
+    c.args.starts.now.words.items stretch c.args.from c.args.tokens.now.items
+    c.loop-first.tokens.items c.args.kept.now.words.items c.loop-first.kept.words.items r)
+    (record {
+      read = λ honest. tt;
+      refused = λ honest. damage_by c.in_err-token.field-0.0 (λ none. record {
+        at = first;
+        behind = c.loop-first.invariant.range;
+        before = c.loop-first-test.true;
+        marked = sym c.has.ensures ∙ c.if-has.true;
+        none = subst (λ blocks. IsNone starts blocks stretch.number stretch.cycle stretch.end first)
+            (c.loop-first.invariant.held.blocks honest) none;
+      }) (c.in_err-token.ensures.refused (c.loop-first.invariant.held.honest honest));
+      listed = tt;
+      stay_listed = tt;
+      within = tt;
+      kept_room = c.loop-first.invariant.room;
+      calls = tt;
+      reads = reads_err_on g.S.BlockStore c.args.store.now c.loop-first.store
+          c.read_whole.new.store c.in_err-token.field-0.0 c.loop-first.invariant.held
+          c.loop-first.invariant.failures c.in_err-token.ensures.reads;
     })
-    (c.in_err-token.ensures.refused (c.loop-first.invariant.held.honest honest)))
 
-pub returns-in_err-token-clause-held : goal.returns-in_err-token-clause-held
-returns-in_err-token-clause-held g c =
-    held_on g.S.BlockStore c.args.store.now c.loop-first.store c.read_whole.new.store
-    c.loop-first.invariant.held c.in_err-token.ensures.held
-
-pub returns-in_err-token-clause-failed : goal.returns-in_err-token-clause-failed
-returns-in_err-token-clause-failed g c =
-    passed_on (IsBlamed g.S.BlockStore c.args.store.now c.read_whole.new.store)
-    c.in_err-token.field-0.0 _ c.from_residual.ensures
-    (blamed_on g.S.BlockStore c.args.store.now c.loop-first.store c.read_whole.new.store
-    c.in_err-token.field-0.0 c.loop-first.invariant.failures c.in_err-token.ensures.failed)
-
-pub returns-then-is_err-clause-held : goal.returns-then-is_err-clause-held
-returns-then-is_err-clause-held g c =
-    held_on g.S.BlockStore c.args.store.now c.loop-first.store c.read_whole.new.store
-    c.loop-first.invariant.held c.in_ok-token.ensures.held
-
-pub returns-then-is_err-clause-failed : goal.returns-then-is_err-clause-failed
-returns-then-is_err-clause-failed g c =
-    c.in_ok-token.ensures.no_failure ∙ c.loop-first.invariant.failures
+pub returns-then-is_err : goal.returns-then-is_err
+returns-then-is_err g c = record {
+  read = λ honest. tt;
+  refused = λ honest. tt;
+  listed = tt;
+  stay_listed = tt;
+  within = tt;
+  kept_room = c.change.ensures.room ∙ c.loop-first.invariant.room;
+  calls = tt;
+  reads = record {
+    held = held_on g.S.BlockStore c.args.store.now c.loop-first.store c.read_whole.new.store
+        c.loop-first.invariant.held c.in_ok-token.ensures.reads.held;
+    failed = c.in_ok-token.ensures.reads.no_failure ∙ c.loop-first.invariant.failures;
+    no_failure = tt;
+  };
+}
 
 pub loop-first-preserved : goal.loop-first-preserved
 loop-first-preserved g c =
@@ -79,8 +88,9 @@ loop-first-preserved g c =
             range = omega (arith, was.range);
             held = subst (λ s. StaysHeld g.S.BlockStore store s) (sym w.store-is)
                 (held_on g.S.BlockStore store c.loop-first.store w.read_whole.new.store was.held
-                found.held);
-            failures = ap g.S.BlockStore.failures w.store-is ∙ found.no_failure ∙ was.failures;
+                found.reads.held);
+            failures = ap g.S.BlockStore.failures w.store-is ∙ found.reads.no_failure
+                ∙ was.failures;
             calls = omega (
               arith,
               ap g.S.BlockStore.calls w.store-is,
@@ -153,24 +163,30 @@ loop-first-preserved g c =
       }
     ]
 
-pub returns-clause-read : goal.returns-clause-read
-returns-clause-read g c honest =
-    subst (λ n. HasRead (is_marked c.args.starts.now.words.items)
-    (g.S.BlockStore.blocks c.args.store.now) c.args.stretch.now.number c.args.stretch.now.cycle
-    c.args.stretch.now.end c.args.from n c.args.tokens.now.items c.loop-first.tokens.items
-    c.args.kept.now.words.items c.loop-first.kept.words.items)
-    (omega (arith, c.requires.order, c.loop-first-test.false, c.loop-first.auto.first))
-    (c.loop-first.invariant.read honest)
-
-pub returns-clause-listed : goal.returns-clause-listed
-returns-clause-listed g c =
-    subst (λ n. ListsStarts c.args.from n (is_marked c.args.starts.now.words.items)
-    c.loop-first.tokens.items)
-    (omega (arith, c.requires.order, c.loop-first-test.false, c.loop-first.auto.first))
-    c.loop-first.invariant.listed
-
-pub returns-clause-within : goal.returns-clause-within
-returns-clause-within g c = c.loop-first.invariant.within
-
-pub returns-then-is_err-clause-kept : goal.returns-then-is_err-clause-kept
-returns-then-is_err-clause-kept g c = c.change.ensures.room ∙ c.loop-first.invariant.room
+pub returns : goal.returns
+returns g c =
+    let at_end : c.loop-first.first ≡ c.args.stretch.now.end = omega (
+      arith,
+      c.requires.order,
+      c.loop-first-test.false,
+      c.loop-first.auto.first,
+    ) in
+    record {
+      read = λ honest. subst (λ n. HasRead (is_marked c.args.starts.now.words.items)
+          (g.S.BlockStore.blocks c.args.store.now) c.args.stretch.now.number
+          c.args.stretch.now.cycle c.args.stretch.now.end c.args.from n c.args.tokens.now.items
+          c.loop-first.tokens.items c.args.kept.now.words.items c.loop-first.kept.words.items)
+          at_end (c.loop-first.invariant.read honest);
+      refused = λ honest. tt;
+      listed = subst (λ n. ListsStarts c.args.from n (is_marked c.args.starts.now.words.items)
+          c.loop-first.tokens.items) at_end c.loop-first.invariant.listed;
+      stay_listed = c.loop-first.invariant.stay_listed;
+      within = c.loop-first.invariant.within;
+      kept_room = c.loop-first.invariant.room;
+      calls = c.loop-first.invariant.calls;
+      reads = record {
+        held = c.loop-first.invariant.held;
+        failed = tt;
+        no_failure = c.loop-first.invariant.failures;
+      };
+    }

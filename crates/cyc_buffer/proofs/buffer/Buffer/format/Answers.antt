@@ -1,5 +1,5 @@
 -- Nothing was begun in a buffer that is made; where the device failed the store is handed back.
-use Rattle.std.proofs.Common.{◌<◌, ◌≡◌, ◌∙◌, ◌+◌, ℕ, None, Some, length, sym, subst}
+use Rattle.std.proofs.Common.{◌<◌, ◌≡◌, ◌∙◌, ◌+◌, ℕ, None, Some, length, refl, sym, subst}
 use Rattle.cyc_buffer.specs.BufferState.{Keeps}
 use Rattle.cyc_buffer.specs.Head.{LeavesBlocks}
 use Rattle.cyc_buffer.specs.History.{History, new_history}
@@ -8,16 +8,42 @@ use Rattle.cyc_buffer.proofs.Contents.{no_open}
 use Rattle.cyc_buffer.proofs.Writes.{with_error, without_error}
 use Rattle.cyc_buffer.proofs.buffer.Buffer.format.Goals as goal
 
-pub returns-then-is_err-clause-refusal : goal.returns-then-is_err-clause-refusal
-returns-then-is_err-clause-refusal g c =
-    let back = sym c.into_store-store.ensures in (
-      subst (λ s. g.S.BlockStore.failures c.args.store < g.S.BlockStore.failures s) back
-          (with_error c.write_head.result (sym c.is_err.ensures.value ∙ c.if-is_err.true)
-          c.write_head.ensures.failed),
-      subst (λ s. g.S.BlockStore.calls s ≡ g.S.BlockStore.calls c.args.store + 1) back
-          c.write_head.ensures.calls,
-      subst (LeavesBlocks g.S.BlockStore c.args.store) back c.write_head.ensures.rest.store,
-    )
+pub returns-in-Err : goal.returns-in-Err
+returns-in-Err g c = record {
+  new = tt;
+  opened = tt;
+  unmarked = tt;
+  idle = tt;
+  written = tt;
+  others = tt;
+  blocks = tt;
+  calls = tt;
+  failures = tt;
+  refusal = refl;
+}
+
+pub returns-then-is_err : goal.returns-then-is_err
+returns-then-is_err g c =
+    let back = sym c.into_store-store.ensures in
+    record {
+      new = tt;
+      opened = tt;
+      unmarked = tt;
+      idle = tt;
+      written = tt;
+      others = tt;
+      blocks = tt;
+      calls = tt;
+      failures = tt;
+      refusal = (
+        subst (λ s. g.S.BlockStore.failures c.args.store < g.S.BlockStore.failures s) back
+            (with_error c.write_head.result (sym c.is_err.ensures.value ∙ c.if-is_err.true)
+            c.write_head.ensures.failed),
+        subst (λ s. g.S.BlockStore.calls s ≡ g.S.BlockStore.calls c.args.store + 1) back
+            c.write_head.ensures.calls,
+        subst (LeavesBlocks g.S.BlockStore c.args.store) back c.write_head.ensures.rest.store,
+      );
+    }
 
 -- nothing was finished yet
 none_finished : {A : Type 0} {x : A} → None ≡ Some x → ⊥

@@ -45,120 +45,6 @@ still_open : (write : Open) (p : Option Progress) → IsTheOpen write p → IsTh
 still_open write None owned = owned
 still_open write (Some p) owned = owned
 
-pub returns-then-is_err-clause-written : goal.returns-then-is_err-clause-written
-returns-then-is_err-clause-written g c can = let stamp = c.next_stamp-stamp.result in record {
-  last = tt;
-  fault = λ trusted h agrees. ap errors.Device (c.fault-fault.ensures
-      ∙ ap (λ (l : Line). fault_of (buffer_of l) kinds.Write stamp.article_length)
-      c.mark_broken.ensures.rest.line
-      ∙ ap (λ (s : Stamp). fault_of (buffer_of c.args.self.now.buffer_state.line) kinds.Write
-      s.article_length) c.next_stamp-stamp.ensures.stamp
-      ∙ ap (λ (b : Buffer). fault_of b kinds.Write c.args.write.now.token.length)
-      (sym agrees.keeps.buffer));
-  written = tt;
-  count = tt;
-  whole = tt;
-  broken = λ trusted h agrees.
-      let old = c.args.self.now.buffer_state in
-      let here = ap (λ (s : Stamp). s.first + s.index) c.next_stamp-stamp.ensures.stamp in
-      let left = fails_by (trusted ≡ true) (g.S.BlockStore.blocks c.args.self.now.store)
-      (g.S.BlockStore.blocks c.write.new.self) old c.mark_broken.new.self h c.args.write.now
-      agrees.keeps agrees.holds c.mark_broken.ensures.rest old.progress h.writing refl refl
-      agrees.keeps.writing
-      can.owned can.left c.mark_broken.ensures.progress
-      (λ is. subst (λ n. ChangesOnly n (g.S.BlockStore.blocks c.args.self.now.store)
-      (g.S.BlockStore.blocks c.write.new.self)) here (c.write.ensures.others (agrees.honest is)))
-      (λ is. (agrees.holds is).open_one) in
-      record {
-        keeps = left.0;
-        honest = λ is. c.write.ensures.honest (agrees.honest is);
-        holds = left.1;
-      };
-  owned = subst (IsTheOpen c.args.write.now) (sym c.mark_broken.ensures.progress)
-      (still_open c.args.write.now c.args.self.now.buffer_state.progress can.owned);
-  calls = c.write.ensures.calls;
-}
-
-pub returns-clause-written : goal.returns-clause-written
-returns-clause-written g c can =
-    let counted = counted_on c.args.write.now c.args.self.now.buffer_state.progress
-    c.count_block.new.self.progress can.owned c.count_block.ensures.progress in
-    record {
-      last = c.count_block.ensures.last
-          ∙ ap (λ (n : ℕ). n == size_of c.args.write.now.token.length) (sym counted.0);
-      fault = tt;
-      written = λ trusted h continues agrees.
-          let old = c.args.self.now.buffer_state in
-          let here = ap (λ (s : Stamp). s.first + s.index) c.next_stamp-stamp.ensures.stamp in
-          let left = next_by (trusted ≡ true) (g.S.BlockStore.blocks c.args.self.now.store)
-          (g.S.BlockStore.blocks c.write.new.self) old c.count_block.new.self h c.args.write.now
-          agrees.keeps agrees.holds c.count_block.ensures.rest c.args.text.now can.octets
-          old.progress h.writing refl refl agrees.keeps.writing
-          can.owned continues can.left c.count_block.ensures.progress
-          (λ is. subst (λ n. ChangesOnly n (g.S.BlockStore.blocks c.args.self.now.store)
-          (g.S.BlockStore.blocks c.write.new.self)) here
-          (c.write.ensures.others (agrees.honest is)))
-          (λ is. (agrees.holds is).open_one)
-          (λ is. image_there (g.S.BlockStore.blocks c.args.self.now.store)
-          (g.S.BlockStore.blocks c.write.new.self) c.next_stamp-stamp.result
-          c.args.write.now.token _ c.block_image-image.result c.chunk_of.result.now c.args.text.now
-          (without_error c.write.result (sym c.is_err.ensures.value ∙ c.if-is_err.false)
-          (c.write.ensures.written (agrees.honest is)))
-          (omega (arith, here, c.next_stamp-stamp.ensures.within, c.args.self.now.counted))
-          c.next_stamp-stamp.ensures.stamp c.block_image-image.ensures c.chunk_of.ensures) in
-          record {
-            keeps = left.0;
-            honest = λ is. c.write.ensures.honest (agrees.honest is);
-            holds = left.1;
-          };
-      count = counted.0;
-      whole = counted.1 ∙ can.whole;
-      broken = tt;
-      owned = counted.2;
-      calls = c.write.ensures.calls;
-    }
-
-pub returns-then-is_err-clause-refused : goal.returns-then-is_err-clause-refused
-returns-then-is_err-clause-refused g c none =
-    absurd (none (c.can_write.ensures.0 c.if-not-can_write.false))
-
-pub returns-clause-refused : goal.returns-clause-refused
-returns-clause-refused g c none =
-    absurd (none (c.can_write.ensures.0 c.if-not-can_write.false))
-
-pub returns-then-is_err-clause-error : goal.returns-then-is_err-clause-error
-returns-then-is_err-clause-error g c = c.can_write.ensures.0 c.if-not-can_write.false
-
-pub returns-then-is_err-clause-starts : goal.returns-then-is_err-clause-starts
-returns-then-is_err-clause-starts g c block is =
-    ap (λ (m : Marks). is_marked m.words.items block) (sym c.mark_broken.ensures.rest.starts) ∙ is
-
-pub returns-clause-starts : goal.returns-clause-starts
-returns-clause-starts g c block is =
-    ap (λ (m : Marks). is_marked m.words.items block) (sym c.count_block.ensures.rest.starts) ∙ is
-
-pub returns-then-is_err-clause-device : goal.returns-then-is_err-clause-device
-returns-then-is_err-clause-device g c = record {
-  failed = with_error c.write.result (sym c.is_err.ensures.value ∙ c.if-is_err.true)
-      c.write.ensures.failed;
-  no_failure = tt;
-  honest = c.write.ensures.honest;
-  blocks = c.write.ensures.count;
-}
-
-pub returns-clause-device : goal.returns-clause-device
-returns-clause-device g c = record {
-  failed = tt;
-  no_failure = without_error c.write.result (sym c.is_err.ensures.value ∙ c.if-is_err.false)
-      c.write.ensures.no_failure;
-  honest = c.write.ensures.honest;
-  blocks = c.write.ensures.count;
-}
-
-pub returns-then-not-can_write-clause-written : goal.returns-then-not-can_write-clause-written
-returns-then-not-can_write-clause-written g c can =
-    absurd (false≢true (sym c.if-not-can_write.true ∙ c.can_write.ensures.1 can))
-
 pub count_block-requires-clause-left : goal.count_block-requires-clause-left
 count_block-requires-clause-left g c = (c.can_write.ensures.0 c.if-not-can_write.false).left
 
@@ -172,3 +58,126 @@ write-requires g c =
     (subst (λ (n : ℕ). c.args.write.now.token.first
     + written_of c.args.self.now.buffer_state.progress < n) c.args.self.now.counted
     c.next_stamp-stamp.ensures.within)
+
+pub returns-then-not-can_write : goal.returns-then-not-can_write
+returns-then-not-can_write g c = record {
+  written = λ can. absurd
+      (false≢true (sym c.if-not-can_write.true ∙ c.can_write.ensures.1 can));
+  refused = λ none. (refl, refl);
+  error = tt;
+  fault = tt;
+  starts = λ block is. is;
+  device = record { failed = tt; no_failure = refl; honest = λ is. is; blocks = refl };
+  head = refl;
+}
+
+pub returns-then-is_err : goal.returns-then-is_err
+returns-then-is_err g c =
+    let can = c.can_write.ensures.0 c.if-not-can_write.false in
+    record {
+      written = λ can. let stamp = c.next_stamp-stamp.result in record {
+        last = tt;
+        fault = λ trusted h agrees. ap errors.Device (c.fault-fault.ensures
+            ∙ ap (λ (l : Line). fault_of (buffer_of l) kinds.Write stamp.article_length)
+            c.mark_broken.ensures.rest.line
+            ∙ ap (λ (s : Stamp). fault_of (buffer_of c.args.self.now.buffer_state.line) kinds.Write
+            s.article_length) c.next_stamp-stamp.ensures.stamp
+            ∙ ap (λ (b : Buffer). fault_of b kinds.Write c.args.write.now.token.length)
+            (sym agrees.keeps.buffer));
+        written = tt;
+        count = tt;
+        whole = tt;
+        broken = λ trusted h agrees.
+            let old = c.args.self.now.buffer_state in
+            let here = ap (λ (s : Stamp). s.first + s.index) c.next_stamp-stamp.ensures.stamp in
+            let left = fails_by (trusted ≡ true) (g.S.BlockStore.blocks c.args.self.now.store)
+            (g.S.BlockStore.blocks c.write.new.self) old c.mark_broken.new.self h c.args.write.now
+            agrees.keeps agrees.holds c.mark_broken.ensures.rest old.progress h.writing refl refl
+            agrees.keeps.writing
+            can.owned can.left c.mark_broken.ensures.progress
+            (λ is. subst (λ n. ChangesOnly n (g.S.BlockStore.blocks c.args.self.now.store)
+            (g.S.BlockStore.blocks c.write.new.self)) here
+            (c.write.ensures.others (agrees.honest is)))
+            (λ is. (agrees.holds is).open_one) in
+            record {
+              keeps = left.0;
+              honest = λ is. c.write.ensures.honest (agrees.honest is);
+              holds = left.1;
+            };
+        owned = subst (IsTheOpen c.args.write.now) (sym c.mark_broken.ensures.progress)
+            (still_open c.args.write.now c.args.self.now.buffer_state.progress can.owned);
+        calls = c.write.ensures.calls;
+      };
+      refused = λ none. absurd (none can);
+      error = can;
+      fault = ap errors.Device (c.fault-fault.ensures
+          ∙ ap (λ (l : Line). fault_of (buffer_of l) kinds.Write
+          c.next_stamp-stamp.result.article_length) c.mark_broken.ensures.rest.line
+          ∙ ap (λ (s : Stamp). fault_of (buffer_of c.args.self.now.buffer_state.line) kinds.Write
+          s.article_length) c.next_stamp-stamp.ensures.stamp);
+      starts = λ block is. ap (λ (m : Marks). is_marked m.words.items block)
+          (sym c.mark_broken.ensures.rest.starts) ∙ is;
+      device = record {
+        failed = with_error c.write.result (sym c.is_err.ensures.value ∙ c.if-is_err.true)
+            c.write.ensures.failed;
+        no_failure = tt;
+        honest = c.write.ensures.honest;
+        blocks = c.write.ensures.count;
+      };
+      head = refl;
+    }
+
+pub returns : goal.returns
+returns g c = record {
+  written = λ can.
+      let counted = counted_on c.args.write.now c.args.self.now.buffer_state.progress
+      c.count_block.new.self.progress can.owned c.count_block.ensures.progress in
+      record {
+        last = c.count_block.ensures.last
+            ∙ ap (λ (n : ℕ). n == size_of c.args.write.now.token.length) (sym counted.0);
+        fault = tt;
+        written = λ trusted h continues agrees.
+            let old = c.args.self.now.buffer_state in
+            let here = ap (λ (s : Stamp). s.first + s.index) c.next_stamp-stamp.ensures.stamp in
+            let left = next_by (trusted ≡ true) (g.S.BlockStore.blocks c.args.self.now.store)
+            (g.S.BlockStore.blocks c.write.new.self) old c.count_block.new.self h c.args.write.now
+            agrees.keeps agrees.holds c.count_block.ensures.rest c.args.text.now can.octets
+            old.progress h.writing refl refl agrees.keeps.writing
+            can.owned continues can.left c.count_block.ensures.progress
+            (λ is. subst (λ n. ChangesOnly n (g.S.BlockStore.blocks c.args.self.now.store)
+            (g.S.BlockStore.blocks c.write.new.self)) here
+            (c.write.ensures.others (agrees.honest is)))
+            (λ is. (agrees.holds is).open_one)
+            (λ is. image_there (g.S.BlockStore.blocks c.args.self.now.store)
+            (g.S.BlockStore.blocks c.write.new.self) c.next_stamp-stamp.result
+            c.args.write.now.token _ c.block_image-image.result c.chunk_of.result.now
+            c.args.text.now
+            (without_error c.write.result (sym c.is_err.ensures.value ∙ c.if-is_err.false)
+            (c.write.ensures.written (agrees.honest is)))
+            (omega (arith, here, c.next_stamp-stamp.ensures.within, c.args.self.now.counted))
+            c.next_stamp-stamp.ensures.stamp c.block_image-image.ensures c.chunk_of.ensures) in
+            record {
+              keeps = left.0;
+              honest = λ is. c.write.ensures.honest (agrees.honest is);
+              holds = left.1;
+            };
+        count = counted.0;
+        whole = counted.1 ∙ can.whole;
+        broken = tt;
+        owned = counted.2;
+        calls = c.write.ensures.calls;
+      };
+  refused = λ none. absurd (none (c.can_write.ensures.0 c.if-not-can_write.false));
+  error = tt;
+  fault = tt;
+  starts = λ block is. ap (λ (m : Marks). is_marked m.words.items block)
+      (sym c.count_block.ensures.rest.starts) ∙ is;
+  device = record {
+    failed = tt;
+    no_failure = without_error c.write.result (sym c.is_err.ensures.value ∙ c.if-is_err.false)
+        c.write.ensures.no_failure;
+    honest = c.write.ensures.honest;
+    blocks = c.write.ensures.count;
+  };
+  head = refl;
+}

@@ -84,51 +84,85 @@ was_marked : (passed old new : Bool) → new ≡ cond passed false old → new �
 was_marked true old new is marked = absurd (false≢true (sym is ∙ marked))
 was_marked false old new is marked = sym is ∙ marked
 
-pub returns-then-size-self-clause-refusal : goal.returns-then-size-self-clause-refusal
-returns-then-size-self-clause-refusal c h keeps =
-    cond_below h.buffer.blocks (size_of c.args.length) (Some TooBig) _
-    (omega (
-      arith,
-      c.if-size-self.true,
-      c.size_of-size.ensures,
-      ap (λ (b : Buffer). b.blocks) keeps.buffer,
-    ))
+pub returns-then-size-self : goal.returns-then-size-self
+returns-then-size-self c = record {
+  refusal = λ h keeps.
+      cond_below h.buffer.blocks (size_of c.args.length) (Some TooBig) _
+      (omega (
+        arith,
+        c.if-size-self.true,
+        c.size_of-size.ensures,
+        ap (λ (b : Buffer). b.blocks) keeps.buffer,
+      ));
+  refused = refl;
+  begun = tt;
+  «open» = tt;
+  length = tt;
+  class = tt;
+  blocks = refl;
+  fault = omega (arith, c.if-size-self.true, c.size_of-size.ensures);
+  idle = tt;
+  starts = λ j marked. marked;
+}
 
-pub returns-in_default-clause-refusal : goal.returns-in_default-clause-refusal
-returns-in_default-clause-refusal c h keeps =
-    let line = c.args.self.now.line in
-    cond_above h.buffer.blocks (size_of c.args.length) (Some TooBig) _
-    (Some (errors.Worn c.fault.result))
-    (omega (
-      arith,
-      c.if-size-self.false,
-      c.size_of-size.ensures,
-      ap (λ (b : Buffer). b.blocks) keeps.buffer,
-    ))
-    (ap (λ (f : Fault). Some (errors.Worn f))
-    (c.fault.ensures ∙ ap (λ (b : Buffer). fault_of b kinds.Worn c.args.length) (sym keeps.buffer))
-    ∙ cond_below last_cycle (next_cycle h c.args.fresh (size_of c.args.length))
-    (Some (errors.Worn (fault_of h.buffer kinds.Worn c.args.length))) _
-    (omega (
-      arith,
-      c.in_default.ensures.none,
-      ap (λ size. (place_after line.blocks (line_head line) c.args.fresh size).run)
-          c.size_of-size.ensures,
-      cycle_is c.args.self.now h c.args.fresh c.args.length keeps,
-    )))
+pub returns-in_default : goal.returns-in_default
+returns-in_default c = record {
+  refusal = λ h keeps.
+      let line = c.args.self.now.line in
+      cond_above h.buffer.blocks (size_of c.args.length) (Some TooBig) _
+      (Some (errors.Worn c.fault.result))
+      (omega (
+        arith,
+        c.if-size-self.false,
+        c.size_of-size.ensures,
+        ap (λ (b : Buffer). b.blocks) keeps.buffer,
+      ))
+      (ap (λ (f : Fault). Some (errors.Worn f))
+      (c.fault.ensures
+      ∙ ap (λ (b : Buffer). fault_of b kinds.Worn c.args.length) (sym keeps.buffer))
+      ∙ cond_below last_cycle (next_cycle h c.args.fresh (size_of c.args.length))
+      (Some (errors.Worn (fault_of h.buffer kinds.Worn c.args.length))) _
+      (omega (
+        arith,
+        c.in_default.ensures.none,
+        ap (λ size. (place_after line.blocks (line_head line) c.args.fresh size).run)
+            c.size_of-size.ensures,
+        cycle_is c.args.self.now h c.args.fresh c.args.length keeps,
+      )));
+  refused = refl;
+  begun = tt;
+  «open» = tt;
+  length = tt;
+  class = tt;
+  blocks = refl;
+  fault = c.fault.ensures;
+  idle = tt;
+  starts = λ j marked. marked;
+}
 
-pub returns-then-is_some-clause-refusal : goal.returns-then-is_some-clause-refusal
-returns-then-is_some-clause-refusal c h keeps =
-    let line = c.args.self.now.line in
-    refused_open c.args.self.now h c.args.length c.args.fresh true keeps
-    (omega (arith, c.if-size-self.false, c.size_of-size.ensures))
-    (omega (
-      arith,
-      ap (λ (a : Head). a.run) c.in-Some.ensures.place,
-      ap (λ size. (place_after line.blocks (line_head line) c.args.fresh size).run)
-          c.size_of-size.ensures,
-    ))
-    (sym c.if-is_some.true ∙ c.is_some.ensures)
+pub returns-then-is_some : goal.returns-then-is_some
+returns-then-is_some c = record {
+  refusal = λ h keeps.
+      let line = c.args.self.now.line in
+      refused_open c.args.self.now h c.args.length c.args.fresh true keeps
+      (omega (arith, c.if-size-self.false, c.size_of-size.ensures))
+      (omega (
+        arith,
+        ap (λ (a : Head). a.run) c.in-Some.ensures.place,
+        ap (λ size. (place_after line.blocks (line_head line) c.args.fresh size).run)
+            c.size_of-size.ensures,
+      ))
+      (sym c.if-is_some.true ∙ c.is_some.ensures);
+  refused = refl;
+  begun = tt;
+  «open» = tt;
+  length = tt;
+  class = tt;
+  blocks = refl;
+  fault = sym c.is_some.ensures ∙ c.if-is_some.true;
+  idle = tt;
+  starts = λ j marked. marked;
+}
 
 pub returns-clause-refusal : goal.returns-clause-refusal
 returns-clause-refusal c h keeps =
