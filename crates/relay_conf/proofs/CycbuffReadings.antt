@@ -111,31 +111,24 @@ names_decide lines d from =
 
 -- One line more, by whether it has a fault.
 pub groups_step : (line : List ℕ) (d after : GroupDraft) (result : Result (Unit {0}) Refusal)
-    → d.buffers.now ≡ after.buffers.now
-    → LineGives result
-    (listed_fault d.buffers.now (map group_view d.groups.items) (cycbuff_line line))
+    → (known : List BufferConf)
+    → LineGives result (listed_fault known (map group_view d.groups.items) (cycbuff_line line))
     → OnOk result (map group_view after.groups.items
-    ≡ map group_view d.groups.items ++ option_to_list (group_of d.buffers.now (cycbuff_line line)))
-    → (known : List BufferConf) (said : List (Result CycbuffLine Fault)) → HasGroups known said d
+    ≡ map group_view d.groups.items ++ option_to_list (group_of known (cycbuff_line line)))
+    → (said : List (Result CycbuffLine Fault)) → HasGroups known said d
     → StepGives LineSays (late_fault known) (HasGroups known) said line after result
-groups_step line d after (Ok done) same gives more known said has =
+groups_step line d after (Ok done) known gives more said has =
     record {
       one = cycbuff_line line;
       says = refl;
-      none = rw (← has.groups, ← has.over) gives;
+      none = rw (← has.groups) gives;
       draws = record {
-        over = sym same ∙ has.over;
-        groups = rw (filter_one (group_of known) said (cycbuff_line line), ← has.groups, ← has.over)
-            more;
+        groups = rw (filter_one (group_of known) said (cycbuff_line line), ← has.groups) more;
       };
     }
-groups_step line d after (Err Memory) same gives more known said has = tt
-groups_step line d after (Err (Faulty fault)) same gives more known said has =
-    record {
-      one = cycbuff_line line;
-      says = refl;
-      found = rw (← has.groups, ← has.over) gives;
-    }
+groups_step line d after (Err Memory) known gives more said has = tt
+groups_step line d after (Err (Faulty fault)) known gives more said has =
+    record { one = cycbuff_line line; says = refl; found = rw (← has.groups) gives }
 
 -- At the end the groups are those of all lines.
 pub groups_done : (known : List BufferConf) (lines : List (List ℕ)) (d : GroupDraft)
@@ -178,52 +171,47 @@ groups_follow said = sym (unless_then (first_fault early_fault [] said) _ _
     (unless_then (first_fault (late_fault (buffers_of said)) [] said)
     (Ok (groups_of (buffers_of said) said)) _)))
 
--- A fault of the buffers is that of the file.
-pub buffers_fault : {T : Type 0} (view : T → List BufferConf) (read lines : List (List ℕ))
-    → read ≡ lines → (result : Result Buffers ConfError) (error : ConfError)
-    → IsErrAnd result (λ e. e ≡ error)
-    → ConfGives view (Err error) (buffers_said (map cycbuff_line read))
-    → ConfGives buffers_view result (cycbuff_of lines)
-buffers_fault view read lines same (Ok settings) error is gives = absurd is
-buffers_fault view read lines same (Err errors.Memory) error is gives = tt
-buffers_fault view read lines same (Err (errors.Faulty fault)) error is gives =
-    let says = buffers_said (map cycbuff_line read) in
-    let found : says ≡ Err fault =
-    rw (← is) at gives in
-    ap cycbuff_of (sym same) ∙ groups_follow (map cycbuff_line read)
-    ∙ ap (λ (said : Result (List BufferConf) LineFault).
-    and_then said (with_buffers (map cycbuff_line read))) found
-
-module _ (read again lines : List (List ℕ)) (once : read ≡ lines) (twice : again ≡ lines)
-    (buffers known : List BufferConf) (over : known ≡ buffers)
-    (said : buffers_said (map cycbuff_line read) ≡ Ok buffers) where
-  -- Where they have none, the groups decide.
-  groups_decide : cycbuff_of lines
-      ≡ and_then (groups_said known (map cycbuff_line again)) (with_groups buffers)
-  groups_decide =
-      rw (twice, over) (groups_follow (map cycbuff_line lines)
-      ∙ ap (λ (said : Result (List BufferConf) LineFault).
-      and_then said (with_buffers (map cycbuff_line lines)))
-      (ap (λ (text : List (List ℕ)). buffers_said (map cycbuff_line text)) (sym once) ∙ said))
-
-  -- A fault of the groups is that of the file,
-  pub groups_fault : {T : Type 0} (view : T → List Group) (result : Result Buffers ConfError)
+module _ (lines : List (List ℕ)) where
+  -- A fault of the buffers is that of the file.
+  pub buffers_fault : {T : Type 0} (view : T → List BufferConf) (result : Result Buffers ConfError)
       (error : ConfError) → IsErrAnd result (λ e. e ≡ error)
-      → ConfGives view (Err error) (groups_said known (map cycbuff_line again))
+      → ConfGives view (Err error) (buffers_said (map cycbuff_line lines))
       → ConfGives buffers_view result (cycbuff_of lines)
-  groups_fault view (Ok settings) error is gives = absurd is
-  groups_fault view (Err errors.Memory) error is gives = tt
-  groups_fault view (Err (errors.Faulty fault)) error is gives =
-      let says = groups_said known (map cycbuff_line again) in
-      let found : says ≡ Err fault =
-      rw (← is) at gives in
-      groups_decide
-      ∙ ap (λ (said : Result (List Group) LineFault). and_then said (with_groups buffers)) found
+  buffers_fault view (Ok settings) error is gives = absurd is
+  buffers_fault view (Err errors.Memory) error is gives = tt
+  buffers_fault view (Err (errors.Faulty fault)) error is gives =
+      let found : buffers_said (map cycbuff_line lines) ≡ Err fault = rw (← is) at gives in
+      groups_follow (map cycbuff_line lines)
+      ∙ ap (λ (said : Result (List BufferConf) LineFault).
+      and_then said (with_buffers (map cycbuff_line lines))) found
 
-  -- and without one there are settings.
-  pub cycbuff_done : (groups : List Group)
-      → groups_said known (map cycbuff_line again) ≡ Ok groups
-      → cycbuff_of lines ≡ Ok (record { buffers = buffers; groups = groups })
-  cycbuff_done groups says =
-      groups_decide
-      ∙ ap (λ (said : Result (List Group) LineFault). and_then said (with_groups buffers)) says
+  module _ (buffers : List BufferConf) (said : buffers_said (map cycbuff_line lines) ≡ Ok buffers)
+    where
+      -- Where they have none, the groups decide.
+      groups_decide : cycbuff_of lines
+          ≡ and_then (groups_said buffers (map cycbuff_line lines)) (with_groups buffers)
+      groups_decide =
+          groups_follow (map cycbuff_line lines)
+          ∙ ap (λ (said : Result (List BufferConf) LineFault).
+          and_then said (with_buffers (map cycbuff_line lines))) said
+
+      -- A fault of the groups is that of the file,
+      pub groups_fault : {T : Type 0} (view : T → List Group) (result : Result Buffers ConfError)
+          (error : ConfError) → IsErrAnd result (λ e. e ≡ error)
+          → ConfGives view (Err error) (groups_said buffers (map cycbuff_line lines))
+          → ConfGives buffers_view result (cycbuff_of lines)
+      groups_fault view (Ok settings) error is gives = absurd is
+      groups_fault view (Err errors.Memory) error is gives = tt
+      groups_fault view (Err (errors.Faulty fault)) error is gives =
+          let found : groups_said buffers (map cycbuff_line lines) ≡ Err fault =
+          rw (← is) at gives in
+          groups_decide
+          ∙ ap (λ (said : Result (List Group) LineFault). and_then said (with_groups buffers)) found
+
+      -- and without one there are settings.
+      pub cycbuff_done : (groups : List Group)
+          → groups_said buffers (map cycbuff_line lines) ≡ Ok groups
+          → cycbuff_of lines ≡ Ok (record { buffers = buffers; groups = groups })
+      cycbuff_done groups says =
+          groups_decide
+          ∙ ap (λ (said : Result (List Group) LineFault). and_then said (with_groups buffers)) says

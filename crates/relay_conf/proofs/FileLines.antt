@@ -56,6 +56,17 @@ buffer_said after name file size sized three named filed number =
     ∙ ap buffer_parted three
     ∙ sym (buffer_by_three after)
 
+-- A name or a file that is none is Syntax.
+pub buffer_refused : (after : List (List ℕ)) (name file size : List ℕ)
+    → Some (name, file, size) ≡ three_of after → (is_name name && is_file file) ≡ false
+    → Err Syntax ≡ buffer_line after
+buffer_refused after name file size three none =
+    ap (λ good. if good then buffer_sized name file (number_within 1 2097152 size) else Err
+    Syntax)
+    (sym none)
+    ∙ ap buffer_parted three
+    ∙ sym (buffer_by_three after)
+
 -- what two parts behind `metacycbuff` say, else just three, and what others do
 abbrev pub group_parted : Option (List ℕ × List ℕ) → Option (List ℕ × List ℕ × List ℕ)
     → Result CycbuffLine Fault

@@ -1,11 +1,9 @@
 -- Lines read one after the other: what they say, and the draft that is theirs.
-use Rattle.std.proofs.Common.{◌≡◌, ℕ, ◌+◌, ◌<◌, ◌≤◌, List, [], ◌∷◌, ◌++◌, length, take, drop}
-use Rattle.std.proofs.Common.{get_or, map, Option, Some, None, Result, Ok, Err, refl, ap, ◌∙◌, sym}
-use Rattle.std.proofs.Common.{subst, arith, append_assoc, append-nil, inl, inr}
+use Rattle.std.proofs.Common.{◌≡◌, ℕ, ◌+◌, List, [], ◌∷◌, ◌++◌, length, Option, Some, None}
+use Rattle.std.proofs.Common.{Result, Ok, Err, refl, ap, ◌∙◌, sym, subst, arith, append_assoc}
+use Rattle.std.proofs.Common.{append-nil, inl, inr}
 use Rattle.std.specs.Prelude.{IsErrAnd, OnOk}
-use Rattle.std.specs.Borrow.{Bor}
-use Rattle.std.proofs.lemmas.List.{take_all, take-append-drop, map-append, length-map}
-use Rattle.std.proofs.lemmas.List.{length-take-le}
+use Rattle.std.proofs.lemmas.List.{length-append}
 use Rattle.relay_conf.specs.declared.faults.Fault.{Fault}
 use Rattle.relay_conf.specs.declared.faults.LineFault.{LineFault}
 use Rattle.relay_conf.specs.declared.faults.ConfError.{ConfError}
@@ -16,13 +14,10 @@ use Rattle.relay_conf.specs.Drafts.{Passes, StepGives, IsDrawnFrom, DraftGives, 
 use Rattle.relay_conf.specs.Expressions.{ExpressionGives}
 use Rattle.relay_conf.specs.Faults.{first_fault, error_at, ConfGives, LineGives}
 use Rattle.relay_conf.specs.LineByLine.{SayEach, LinesGive}
-use Rattle.relay_conf.proofs.FirstFaults.{fault_last, map_one}
+use Rattle.relay_conf.specs.Lines.{lines_in}
+use Rattle.relay_conf.proofs.FirstFaults.{fault_last}
 
 -- WHAT LINES SAY
-
--- the octets of a line
-abbrev now : Bor (List ℕ) → List ℕ
-now line = line.now
 
 module _ {S : Type 0} (Says : List S → List ℕ → S → Type 0) where
   -- Lines say one more.
@@ -46,115 +41,126 @@ module _ {S : Type 0} (Says : List S → List ℕ → S → Type 0) where
       let rest = say_length (before ++ s ∷ []) lines said h.1 in omega (arith, rest)
   say_length before lines said h = absurd h
 
-  -- So many lines were passed.
-  passed_length : (lines : List (Bor (List ℕ))) (i : ℕ) (said : List S) → i < length lines
-      → SayEach Says [] (map now (take i lines)) said → length said ≡ i
-  passed_length lines i said h says =
-      say_length [] (map now (take i lines)) said says ∙ length-map (take i lines) now
-      ∙ length-take-le i lines (omega (arith, h))
-
-  -- They say one more with the next.
-  passed_more : (lines : List (Bor (List ℕ))) (i : ℕ) (d : Bor (List ℕ)) (said : List S) (one : S)
-      → i < length lines → SayEach Says [] (map now (take i lines)) said
-      → Says said (get_or lines i d).now one
-      → SayEach Says [] (map now (take (i + 1) lines)) (said ++ one ∷ [])
-  passed_more lines i d said one h says next =
-      rw (map_one now lines i d h)
-      (say_more [] (map now (take i lines)) said (get_or lines i d).now one says next)
-
 -- THE LOOP OVER LINES
+
+-- so many lines are passed, which have no fault, and the draft is theirs; these are left
+pub record HasPassed {S D : Type 0} (Says : List S → List ℕ → S → Type 0)
+    (wrong : List S → S → Option Fault) (Draws : List S → D → Type 0) (lines : List (List ℕ))
+    (number : ℕ) (left : List (List ℕ)) (draft : D) : Type 0 where
+  pub read : List (List ℕ)
+  pub split : lines ≡ read ++ left
+  pub count : length read ≡ number
+  pub from : IsDrawnFrom Says wrong Draws read draft
 
 module _ {S D : Type 0} (Says : List S → List ℕ → S → Type 0)
     (wrong : List S → S → Option Fault) (Draws : List S → D → Type 0) where
-  -- No lines are drawn from at the start.
-  pub no_lines : (draft : D) → Draws [] draft → IsDrawnFrom Says wrong Draws [] draft
-  no_lines draft h = record { said = []; says = tt; none = refl; draws = h }
-
-  -- A line without fault is passed.
-  pub lines_passed : (lines : List (Bor (List ℕ))) (i : ℕ) (d : Bor (List ℕ)) (draft after : D)
-      → i < length lines
-      → IsDrawnFrom Says wrong Draws (map (λ line. line.now) (take i lines)) draft
-      → ((said : List S) → length said + 1 ≡ i + 1 → Draws said draft
-      → Passes Says wrong Draws said (get_or lines i d).now after)
-      → IsDrawnFrom Says wrong Draws (map (λ line. line.now) (take (i + 1) lines)) after
-  lines_passed lines i d draft after h from step =
-      let n = passed_length Says lines i from.said h from.says in
-      let passes = step from.said (omega (arith, n)) from.draws in
+  -- No line is passed at the start.
+  pub none_passed : (lines : List (List ℕ)) (draft : D) → Draws [] draft
+      → HasPassed Says wrong Draws lines 0 lines draft
+  none_passed lines draft h =
       record {
-        said = from.said ++ passes.one ∷ [];
-        says = passed_more Says lines i d from.said passes.one h from.says passes.says;
-        none = fault_last wrong from.said passes.one None from.none passes.none;
-        draws = passes.draws;
+        read = [];
+        split = refl;
+        count = refl;
+        from = record { said = []; says = tt; none = refl; draws = h };
       }
 
-  -- The refusal of a line is the answer.
-  pub lines_refused : (lines : List (Bor (List ℕ))) (i : ℕ) (d : Bor (List ℕ)) (draft after : D)
-      (refusal : Refusal) → i < length lines
-      → IsDrawnFrom Says wrong Draws (map (λ line. line.now) (take i lines)) draft
-      → ((said : List S) → length said + 1 ≡ i + 1 → Draws said draft
-      → StepGives Says wrong Draws said (get_or lines i d).now after (Err refusal))
-      → DraftGives Says wrong Draws (map (λ line. line.now) lines) (Err (error_at (i + 1) refusal))
-  lines_refused lines i d draft after Memory h from step = tt
-  lines_refused lines i d draft after (Faulty fault) h from step =
-      let n = passed_length Says lines i from.said h from.says in
-      let refuses = step from.said (omega (arith, n)) from.draws in
-      record {
-        read = map now (take (i + 1) lines);
-        rest = map now (drop (i + 1) lines);
-        said = from.said ++ refuses.one ∷ [];
-        split = ap (map now) (sym (take-append-drop (i + 1) lines))
-            ∙ map-append now (take (i + 1) lines) (drop (i + 1) lines);
-        says = passed_more Says lines i d from.said refuses.one h from.says refuses.says;
-        first = fault_last wrong from.said refuses.one (Some fault) from.none refuses.found
-            ∙ ap (λ (k : ℕ). Some (record { line = k + 1; fault = fault })) n;
-      }
+  module _ (lines : List (List ℕ)) (number : ℕ) (line : List ℕ) (rest : List (List ℕ))
+      (draft after : D) (passed : HasPassed Says wrong Draws lines number (line ∷ rest) draft) where
+    -- The next line is of the number behind.
+    of_number : length passed.from.said + 1 ≡ number + 1
+    of_number =
+        omega (
+          arith,
+          say_length Says [] passed.read passed.from.said passed.from.says,
+          passed.count,
+        )
+
+    -- With it the text is split further on.
+    split_on : lines ≡ (passed.read ++ line ∷ []) ++ rest
+    split_on = passed.split ∙ sym (append_assoc passed.read (line ∷ []) rest)
+
+    -- A line without fault is passed.
+    pub line_passed : ((said : List S) → length said + 1 ≡ number + 1 → Draws said draft
+        → Passes Says wrong Draws said line after)
+        → HasPassed Says wrong Draws lines (number + 1) rest after
+    line_passed step =
+        let from = passed.from in
+        let passes = step from.said of_number from.draws in
+        record {
+          read = passed.read ++ line ∷ [];
+          split = split_on;
+          count = omega (arith, length-append passed.read (line ∷ []), passed.count);
+          from = record {
+            said = from.said ++ passes.one ∷ [];
+            says = say_more Says [] passed.read from.said line passes.one from.says passes.says;
+            none = fault_last wrong from.said passes.one None from.none passes.none;
+            draws = passes.draws;
+          };
+        }
+
+    -- The refusal of a line is the answer.
+    pub line_refused : (refusal : Refusal)
+        → ((said : List S) → length said + 1 ≡ number + 1 → Draws said draft
+        → StepGives Says wrong Draws said line after (Err refusal))
+        → DraftGives Says wrong Draws lines (Err (error_at (number + 1) refusal))
+    line_refused Memory step = tt
+    line_refused (Faulty fault) step =
+        let from = passed.from in
+        let refuses = step from.said of_number from.draws in
+        record {
+          read = passed.read ++ line ∷ [];
+          rest = rest;
+          said = from.said ++ refuses.one ∷ [];
+          split = split_on;
+          says = say_more Says [] passed.read from.said line refuses.one from.says refuses.says;
+          first = fault_last wrong from.said refuses.one (Some fault) from.none refuses.found
+              ∙ ap (λ (k : ℕ). Some (record { line = k; fault = fault })) of_number;
+        }
 
   -- All lines are read at the end.
-  pub lines_done : (lines : List (Bor (List ℕ))) (i : ℕ) (draft : D) → length lines ≤ i
-      → IsDrawnFrom Says wrong Draws (map (λ line. line.now) (take i lines)) draft
-      → IsDrawnFrom Says wrong Draws (map (λ line. line.now) lines) draft
-  lines_done lines i draft h from = rw (take_all i lines h) at from
+  pub all_passed : (lines : List (List ℕ)) (number : ℕ) (draft : D)
+      → HasPassed Says wrong Draws lines number [] draft
+      → IsDrawnFrom Says wrong Draws lines draft
+  all_passed lines number draft passed =
+      subst (λ (read : List (List ℕ)). IsDrawnFrom Says wrong Draws read draft)
+      (sym (passed.split ∙ append-nil passed.read)) passed.from
+
+-- A text has at most one line more than octets.
+pub few_lines : (parts : List (List ℕ)) → length (lines_in parts) ≡ length parts
+few_lines [] = refl
+few_lines (last ∷ []) = refl
+few_lines (line ∷ next ∷ more) = let rest = few_lines (next ∷ more) in omega (arith, rest)
 
 -- THE ANSWER
 
--- The lines that are read are those of the text.
-pub read_of : (cut read : List (Bor (List ℕ))) (lines : List (List ℕ)) → read ≡ cut
-    → map (λ line. line.now) cut ≡ lines → map (λ line. line.now) read ≡ lines
-read_of cut read lines same h = ap (map now) same ∙ h
-
 module _ {A S T D : Type 0} (view : A → T) (Says : List S → List ℕ → S → Type 0)
     (wrong : List S → S → Option Fault) (Draws : List S → D → Type 0)
-    (together : List S → Result T LineFault) (read lines : List (List ℕ)) (same : read ≡ lines)
-    (result : Result A ConfError) where
+    (together : List S → Result T LineFault) (lines : List (List ℕ)) where
   -- What is answered of the draft is answered of the lines.
-  pub draft_answers : (draft : D) → IsDrawnFrom Says wrong Draws read draft
+  pub draft_answers : (result : Result A ConfError) (draft : D)
+      → IsDrawnFrom Says wrong Draws lines draft
       → ((said : List S) → first_fault wrong [] said ≡ None → Draws said draft
       → ConfGives view result (together said))
       → LinesGive view Says wrong together result lines
-  draft_answers draft from gives =
-      subst (LinesGive view Says wrong together result) same
-      (by_result result (gives from.said from.none from.draws))
+  draft_answers result draft from gives =
+      by_result result (gives from.said from.none from.draws)
     where
       by_result : (r : Result A ConfError) → ConfGives view r (together from.said)
-          → LinesGive view Says wrong together r read
+          → LinesGive view Says wrong together r lines
       by_result (Ok settings) g = record { said = from.said; says = from.says; gives = g }
       by_result (Err errors.Memory) g = tt
       by_result (Err (errors.Faulty fault)) g =
           inr (record { said = from.said; says = from.says; gives = g })
 
   -- An error of the draft is that of the lines.
-  pub draft_fails : (error : ConfError) → IsErrAnd result (λ e. e ≡ error)
-      → DraftGives Says wrong Draws read (Err error)
+  pub draft_fails : (result : Result A ConfError) (error : ConfError)
+      → IsErrAnd result (λ e. e ≡ error)
+      → DraftGives Says wrong Draws lines (Err error)
       → LinesGive view Says wrong together result lines
-  draft_fails error is gives =
-      subst (LinesGive view Says wrong together result) same (by_result result is)
-    where
-      by_result : (r : Result A ConfError) → IsErrAnd r (λ e. e ≡ error)
-          → LinesGive view Says wrong together r read
-      by_result (Ok settings) is = absurd is
-      by_result (Err errors.Memory) is = tt
-      by_result (Err (errors.Faulty fault)) is =
-          inl (rw (← is) at gives)
+  draft_fails (Ok settings) error is gives = absurd is
+  draft_fails (Err errors.Memory) error is gives = tt
+  draft_fails (Err (errors.Faulty fault)) error is gives = inl (rw (← is) at gives)
 
 -- A READING BECOMES THE NEXT
 

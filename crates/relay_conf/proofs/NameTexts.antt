@@ -1,6 +1,8 @@
 -- Names as text, and sets of them.
-use Rattle.std.proofs.Common.{◌≡◌, ℕ, ◌<◌, Bool, true, cond, List, [], ◌∷◌, ◌++◌, sym, arith, rules}
-use Rattle.std.proofs.Common.{tests, zero, suc, ap, Bor, Result, Ok, Err, Some}
+use Rattle.std.proofs.Common.{◌≡◌, ℕ, ◌<◌, ◌≤◌, Bool, true, false, cond, List, [], ◌∷◌, ◌++◌, sym}
+use Rattle.std.proofs.Common.{arith, rules, length, None}
+use Rattle.std.proofs.Common.{tests, zero, suc, ap, ◌∙◌, map, Bor, Result, Ok, Err, Some}
+use Rattle.std.proofs.lemmas.List.{map-append}
 use Rattle.std.specs.Prelude.{◌||◌, bytes_eq, MatchResult}
 use Rattle.std.specs.Option.{option_copied}
 use Rattle.std.specs.Result.{result_ok}
@@ -9,8 +11,10 @@ use Rattle.std.specs.Str.{IsAscii, IsUtf8}
 use Rattle.std.proofs.lemmas.Str.{IsUtf8-from_ascii}
 use Rattle.std.proofs.lemmas.List.Folds.{list_any-append}
 use Rattle.std.proofs.lemmas.Slice.Eq.{bytes_eq-Decides}
-use Rattle.std.proofs.lemmas.Bool.Decides.{same_from_decides, Decides-like}
+use Rattle.std.proofs.lemmas.Bool.Decides.{same_from_decides, Decides-like, nat_tests}
+use Rattle.relay_conf.specs.Cycbuff.{name_fault}
 use Rattle.relay_conf.specs.Words.{is_name, is_name_octet}
+use Rattle.relay_conf.specs.declared.faults.Fault.TheVariants.{Duplicate, Number}
 use Rattle.std.proofs.lemmas.Bool.{and_parts}
 
 -- An octet of a name is ASCII.
@@ -53,3 +57,30 @@ bytes_eq-sym xs ys =
 pub any_more : (names : List (List ℕ)) (name other : List ℕ) → bytes_eq name other || list_any
     (bytes_eq other) names ≡ list_any (bytes_eq other) (names ++ name ∷ [])
 any_more names name other = grind (arith, list_any-append, bytes_eq-sym)
+
+-- A name more is listed, where what has it stands behind the others.
+pub listed_more : {X : Type 0} (name_of : X → List ℕ) (old after : List X) (one : X)
+    (was is : Bool) (name : List ℕ) → is ≡ (bytes_eq (name_of one) name || was)
+    → was ≡ list_any (bytes_eq name) (map name_of old) → after ≡ old ++ one ∷ []
+    → is ≡ list_any (bytes_eq name) (map name_of after)
+listed_more name_of old after one was is name more listed grown =
+    more
+    ∙ ap (λ found. bytes_eq (name_of one) name || found) listed
+    ∙ any_more (map name_of old) (name_of one) name
+    ∙ ap (list_any (bytes_eq name))
+    (sym (map-append name_of old (one ∷ [])) ∙ ap (map name_of) (sym grown))
+
+-- Past 256 names there is no room for another,
+pub names_full : (names : List (List ℕ)) (name : List ℕ) → 256 ≤ length names
+    → name_fault names name ≡ Some Number
+names_full names name full = grind (arith, nat_tests)
+
+-- one that is among them is Duplicate,
+pub name_doubled : (names : List (List ℕ)) (name : List ℕ) → length names < 256
+    → list_any (bytes_eq name) names ≡ true → name_fault names name ≡ Some Duplicate
+name_doubled names name few doubled = grind (arith, nat_tests)
+
+-- and another one has no fault.
+pub name_new : (names : List (List ℕ)) (name : List ℕ) → length names < 256
+    → list_any (bytes_eq name) names ≡ false → name_fault names name ≡ None
+name_new names name few new = grind (arith, nat_tests)

@@ -7,7 +7,8 @@ use Rattle.std.proofs.lemmas.List.{length-map, length-take-le, take_all}
 use Rattle.std.specs.Prelude.{◌==◌}
 use Rattle.std.specs.List.{list_any, position_or_len}
 use Rattle.relay_conf.proofs.FirstFaults.{take_one, drop_one, map_one}
-use Rattle.relay_conf.specs.Cycbuff.{Group, is_listed, is_shared}
+use Rattle.relay_conf.specs.Cycbuff.{Group, is_listed, is_shared, known_numbers, place_of}
+use Rattle.relay_conf.specs.declared.cycbuff.BufferConf.{BufferConf}
 
 -- numbers before those that are there
 abbrev pub with_front : List ℕ → Option (List ℕ) → Option (List ℕ)
@@ -94,3 +95,19 @@ pub any_there : {X Y : Type 0} (p : Y → Bool) (f : X → Y) (xs : List X) (i :
 any_there {X} p f xs i d less is passes =
     sym (sym is ∙ ap (λ (ys : List X). list_any p (map f ys)) (drop_one xs i d less)
     ∙ rw passes refl)
+
+-- The number of a name that is known stands before those of the names behind it.
+pub known_step : (buffers : List BufferConf) (front : List ℕ) (name : List ℕ)
+    (more : List (List ℕ)) (number : ℕ) → Some number ≡ place_of buffers name
+    → with_front (front ++ number ∷ []) (known_numbers buffers more)
+    ≡ with_front front (known_numbers buffers (name ∷ more))
+known_step buffers front name more number at = grind (arith, append_assoc)
+
+-- One that doesn't pass is passed by.
+pub any_later : {X Y : Type 0} (p : Y → Bool) (f : X → Y) (xs : List X) (i : ℕ) (d : X)
+    → i < length xs → list_any p (map f (drop i xs)) ≡ list_any p (map f xs)
+    → p (f (get_or xs i d)) ≡ false
+    → list_any p (map f (drop (i + 1) xs)) ≡ list_any p (map f xs)
+any_later {X} p f xs i d less is other =
+    sym (sym is ∙ ap (λ (ys : List X). list_any p (map f ys)) (drop_one xs i d less)
+    ∙ rw other refl)

@@ -1,10 +1,11 @@
 -- Readings of relay.conf, line by line.
 use Rattle.std.proofs.lemmas.Bool.Decides.{nat_tests}
 use Rattle.std.proofs.Common.{◌≡◌, ℕ, ◌+◌, ◌≤◌, Bool, true, false, List, [], ◌∷◌, ◌++◌, length, map}
-use Rattle.std.proofs.Common.{Option, Some, None, Result, Ok, refl, ap, ◌∙◌, sym, subst, arith}
+use Rattle.std.proofs.Common.{Option, Some, None, Result, Ok, Err, refl, ap, ◌∙◌, sym, subst, arith}
 use Rattle.std.proofs.Common.{append_assoc, append-nil, lit≤}
-use Rattle.std.specs.Prelude.{bytes_eq, filter_map, unwrap_or, not, OnOk}
-use Rattle.std.specs.List.{list_any}
+use Rattle.std.specs.Prelude.{bytes_eq, filter_map, unwrap_or, not, OnOk, IsErrAnd}
+use Rattle.std.specs.Prelude.{option_map}
+use Rattle.std.specs.List.{cons_option, list_any}
 use Rattle.std.specs.Option.{option_to_list}
 use Rattle.std.proofs.lemmas.List.{map-append, length-append}
 use Rattle.news_terms.specs.Pattern.{Marked}
@@ -12,6 +13,7 @@ use Rattle.relay_conf.specs.declared.faults.ConfError.{ConfError}
 use Rattle.relay_conf.specs.declared.faults.Fault.TheVariants.{Duplicate}
 use Rattle.relay_conf.specs.declared.faults.LineFault.{LineFault}
 use Rattle.relay_conf.specs.declared.faults.Refusal.{Refusal}
+use Rattle.relay_conf.specs.declared.faults.Refusal.TheVariants.{Memory, Faulty}
 use Rattle.relay_conf.specs.declared.relay.Feed.{Feed}
 use Rattle.relay_conf.specs.declared.relay.NamedFeed.{NamedFeed}
 use Rattle.relay_conf.specs.declared.relay.NamedLine.{NamedLine}
@@ -21,13 +23,13 @@ use Rattle.relay_conf.specs.declared.settings.Relay.{Relay}
 use Rattle.relay_conf.specs.Drafts.{StepGives, IsDrawnFrom}
 use Rattle.relay_conf.specs.Faults.{first_fault, whole_fault, unless_fault, ConfGives}
 use Rattle.relay_conf.specs.Faults.{fault_or_later}
-use Rattle.relay_conf.specs.RelayLines.{RelayLine, SaidLine, RawSays, LineSays, relay_line}
+use Rattle.relay_conf.specs.RelayLines.{RelayLine, RawLine, SaidLine, RawSays, LineSays, relay_line}
 use Rattle.relay_conf.specs.Relay.{name_in, Stand, stand_of, own_of, max_article_of, cutoff_of}
 use Rattle.relay_conf.specs.Relay.{remember_of, patience_of, bind_of, peer_of, connections_of}
 use Rattle.relay_conf.specs.Relay.{feed_name_of, feed_of, line_fault, early_fault, late_fault}
 use Rattle.relay_conf.specs.Relay.{unknown_fault, again_fault, no_own_fault, first_or, first_of}
 use Rattle.relay_conf.specs.Relay.{connected, each_address, relay_said, RelaySettings}
-use Rattle.relay_conf.specs.RelayDraft.{RelayStep, IsDraftOf, Lists, draft_view, Reading}
+use Rattle.relay_conf.specs.RelayDraft.{AddsLine, IsDraftOf, Lists, draft_view, Reading, with_peers}
 use Rattle.relay_conf.specs.RelayDraft.{stand_view, fault_behind, after_line, named_of, named_from}
 use Rattle.relay_conf.specs.RelayDraft.{IsReadingOf, first_unknown, numbered_feed, draft_said}
 use Rattle.relay_conf.specs.RelayDraft.{nothing, named_feed_of}
@@ -124,10 +126,10 @@ reading_more said r line none reading =
 -- A step of the reading is one of the draft.
 pub relay_step : (number : ℕ) (line : List ℕ) (d after : RelayDraft)
     (result : Result (Unit {0}) Refusal)
-    → (Lists d → RelayStep number (draft_view d) (relay_line line) (draft_view after) result)
-    → (Lists d → OnOk result (Lists after)) → (said : List SaidLine) → length said + 1 ≡ number
-    → IsDraftOf said d → StepGives LineSays early_fault IsDraftOf said line after result
-relay_step number line d after result step listed said n of =
+    → (Lists d → AddsLine number (relay_line line) d after result) → (said : List SaidLine)
+    → length said + 1 ≡ number → IsDraftOf said d
+    → StepGives LineSays early_fault IsDraftOf said line after result
+relay_step number line d after result adds said n of =
     step_gives (RawSays (relay_line line)) fault_behind (after_line number) (draft_view d) LineSays
     early_fault IsDraftOf said line (draft_view after) after (Lists after) result (λ one says. says)
     (λ one. ap (λ (st : Stand). line_fault st one) (sym of.reading.stand))
@@ -137,7 +139,35 @@ relay_step number line d after result step listed said n of =
           (reading_more said (draft_view d) one none of.reading);
       listed = lists;
     })
-    (step of.listed) (listed of.listed)
+    (adds of.listed).step (adds of.listed).listed
+
+-- Where memory runs out, nothing is said of the line.
+pub no_memory : {number : ℕ} {raw : RawLine} {old after : RelayDraft}
+    (result : Result (Unit {0}) Refusal) → IsErrAnd result (λ e. e ≡ Memory)
+    → AddsLine number raw old after result
+no_memory (Ok done) is = absurd is
+no_memory (Err Memory) is = record { step = tt; listed = tt }
+no_memory (Err (Faulty fault)) is = cc
+
+-- What holds, holds after any answer.
+pub still : {P : Type 0} (result : Result (Unit {0}) Refusal) → P → OnOk result P
+still (Ok done) p = p
+still (Err refusal) p = tt
+
+-- Peers alone change nothing of the names that are listed.
+pub peers_listed : (old after : RelayDraft) (peers : List Peer) (result : Result (Unit {0}) Refusal)
+    → OnOk result (draft_view after ≡ with_peers (draft_view old) peers)
+    → OnOk result (after.feed_names ≡ old.feed_names)
+    → OnOk result (after.connected_names ≡ old.connected_names) → Lists old
+    → OnOk result (Lists after)
+peers_listed old after peers (Ok done) same names connected listed = (
+  λ name. rw names (listed.0 name)
+      ∙ ap (λ (r : Reading). list_any (bytes_eq name) (map (λ feed. feed.name) r.feeds)) (sym same),
+  λ name. rw connected (listed.1 name)
+      ∙ ap (λ (r : Reading). list_any (bytes_eq name) (map (λ one. one.name) r.connections))
+      (sym same),
+)
+peers_listed old after peers (Err refusal) same names connected listed = tt
 
 -- WHAT IT SAYS
 
@@ -159,11 +189,24 @@ late_is_unknown peers number before (line ∷ said) n =
     (late_is_unknown peers (number + 1) (before ++ line ∷ []) said
     (omega (arith, n, length-append before (line ∷ [])))))
 
+-- A feed by the number of its peer.
+feed_is_numbered : (peers : List Peer) (line : SaidLine)
+    → feed_of peers line ≡ option_map (numbered_feed peers) (named_feed_of line)
+feed_is_numbered peers line = grind arith
+
 -- The feeds of lines by the numbers of their peers.
 feeds_are_numbered : (peers : List Peer) (said : List SaidLine)
     → filter_map (feed_of peers) said ≡ map (numbered_feed peers) (filter_map named_feed_of said)
 feeds_are_numbered peers [] = refl
-feeds_are_numbered peers (line ∷ said) = grind (arith, feeds_are_numbered peers said)
+feeds_are_numbered peers (line ∷ said) =
+    rw (feed_is_numbered peers line, feeds_are_numbered peers said) (by_feed (named_feed_of line))
+  where
+    by_feed : (o : Option NamedFeed)
+        → cons_option (option_map (numbered_feed peers) o)
+        (map (numbered_feed peers) (filter_map named_feed_of said))
+        ≡ map (numbered_feed peers) (cons_option o (filter_map named_feed_of said))
+    by_feed None = refl
+    by_feed (Some feed) = refl
 
 -- A name that is listed is Duplicate, and one that isn't is the first.
 pub name_listed : (names : List (List ℕ)) (name : List ℕ) (b added : Bool)
@@ -231,9 +274,9 @@ no_draft d e listed =
     }
 
 -- What the draft says is what its lines say.
-pub relay_gives : (read lines : List (List ℕ)) → read ≡ lines → (d : RelayDraft)
-    (result : Result Relay ConfError) → IsDrawnFrom LineSays early_fault IsDraftOf read d
+pub relay_gives : (lines : List (List ℕ)) (d : RelayDraft) (result : Result Relay ConfError)
+    → IsDrawnFrom LineSays early_fault IsDraftOf lines d
     → ConfGives relay_view result (draft_said (draft_view d)) → RelayGives result lines
-relay_gives read lines same d result from gives =
-    draft_answers relay_view LineSays early_fault IsDraftOf relay_said read lines same result d from
+relay_gives lines d result from gives =
+    draft_answers relay_view LineSays early_fault IsDraftOf relay_said lines result d from
     (λ said none of. rw (reading_says said (draft_view d) none of.reading) gives)

@@ -55,10 +55,11 @@ stand_with None groups st line = join groups st line
 stand_with (Some place) groups st line = stand_of groups []
 
 -- So it stands in the reading, where the line has no fault,
-stand_after : (number : ℕ) (r : Reading) (line : StorageLine (List Marked))
+stand_after : (groups : List Group) (number : ℕ) (r : Reading) (line : StorageLine (List Marked))
     → line_fault r.stand (Ok line) ≡ None
-    → (after_line number r line).stand ≡ stand_with (mark_of (Ok line)) r.groups r.stand (Ok line)
-stand_after number r line h = grind (arith, append-nil, none_yet)
+    → (after_line groups number r line).stand
+    ≡ stand_with (mark_of (Ok line)) groups r.stand (Ok line)
+stand_after groups number r line h = grind (arith, append-nil, none_yet)
 
 -- and so of the lines.
 pub stand_more : (groups : List Group) (said : List SaidLine) (line : SaidLine)
@@ -80,19 +81,21 @@ stand_more groups said line =
 -- THE READING
 
 -- what doesn't depend on what stands, after a line
-pub record GoesOn (number : ℕ) (r : Reading) (line : StorageLine (List Marked)) : Type 0 where
-  pub groups : (after_line number r line).groups ≡ r.groups
-  pub place : (after_line number r line).place ≡ unwrap_or (mark_of (Ok line)) r.place
-  pub entries : (after_line number r line).entries ≡ r.entries ++ closed_by r.stand (Ok line)
-  pub late : (after_line number r line).late ≡ late_or r.late
-      (fault_or_later number (named_fault r.groups (Ok line)) None)
+pub record GoesOn (groups : List Group) (number : ℕ) (r : Reading)
+    (line : StorageLine (List Marked))
+    : Type 0 where
+  pub place : (after_line groups number r line).place ≡ unwrap_or (mark_of (Ok line)) r.place
+  pub entries : (after_line groups number r line).entries ≡ r.entries ++ closed_by r.stand (Ok line)
+  pub late : (after_line groups number r line).late ≡ late_or r.late
+      (fault_or_later number (named_fault groups (Ok line)) None)
 
 late_none : (late : Option LineFault) → late ≡ late_or late None
 late_none late = grind arith
 
 -- It goes on so after each line.
-goes_on : (number : ℕ) (r : Reading) (line : StorageLine (List Marked)) → GoesOn number r line
-goes_on number r line = grind (arith, append-nil, late_none)
+goes_on : (groups : List Group) (number : ℕ) (r : Reading) (line : StorageLine (List Marked))
+    → GoesOn groups number r line
+goes_on groups number r line = grind (arith, append-nil, late_none)
 
 -- The entries of lines and one more.
 entries_more : (groups : List Group) (before said : List SaidLine) (line : SaidLine)
@@ -105,80 +108,66 @@ entries_more groups before (s ∷ said) line =
     (entries_of groups (before ++ s ∷ []) said) _))
 
 -- The reading after a line without fault is that of the lines with it.
-reading_more : (said : List SaidLine) (r : Reading) (line : StorageLine (List Marked))
-    → fault_behind r (Ok line) ≡ None → IsReadingOf said r
-    → IsReadingOf (said ++ Ok line ∷ []) (after_line (length said + 1) r line)
-reading_more said r line none reading =
-    let on = goes_on (length said + 1) r line in
+reading_more : (groups : List Group) (said : List SaidLine) (r : Reading)
+    (line : StorageLine (List Marked)) → fault_behind r (Ok line) ≡ None
+    → IsReadingOf groups said r
+    → IsReadingOf groups (said ++ Ok line ∷ []) (after_line groups (length said + 1) r line)
+reading_more groups said r line none reading =
+    let on = goes_on groups (length said + 1) r line in
     record {
-      entries = rw (on.groups, entries_more r.groups [] said (Ok line), ← reading.entries)
+      entries = rw (entries_more groups [] said (Ok line), ← reading.entries)
           (on.entries ∙ ap (λ (st : Stand). r.entries ++ closed_by st (Ok line)) reading.stand);
       place = rw (place_more said (Ok line), ← reading.place) on.place;
-      stand = rw on.groups (stand_after (length said + 1) r line none
-          ∙ ap (λ (st : Stand). stand_with (mark_of (Ok line)) r.groups st (Ok line)) reading.stand
-          ∙ sym (stand_more r.groups said (Ok line)));
-      late = rw (
-        on.groups,
-        fault_append (late_fault r.groups) [] said (Ok line ∷ []),
-        ← reading.late,
-      ) on.late;
+      stand = stand_after groups (length said + 1) r line none
+          ∙ ap (λ (st : Stand). stand_with (mark_of (Ok line)) groups st (Ok line)) reading.stand
+          ∙ sym (stand_more groups said (Ok line));
+      late = rw (fault_append (late_fault groups) [] said (Ok line ∷ []), ← reading.late) on.late;
     }
 
 -- A step of the reading is one of the draft.
-pub storage_step : (number : ℕ) (line : List ℕ) (d after : StorageDraft)
+pub storage_step : (groups : List Group) (number : ℕ) (line : List ℕ) (d after : StorageDraft)
     (result : Result (Unit {0}) Refusal)
-    → StorageStep number (draft_view d) (storage_line d.place line) (draft_view after) result
-    → (groups : List Group) (said : List SaidLine) → length said + 1 ≡ number
-    → IsDraftOf groups said d
+    → StorageStep groups number (draft_view d) (storage_line d.place line) (draft_view after) result
+    → (said : List SaidLine) → length said + 1 ≡ number → IsDraftOf groups said d
     → StepGives LineSays (early_fault groups) (IsDraftOf groups) said line after result
-storage_step number line d after result step groups said n of =
+storage_step groups number line d after result step said n of =
     let r = draft_view d in
-    step_gives (RawSays (storage_line d.place line)) fault_behind (after_line number) r LineSays
-    (early_fault groups) (IsDraftOf groups) said line (draft_view after) after (Unit {0}) result
-    (λ one. subst (λ (p : Place). RawSays (storage_line p line) one) of.reading.place)
-    (λ one. ap (λ (gs : List Group). early_fault gs said one) (sym of.over)
-    ∙ ap (λ (st : Stand). line_fault st one) (sym of.reading.stand))
-    (λ one none same kept.
-    let is : after_line (length said + 1) r one ≡ draft_view after =
-    ap (λ (k : ℕ). after_line k r one) n ∙ sym same in
-    record {
-      over = ap (λ (r : Reading). r.groups) (sym is) ∙ (goes_on (length said + 1) r one).groups
-          ∙ of.over;
-      reading = subst (IsReadingOf (said ++ Ok one ∷ [])) is (reading_more said r one none
-          of.reading);
-    })
+    step_gives (RawSays (storage_line d.place line)) fault_behind (after_line groups number) r
+    LineSays (early_fault groups) (IsDraftOf groups) said line (draft_view after) after (Unit {0})
+    result
+    (λ one. subst (λ (p : Place). RawSays (storage_line p line) one) of.place)
+    (λ one. ap (λ (st : Stand). line_fault st one) (sym of.stand))
+    (λ one none same kept. subst (IsReadingOf groups (said ++ Ok one ∷ []))
+    (ap (λ (k : ℕ). after_line groups k r one) n ∙ sym same)
+    (reading_more groups said r one none of))
     step (elim result as (λ r. OnOk r (Unit {0})) [ Ok done ↦ tt | Err refusal ↦ tt ])
 
 -- WHAT IT SAYS
 
 -- The lines say what their reading says.
-reading_says : (said : List SaidLine) (r : Reading)
-    → first_fault (early_fault r.groups) [] said ≡ None → IsReadingOf said r
-    → storage_said r.groups said ≡ draft_said r
-reading_says said r none reading =
+reading_says : (groups : List Group) (said : List SaidLine) (r : Reading)
+    → first_fault (early_fault groups) [] said ≡ None → IsReadingOf groups said r
+    → storage_said groups said ≡ draft_said r
+reading_says groups said r none reading =
     rw (none, reading.place, reading.late, reading.entries) refl
 
 -- The draft of no lines.
-pub no_draft : (groups : List Group) (d : StorageDraft) → draft_view d ≡ no_lines groups
+pub no_draft : (groups : List Group) (d : StorageDraft) → draft_view d ≡ no_lines
     → IsDraftOf groups [] d
 no_draft groups d e =
-    record {
-      over = ap (λ (r : Reading). r.groups) e;
-      reading = subst (IsReadingOf []) (sym e)
-          (record { entries = refl; place = refl; stand = refl; late = refl });
-    }
+    subst (IsReadingOf groups []) (sym e)
+    (record { entries = refl; place = refl; stand = refl; late = refl })
 
 -- What the draft says is what its lines say.
-pub storage_gives : (groups : List Group) (read lines : List (List ℕ)) → read ≡ lines
-    → (d : StorageDraft) (result : Result (Vec StorageEntry) ConfError)
-    → IsDrawnFrom LineSays (early_fault groups) (IsDraftOf groups) read d
+pub storage_gives : (groups : List Group) (lines : List (List ℕ)) (d : StorageDraft)
+    (result : Result (Vec StorageEntry) ConfError)
+    → IsDrawnFrom LineSays (early_fault groups) (IsDraftOf groups) lines d
     → ConfGives (λ (storage_entries : Vec StorageEntry). map entry_view storage_entries.items)
     result (draft_said (draft_view d))
     → StorageGives result groups lines
-storage_gives groups read lines same d result from gives =
+storage_gives groups lines d result from gives =
     let view : Vec StorageEntry
     → List Entry = λ storage_entries. map entry_view storage_entries.items in
-    draft_answers view LineSays (early_fault groups) (IsDraftOf groups) (storage_said groups) read
-    lines same result d from
-    (λ said none of.
-    rw (← of.over, reading_says said (draft_view d) (rw of.over none) of.reading) gives)
+    draft_answers view LineSays (early_fault groups) (IsDraftOf groups) (storage_said groups) lines
+    result d from
+    (λ said none of. rw (reading_says groups said (draft_view d) none of) gives)

@@ -20,5 +20,4 @@ pub record HasBuffers (said : List (Result CycbuffLine Fault)) (d : BufferDraft)
 -- a draft has the groups of these lines, over these buffers
 pub record HasGroups (known : List BufferConf) (said : List (Result CycbuffLine Fault))
     (d : GroupDraft) : Type 0 where
-  pub over : d.buffers.now ≡ known
   pub groups : map group_view d.groups.items ≡ groups_of known said

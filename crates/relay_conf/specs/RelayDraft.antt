@@ -1,7 +1,7 @@
 -- How far the lines of relay.conf are read. No public contract cites it.
 use Rattle.std.specs.Prelude.{◌≡◌, ℕ, ◌+◌, ◌≤◌, List, [], ◌∷◌, ◌++◌, length, map, bytes_eq}
 use Rattle.std.specs.Prelude.{filter_map, unwrap_or, Option, None, Some, Result, Ok, Err}
-use Rattle.std.specs.Prelude.{if◌then◌else◌}
+use Rattle.std.specs.Prelude.{if◌then◌else◌, OnOk}
 use Rattle.std.specs.List.{list_any}
 use Rattle.std.specs.Option.{option_to_list}
 use Rattle.std.specs.HashSet.{contains_text}
@@ -123,18 +123,6 @@ abbrev pub RelayStep : ℕ → Reading → RawLine → (after : Reading) → Res
 RelayStep number r raw after result =
     ReadingGives (RawSays raw) fault_behind (after_line number) r after result
 
--- the same of the connections of a peer
-abbrev pub ConnectionsStep : ℕ → (name : List ℕ) (connections : ℕ) → Reading → (after : Reading)
-    → Result (Unit {0}) Refusal → Type 0
-ConnectionsStep number name connections r after result =
-    RelayStep number r (Ok (ConnectionsLine name connections)) after result
-
--- the same of a feed
-abbrev pub FeedStep : ℕ → (name : List ℕ) (ring : ℕ) (text : List ℕ) → Reading
-    → (after : Reading) → Result (Unit {0}) Refusal → Type 0
-FeedStep number name ring text r after result =
-    RelayStep number r (Ok (FeedLine name ring text)) after result
-
 -- the set has just the names of the feeds
 abbrev pub ListsFeeds : RelayDraft → Type 0
 ListsFeeds d =
@@ -152,6 +140,26 @@ ListsConnections d =
 -- the sets have just these names
 abbrev pub Lists : RelayDraft → Type 0
 Lists d = ListsFeeds d × ListsConnections d
+
+-- a line of this number was added to a draft whose sets have the names they list: the answer is
+-- what the line says, and the sets have them still
+pub record AddsLine (number : ℕ) (raw : RawLine) (old after : RelayDraft)
+    (result : Result (Unit {0}) Refusal)
+    : Type 0 where
+  pub step : RelayStep number (draft_view old) raw (draft_view after) result
+  pub listed : OnOk result (Lists after)
+
+-- a line of the connections of a peer is added
+abbrev pub AddsConnections : ℕ → (name : List ℕ) (connections : ℕ) → (old after : RelayDraft)
+    → Result (Unit {0}) Refusal → Type 0
+AddsConnections number name connections old after result =
+    Lists old → AddsLine number (Ok (ConnectionsLine name connections)) old after result
+
+-- a line of a feed is added
+abbrev pub AddsFeed : ℕ → (name : List ℕ) (ring : ℕ) (text : List ℕ) → (old after : RelayDraft)
+    → Result (Unit {0}) Refusal → Type 0
+AddsFeed number name ring text old after result =
+    Lists old → AddsLine number (Ok (FeedLine name ring text)) old after result
 
 -- the feed that a line says, by the name of its peer
 abbrev pub named_feed_of : SaidLine → Option NamedFeed

@@ -4,6 +4,8 @@ use Rattle.std.specs.Net.Addr.{ipv4_octets}
 use Rattle.relay_conf.specs.declared.faults.Fault.{Fault}
 use Rattle.relay_conf.specs.declared.relay_lines.Line.{Line}
 use Rattle.relay_conf.specs.declared.relay_lines.Line.TheVariants as lines
+use Rattle.relay_conf.specs.declared.relay_lines.Limit.{Limit}
+use Rattle.relay_conf.specs.declared.relay_lines.Limit.TheVariants as limits
 use Rattle.relay_conf.specs.declared.faults.LineFault.{LineFault}
 use Rattle.relay_conf.specs.declared.faults.ConfError.{ConfError}
 use Rattle.relay_conf.specs.declared.settings.Relay.{Relay}
@@ -30,6 +32,13 @@ raw_view (lines.Feed name ring text) = FeedLine name.now ring text.now
 abbrev pub raw_by : Result Line Fault → RawLine
 raw_by (Ok line) = Ok (raw_view line)
 raw_by (Err fault) = Err fault
+
+-- the line of a key of one number
+abbrev pub limit_view : Limit → ℕ → RelayLine (List ℕ)
+limit_view limits.MaxArticle number = MaxArticle number
+limit_view limits.Cutoff number = Cutoff number
+limit_view limits.Remember number = Remember number
+limit_view limits.Patience number = Patience number
 
 -- the settings of relay.conf as the definitions have them
 abbrev pub relay_view : Relay → RelaySettings

@@ -14,7 +14,6 @@ use Rattle.relay_conf.specs.declared.storage.StorageDraft.{StorageDraft}
 use Rattle.relay_conf.specs.Cycbuff.{Group}
 use Rattle.relay_conf.specs.Drafts.{ReadingGives, late_or}
 use Rattle.relay_conf.specs.Faults.{fault_or_later, first_fault, whole_fault, unless_fault}
-use Rattle.relay_conf.specs.Settings.{buffers_view}
 use Rattle.relay_conf.specs.Storage.{entry_view}
 use Rattle.relay_conf.specs.StorageLines.{StorageLine, RawLine, SaidLine, RawSays, Skipped, Opens}
 use Rattle.relay_conf.specs.StorageLines.{Closes, Ends, ClassLine, NewsgroupsLine, OptionsLine}
@@ -23,9 +22,8 @@ use Rattle.relay_conf.specs.StorageFile.{Stand, stand_behind, place_in, place_be
 use Rattle.relay_conf.specs.StorageFile.{named_fault, line_fault, late_fault, open_fault, entry_of}
 use Rattle.relay_conf.specs.StorageFile.{entries_of}
 
--- what lines so far say, over these groups
+-- what lines so far say
 pub record Reading : Type 0 where
-  pub groups : List Group
   pub entries : List Entry
   pub place : Place
   pub stand : Stand
@@ -46,7 +44,6 @@ stand_view e =
 abbrev pub draft_view : StorageDraft → Reading
 draft_view d =
     record {
-      groups = (buffers_view d.buffers.now).groups;
       entries = map entry_view d.storage_entries.items;
       place = d.place;
       stand = stand_view d.entry;
@@ -58,9 +55,8 @@ abbrev pub nothing : Stand
 nothing = record { classes = []; newsgroups = []; numbers = []; sizes = []; exacts = [] }
 
 -- the reading of no lines
-abbrev pub no_lines : List Group → Reading
-no_lines groups =
-    record { groups = groups; entries = []; place = Outside; stand = nothing; late = None }
+abbrev pub no_lines : Reading
+no_lines = record { entries = []; place = Outside; stand = nothing; late = None }
 
 -- a name on the line of this number stands for nothing
 abbrev pub unknown_at : ℕ → Option LineFault
@@ -90,57 +86,59 @@ closed r =
 abbrev pub ended : Reading → Reading
 ended r = record r { place = Outside; stand = nothing }
 
--- the reading after `options: NAME`
-abbrev pub grouped : ℕ → Reading → (name : List ℕ) → Reading
-grouped number r name =
+-- the reading after `options: NAME`, over these groups
+abbrev pub grouped : List Group → ℕ → Reading → (name : List ℕ) → Reading
+grouped groups number r name =
     record r {
-      stand = record r.stand { numbers = group_number r.groups name ∷ [] };
-      late = late_after r.groups number r.late (OptionsLine name);
+      stand = record r.stand { numbers = group_number groups name ∷ [] };
+      late = late_after groups number r.late (OptionsLine name);
     }
 
--- the reading after a line of this number that has no fault
-abbrev pub after_line : ℕ → Reading → StorageLine (List Marked) → Reading
-after_line number r Skipped = r
-after_line number r (Opens method) = opened number r method
-after_line number r Closes = closed r
-after_line number r Ends = ended r
-after_line number r (ClassLine class) =
+-- the reading after a line of this number that has no fault, over these groups
+abbrev pub after_line : List Group → ℕ → Reading → StorageLine (List Marked) → Reading
+after_line groups number r Skipped = r
+after_line groups number r (Opens method) = opened number r method
+after_line groups number r Closes = closed r
+after_line groups number r Ends = ended r
+after_line groups number r (ClassLine class) =
     record r { stand = record r.stand { classes = class ∷ [] } }
-after_line number r (NewsgroupsLine expression) =
+after_line groups number r (NewsgroupsLine expression) =
     record r { stand = record r.stand { newsgroups = expression ∷ [] } }
-after_line number r (OptionsLine name) = grouped number r name
-after_line number r (SizeLine sizes) =
+after_line groups number r (OptionsLine name) = grouped groups number r name
+after_line groups number r (SizeLine sizes) =
     record r { stand = record r.stand { sizes = sizes ∷ [] } }
-after_line number r (ExactLine exact) =
+after_line groups number r (ExactLine exact) =
     record r { stand = record r.stand { exacts = exact ∷ [] } }
 
 -- what is wrong with a line behind a reading
 abbrev pub fault_behind : Reading → SaidLine → Option Fault
 fault_behind r said = line_fault r.stand said
 
--- the answer is what a line of this number says behind a reading, unless memory ran out
-abbrev pub StorageStep : ℕ → Reading → RawLine → (after : Reading) → Result (Unit {0}) Refusal
-    → Type 0
-StorageStep number r raw after result =
-    ReadingGives (RawSays raw) fault_behind (after_line number) r after result
+-- the answer is what a line of this number says behind a reading, over these groups, unless memory
+-- ran out
+abbrev pub StorageStep : List Group → ℕ → Reading → RawLine → (after : Reading)
+    → Result (Unit {0}) Refusal → Type 0
+StorageStep groups number r raw after result =
+    ReadingGives (RawSays raw) fault_behind (after_line groups number) r after result
 
--- the same of an expression, on whatever line
+-- the same of an expression, on whatever line and over whichever groups
 abbrev pub NewsgroupsStep : (text : List ℕ) → Reading → (after : Reading)
     → Result (Unit {0}) Refusal → Type 0
 NewsgroupsStep text r after result =
-    (number : ℕ) → StorageStep number r (Ok (NewsgroupsLine text)) after result
+    (groups : List Group) (number : ℕ)
+    → StorageStep groups number r (Ok (NewsgroupsLine text)) after result
 
--- a reading is that of these lines
-pub record IsReadingOf (said : List SaidLine) (r : Reading) : Type 0 where
-  pub entries : r.entries ≡ entries_of r.groups [] said
+-- a reading is that of these lines, over these groups
+pub record IsReadingOf (groups : List Group) (said : List SaidLine) (r : Reading)
+    : Type 0 where
+  pub entries : r.entries ≡ entries_of groups [] said
   pub place : r.place ≡ place_behind said
-  pub stand : r.stand ≡ stand_behind r.groups said
-  pub late : r.late ≡ first_fault (late_fault r.groups) [] said
+  pub stand : r.stand ≡ stand_behind groups said
+  pub late : r.late ≡ first_fault (late_fault groups) [] said
 
 -- a draft is that of these lines, over these groups
-pub record IsDraftOf (groups : List Group) (said : List SaidLine) (d : StorageDraft) : Type 0 where
-  pub over : (buffers_view d.buffers.now).groups ≡ groups
-  pub reading : IsReadingOf said (draft_view d)
+abbrev pub IsDraftOf : List Group → (said : List SaidLine) → StorageDraft → Type 0
+IsDraftOf groups said d = IsReadingOf groups said (draft_view d)
 
 -- what a reading without early fault says
 abbrev pub draft_said : Reading → Result (List Entry) LineFault

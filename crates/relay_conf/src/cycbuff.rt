@@ -1,6 +1,6 @@
 //! cycbuff.conf: the buffers and their groups (docs/FORMATS.md, Configuration).
 ghost use Rattle.std.specs.Prelude.{◌≡◌, ◌∷◌, ◌++◌, [], map, option_map, vec_items, bytes_eq, IfOk};
-ghost use Rattle.std.specs.Prelude.{OnOk};
+ghost use Rattle.std.specs.Prelude.{OnOk, List};
 ghost use Rattle.std.specs.Option.{option_to_list};
 ghost use Rattle.std.specs.List.{list_any};
 ghost use Rattle.relay_conf.specs.Cycbuff.{cycbuff_of, buffers_said, groups_said, name_fault};
@@ -8,6 +8,7 @@ ghost use Rattle.relay_conf.specs.Cycbuff.{line_fault, buffer_of, group_name_of,
 ghost use Rattle.relay_conf.specs.Cycbuff.{listed_fault, group_of, members_of, number_of};
 ghost use Rattle.relay_conf.specs.Cycbuff as terms;
 ghost use Rattle.relay_conf.specs.CycbuffDraft.{HasBuffers, HasGroups};
+ghost use Rattle.relay_conf.specs.declared.cycbuff.BufferConf.{BufferConf};
 ghost use Rattle.relay_conf.specs.Faults.{ConfGives, LineGives};
 ghost use Rattle.relay_conf.specs.Lines.{lines_of};
 ghost use Rattle.relay_conf.specs.Places.{group_view};
@@ -17,7 +18,6 @@ ghost use Rattle.line_words.specs.Parts.{parts};
 use crate::cycbuff_lines::{Line, cycbuff_line};
 use crate::drafts::{LineByLine, read_lines};
 use crate::faults::{ConfError, Fault, LineFault, Refusal};
-use crate::lines::lines_of;
 use crate::settings::Buffers;
 use line_words::{Octets, cut, is};
 use std::alloc::{AllocError, Global};
@@ -51,18 +51,17 @@ pub struct GroupConf {
 pub fn read_cycbuff(alloc: Global, text: &[u8]) -> Result<Buffers, ConfError>
     ensures { ConfGives buffers_view result (cycbuff_of (lines_of text.now)) }
 {
-    let lines = lines_of(alloc, text)?;
-    let buffers = read_buffers(alloc, &lines)?;
-    let groups = read_groups(alloc, &lines, &buffers)?;
+    let buffers = read_buffers(alloc, text)?;
+    let groups = read_groups(alloc, text, &buffers)?;
     Ok(Buffers { buffers, groups })
 }
 
 /// Reads the lines up to the first fault that is looked for line by line, and gives the buffers.
-fn read_buffers(alloc: Global, lines: &[&[u8]]) -> Result<Vec<BufferConf>, ConfError>
+fn read_buffers(alloc: Global, text: &[u8]) -> Result<Vec<BufferConf>, ConfError>
     ensures { ConfGives vec_items result
-        (buffers_said (map terms.cycbuff_line (map (λ line. line.now) lines.now))) }
+        (buffers_said (map terms.cycbuff_line (lines_of text.now))) }
 {
-    let draft = read_lines(alloc, BufferDraft::new(alloc), lines)?;
+    let draft = read_lines(alloc, &(), BufferDraft::new(alloc), text)?;
     let BufferDraft { buffers, names } = draft;
     if names.is_empty() {
         return Err(ConfError::Faulty(LineFault {
@@ -86,17 +85,23 @@ impl LineByLine for BufferDraft {
     ghost use Rattle.relay_conf.specs.CycbuffDraft.{LineSays, HasBuffers};
     ghost use Rattle.relay_conf.specs.declared.faults.Fault.{Fault};
 
-    ghost Known = { Unit {0} };
+    type Over = ();
 
     ghost Said = { Result CycbuffLine Fault };
 
     ghost Says = { LineSays };
 
-    ghost wrong = { λ known. early_fault };
+    ghost wrong = { λ over. early_fault };
 
-    ghost Draws = { λ known. HasBuffers };
+    ghost Draws = { λ over. HasBuffers };
 
-    fn add_line(&mut self, alloc: Global, _number: usize, line: &[u8]) -> Result<(), Refusal> {
+    fn add_line(
+        &mut self,
+        alloc: Global,
+        _over: &(),
+        _number: usize,
+        line: &[u8],
+    ) -> Result<(), Refusal> {
         add_line(alloc, &mut self.buffers, &mut self.names, line)
     }
 }
@@ -229,51 +234,54 @@ fn place_of(buffers: &[BufferConf], name: &[u8]) -> Option<usize>
 /// after the last line.
 fn read_groups(
     alloc: Global,
-    lines: &[&[u8]],
-    buffers: &[BufferConf],
+    text: &[u8],
+    buffers: &Vec<BufferConf>,
 ) -> Result<Vec<GroupConf>, ConfError>
-    ensures { ConfGives (λ groups. map group_view groups.items) result (groups_said buffers.now
-        (map terms.cycbuff_line (map (λ line. line.now) lines.now))) }
+    ensures { ConfGives (λ groups. map group_view groups.items) result
+        (groups_said buffers.now.items (map terms.cycbuff_line (lines_of text.now))) }
 {
-    let draft = read_lines(alloc, GroupDraft::new(alloc, buffers), lines)?;
+    let draft = read_lines(alloc, buffers, GroupDraft::new(alloc), text)?;
     Ok(draft.groups)
 }
 
-/// The groups so far, over all buffers.
+/// The groups so far.
 #[derive(Drop)]
-pub(crate) struct GroupDraft<'a> {
-    buffers: &'a [BufferConf],
+pub(crate) struct GroupDraft {
     groups: Vec<GroupConf>,
 }
 
-impl<'a> LineByLine for GroupDraft<'a> {
-    ghost use Rattle.std.specs.Prelude.{List, Result};
+impl LineByLine for GroupDraft {
+    ghost use Rattle.std.specs.Prelude.{Result};
     ghost use Rattle.relay_conf.specs.Cycbuff.{CycbuffLine, late_fault};
     ghost use Rattle.relay_conf.specs.CycbuffDraft.{LineSays, HasGroups};
-    ghost use Rattle.relay_conf.specs.declared.cycbuff.BufferConf.{BufferConf};
     ghost use Rattle.relay_conf.specs.declared.faults.Fault.{Fault};
 
-    ghost Known = { List BufferConf };
+    type Over = Vec<BufferConf>;
 
     ghost Said = { Result CycbuffLine Fault };
 
     ghost Says = { LineSays };
 
-    ghost wrong = { late_fault };
+    ghost wrong = { λ buffers. late_fault buffers.items };
 
-    ghost Draws = { HasGroups };
+    ghost Draws = { λ buffers. HasGroups buffers.items };
 
-    fn add_line(&mut self, alloc: Global, _number: usize, line: &[u8]) -> Result<(), Refusal> {
-        add_group_line(alloc, self.buffers, &mut self.groups, line)
+    fn add_line(
+        &mut self,
+        alloc: Global,
+        over: &Vec<BufferConf>,
+        _number: usize,
+        line: &[u8],
+    ) -> Result<(), Refusal> {
+        add_group_line(alloc, over, &mut self.groups, line)
     }
 }
 
-impl<'a> GroupDraft<'a> {
-    fn new(alloc: Global, buffers: &'a [BufferConf]) -> GroupDraft<'a>
-        ensures { HasGroups buffers.now [] result }
+impl GroupDraft {
+    fn new(alloc: Global) -> GroupDraft
+        ensures { (known : List BufferConf) → HasGroups known [] result }
     {
         GroupDraft {
-            buffers,
             groups: Vec::new(alloc),
         }
     }

@@ -23,7 +23,7 @@ pub fn lines_of(alloc: Global, text: &[u8]) -> Result<Vec<&[u8]>, AllocError>
 }
 
 /// The first line of a text, and what is left behind its end.
-fn next_line(text: &[u8]) -> (&[u8], Option<&[u8]>)
+pub(crate) fn next_line(text: &[u8]) -> (&[u8], Option<&[u8]>)
     ensures { terms.lines_of text.now ≡ result.0.now ∷ lines_after result.1 }
 {
     match cut(text, b'\n') {

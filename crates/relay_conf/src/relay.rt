@@ -3,7 +3,7 @@ ghost use Rattle.std.specs.Prelude.{◌≡◌, ◌≤◌, ◌∷◌, ◌++◌, [
 ghost use Rattle.relay_conf.specs.Faults.{ConfGives, LineGives};
 ghost use Rattle.relay_conf.specs.Lines.{lines_of};
 ghost use Rattle.relay_conf.specs.Relay.{RelaySettings, peer_fault};
-ghost use Rattle.relay_conf.specs.RelayDraft.{RelayStep, ConnectionsStep, FeedStep, Lists, nothing};
+ghost use Rattle.relay_conf.specs.RelayDraft.{AddsConnections, AddsFeed, AddsLine, Lists, nothing};
 ghost use Rattle.relay_conf.specs.RelayDraft.{draft_view, draft_said, with_peers};
 ghost use Rattle.relay_conf.specs.RelayViews.{relay_view, raw_view, RelayGives};
 ghost use Rattle.relay_conf.specs.SoundRelay.{IsSoundRelay};
@@ -11,7 +11,6 @@ ghost use Rattle.relay_conf.specs.SoundRelay.{IsSoundRelay};
 use crate::drafts::{LineByLine, read_lines, set_once};
 use crate::expressions::expression_of;
 use crate::faults::{ConfError, Fault, LineFault, Refusal};
-use crate::lines::lines_of;
 use crate::names::add_name;
 use crate::peers::{connect, is_peer, known_names, numbered};
 use crate::relay_lines::{Line, relay_line};
@@ -64,8 +63,7 @@ const EACH_ADDRESS: [u8; 4] = [0; 4];
 pub fn read_relay(alloc: Global, text: &[u8]) -> Result<Relay, ConfError>
     ensures { RelayGives result (lines_of text.now) }
 {
-    let lines = lines_of(alloc, text)?;
-    let draft = read_lines(alloc, RelayDraft::new(alloc), &lines)?;
+    let draft = read_lines(alloc, &(), RelayDraft::new(alloc), text)?;
     finished(alloc, draft)
 }
 
@@ -109,17 +107,23 @@ impl LineByLine for RelayDraft {
     ghost use Rattle.relay_conf.specs.Relay.{early_fault};
     ghost use Rattle.relay_conf.specs.RelayDraft.{IsDraftOf};
 
-    ghost Known = { Unit {0} };
+    type Over = ();
 
     ghost Said = { SaidLine };
 
     ghost Says = { LineSays };
 
-    ghost wrong = { λ known. early_fault };
+    ghost wrong = { λ over. early_fault };
 
-    ghost Draws = { λ known. IsDraftOf };
+    ghost Draws = { λ over. IsDraftOf };
 
-    fn add_line(&mut self, alloc: Global, number: usize, line: &[u8]) -> Result<(), Refusal> {
+    fn add_line(
+        &mut self,
+        alloc: Global,
+        _over: &(),
+        number: usize,
+        line: &[u8],
+    ) -> Result<(), Refusal> {
         match relay_line(line) {
             Ok(said) => self.add(alloc, number, said),
             Err(fault) => Err(Refusal::Faulty(fault)),
@@ -150,9 +154,8 @@ impl RelayDraft {
 
     /// Adds what the line of this number says.
     fn add(&mut self, alloc: Global, number: usize, said: Line<'_>) -> Result<(), Refusal>
-        ensures step { Lists self.old → RelayStep number (draft_view self.old)
-            (Ok (raw_view said.entry)) (draft_view self.new) result }
-        ensures listed { Lists self.old → OnOk result (Lists self.new) }
+        ensures { Lists self.old
+            → AddsLine number (Ok (raw_view said.entry)) self.old self.new result }
     {
         match said {
             Line::Skipped => Ok(()),
@@ -204,9 +207,7 @@ impl RelayDraft {
         name: &str,
         connections: u32,
     ) -> Result<(), Refusal>
-        ensures step { Lists self.old → ConnectionsStep line name.now connections
-            (draft_view self.old) (draft_view self.new) result }
-        ensures listed { Lists self.old → OnOk result (Lists self.new) }
+        ensures { AddsConnections line name.now connections self.old self.new result }
     {
         if !add_name(alloc, &mut self.connected_names, name)? {
             return Err(Refusal::Faulty(Fault::Duplicate));
@@ -226,9 +227,7 @@ impl RelayDraft {
         ring: u32,
         text: &[u8],
     ) -> Result<(), Refusal>
-        ensures step { Lists self.old → FeedStep line name.now ring text.now (draft_view self.old)
-            (draft_view self.new) result }
-        ensures listed { Lists self.old → OnOk result (Lists self.new) }
+        ensures { AddsFeed line name.now ring text.now self.old self.new result }
     {
         let expression = expression_of(alloc, text)?;
         if !add_name(alloc, &mut self.feed_names, name)? {

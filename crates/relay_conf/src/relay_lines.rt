@@ -2,7 +2,7 @@
 ghost use Rattle.std.specs.Prelude.{◌≡◌, ◌≤◌, ◌∷◌, IfOk};
 ghost use Rattle.line_words.specs.Parts.{one_of, two_of, three_of};
 ghost use Rattle.relay_conf.specs.RelayLines as terms;
-ghost use Rattle.relay_conf.specs.RelayViews.{raw_by};
+ghost use Rattle.relay_conf.specs.RelayViews.{limit_view, raw_by};
 ghost use Rattle.relay_conf.specs.Words.{words};
 
 use crate::faults::Fault;
@@ -35,6 +35,15 @@ pub(crate) enum Line<'a> {
     Feed(&'a str, u32, &'a [u8]),
 }
 
+/// A key whose value is one number.
+#[derive(Clone, Copy)]
+pub(crate) enum Limit {
+    MaxArticle,
+    Cutoff,
+    Remember,
+    Patience,
+}
+
 /// Reads a line alone, but for the expression of a feed.
 pub(crate) fn relay_line(line: &[u8]) -> Result<Line<'_>, Fault>
     ensures { raw_by result ≡ terms.relay_line line.now }
@@ -56,13 +65,13 @@ fn line_of<'a>(word: &[u8], rest: &'a [u8]) -> Result<Line<'a>, Fault>
     if is(word, b"own") {
         own_line(rest)
     } else if is(word, b"maxart") {
-        Ok(Line::MaxArticle(number_line(1, 16_777_216, rest)? as u32))
+        limit_line(Limit::MaxArticle, 1, 16_777_216, rest)
     } else if is(word, b"cutoff") {
-        Ok(Line::Cutoff(number_line(0, 4_000_000_000, rest)?))
+        limit_line(Limit::Cutoff, 0, 4_000_000_000, rest)
     } else if is(word, b"remember") {
-        Ok(Line::Remember(number_line(0, 4_000_000_000, rest)?))
+        limit_line(Limit::Remember, 0, 4_000_000_000, rest)
     } else if is(word, b"patience") {
-        Ok(Line::Patience(number_line(1, 86_400, rest)? as u32))
+        limit_line(Limit::Patience, 1, 86_400, rest)
     } else if is(word, b"bind") {
         bind_line(rest)
     } else if is(word, b"peer") {
@@ -83,6 +92,20 @@ fn own_line(rest: &[u8]) -> Result<Line<'_>, Fault>
     match one_word(rest) {
         Some(identity) if is_identity(identity) => Ok(Line::Own(identity)),
         _ => Err(Fault::Syntax),
+    }
+}
+
+/// Reads what follows a key of one number, in this range.
+fn limit_line<'a>(limit: Limit, least: u64, most: u32, rest: &[u8]) -> Result<Line<'a>, Fault>
+    ensures { raw_by result ≡ terms.with_number (limit_view limit)
+        (terms.number_line least most (one_of (words rest.now))) }
+{
+    let number = number_line(least, u64::from(most), rest)?;
+    match limit {
+        Limit::MaxArticle => Ok(Line::MaxArticle(number as u32)),
+        Limit::Cutoff => Ok(Line::Cutoff(number)),
+        Limit::Remember => Ok(Line::Remember(number)),
+        Limit::Patience => Ok(Line::Patience(number as u32)),
     }
 }
 

@@ -19,7 +19,6 @@ use crate::cycbuff::GroupConf;
 use crate::drafts::{LineByLine, read_lines, set_once};
 use crate::expressions::expression_of;
 use crate::faults::{ConfError, Fault, LineFault, Refusal};
-use crate::lines::lines_of;
 use crate::settings::{Buffers, StorageEntry};
 use crate::storage_lines::{Line, Place, Sizes, storage_line};
 use line_words::is;
@@ -41,16 +40,13 @@ pub fn read_storage(
 ) -> Result<Vec<StorageEntry>, ConfError>
     ensures { StorageGives result (buffers_view buffers.now).groups (lines_of text.now) }
 {
-    let lines = lines_of(alloc, text)?;
-    let draft = read_lines(alloc, StorageDraft::new(alloc, buffers), &lines)?;
+    let draft = read_lines(alloc, buffers, StorageDraft::new(alloc), text)?;
     finished(draft)
 }
 
 /// What the lines so far say.
 #[derive(Drop)]
-pub(crate) struct StorageDraft<'a> {
-    /// What cycbuff.conf says.
-    buffers: &'a Buffers,
+pub(crate) struct StorageDraft {
     storage_entries: Vec<StorageEntry>,
     /// Where the next line stands.
     place: Place,
@@ -85,37 +81,41 @@ impl OpenEntry {
     }
 }
 
-impl<'a> LineByLine for StorageDraft<'a> {
-    ghost use Rattle.std.specs.Prelude.{List};
-    ghost use Rattle.relay_conf.specs.Cycbuff.{Group};
+impl LineByLine for StorageDraft {
+    ghost use Rattle.relay_conf.specs.Settings.{buffers_view};
     ghost use Rattle.relay_conf.specs.StorageDraft.{IsDraftOf};
     ghost use Rattle.relay_conf.specs.StorageFile.{LineSays, early_fault};
     ghost use Rattle.relay_conf.specs.StorageLines.{SaidLine};
 
-    ghost Known = { List Group };
+    type Over = Buffers;
 
     ghost Said = { SaidLine };
 
     ghost Says = { LineSays };
 
-    ghost wrong = { early_fault };
+    ghost wrong = { λ buffers. early_fault (buffers_view buffers).groups };
 
-    ghost Draws = { IsDraftOf };
+    ghost Draws = { λ buffers. IsDraftOf (buffers_view buffers).groups };
 
-    fn add_line(&mut self, alloc: Global, number: usize, line: &[u8]) -> Result<(), Refusal> {
+    fn add_line(
+        &mut self,
+        alloc: Global,
+        over: &Buffers,
+        number: usize,
+        line: &[u8],
+    ) -> Result<(), Refusal> {
         match storage_line(self.place, line) {
-            Ok(said) => self.add(alloc, number, said),
+            Ok(said) => self.add(alloc, over, number, said),
             Err(fault) => Err(Refusal::Faulty(fault)),
         }
     }
 }
 
-impl<'a> StorageDraft<'a> {
-    fn new(alloc: Global, buffers: &'a Buffers) -> StorageDraft<'a>
-        ensures { draft_view result ≡ no_lines (buffers_view buffers.now).groups }
+impl StorageDraft {
+    fn new(alloc: Global) -> StorageDraft
+        ensures { draft_view result ≡ no_lines }
     {
         StorageDraft {
-            buffers,
             storage_entries: Vec::new(alloc),
             place: Place::Outside,
             entry: OpenEntry::new(),
@@ -124,9 +124,15 @@ impl<'a> StorageDraft<'a> {
     }
 
     /// Adds what the line of this number says.
-    fn add(&mut self, alloc: Global, number: usize, said: Line<'_>) -> Result<(), Refusal>
-        ensures { StorageStep number (draft_view self.old) (Ok (raw_view said.entry))
-            (draft_view self.new) result }
+    fn add(
+        &mut self,
+        alloc: Global,
+        buffers: &Buffers,
+        number: usize,
+        said: Line<'_>,
+    ) -> Result<(), Refusal>
+        ensures { StorageStep (buffers_view buffers.now).groups number (draft_view self.old)
+            (Ok (raw_view said.entry)) (draft_view self.new) result }
     {
         match said {
             Line::Skipped => Ok(()),
@@ -135,7 +141,7 @@ impl<'a> StorageDraft<'a> {
             Line::Ends => self.end_entry(),
             Line::Class(class) => set_once(&mut self.entry.class, class),
             Line::Newsgroups(text) => self.add_newsgroups(alloc, text),
-            Line::Options(name) => self.add_options(number, name),
+            Line::Options(name) => self.add_options(buffers, number, name),
             Line::Size(sizes) => set_once(&mut self.entry.sizes, sizes),
             Line::ExactMatch(exact) => set_once(&mut self.entry.exactmatch, exact),
         }
@@ -187,14 +193,14 @@ impl<'a> StorageDraft<'a> {
     }
 
     /// Adds the group of a name.
-    fn add_options(&mut self, number: usize, name: &[u8]) -> Result<(), Refusal>
+    fn add_options(&mut self, buffers: &Buffers, number: usize, name: &[u8]) -> Result<(), Refusal>
         ensures fault { LineGives result (once (option_to_list self.old.entry.group)) }
         ensures group { OnOk result (draft_view self.new
-            ≡ grouped number (draft_view self.old) name.now) }
+            ≡ grouped (buffers_view buffers.now).groups number (draft_view self.old) name.now) }
     {
-        let group = group_number(self.buffers, name);
+        let group = group_number(buffers, name);
         set_once(&mut self.entry.group, group)?;
-        if usize::from(group) >= self.buffers.groups.len() {
+        if usize::from(group) >= buffers.groups.len() {
             self.note(number);
         }
         Ok(())
@@ -262,12 +268,11 @@ fn place_of_group(groups: &[GroupConf], name: &[u8]) -> usize
 }
 
 /// The entries, or the first fault that is looked for after the last line.
-fn finished(draft: StorageDraft<'_>) -> Result<Vec<StorageEntry>, ConfError>
+fn finished(draft: StorageDraft) -> Result<Vec<StorageEntry>, ConfError>
     ensures { ConfGives (λ storage_entries. map entry_view storage_entries.items) result
-        (draft_said (draft_view draft.entry)) }
+        (draft_said (draft_view draft)) }
 {
     let StorageDraft {
-        buffers: _,
         storage_entries,
         place,
         entry: _,

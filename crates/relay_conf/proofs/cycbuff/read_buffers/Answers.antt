@@ -1,8 +1,8 @@
-use Rattle.std.proofs.Common.{sym, map, vec_items, vec_len, Global, arith, List, ℕ}
+use Rattle.std.proofs.Common.{sym, vec_items, vec_len, Global, arith}
 use Rattle.std.proofs.lemmas.Bool.{eqb-true, eqb-false}
-use Rattle.std.specs.Borrow.{Bor}
 use Rattle.relay_conf.specs.Cycbuff.{early_fault}
 use Rattle.relay_conf.specs.CycbuffDraft.{HasBuffers}
+use Rattle.relay_conf.specs.Lines.{lines_of}
 use Rattle.relay_conf.specs.declared.cycbuff.BufferConf.{BufferConf}
 use Rattle.relay_conf.proofs.CycbuffReadings.{draft_error, names_decide}
 use Rattle.relay_conf.proofs.cycbuff.read_buffers.Goals as goal
@@ -10,20 +10,18 @@ use Rattle.relay_conf.proofs.cycbuff.read_buffers.Goals as goal
 pub returns-in_err-draft : goal.returns-in_err-draft
 returns-in_err-draft c =
     draft_error (vec_items {X = BufferConf} {Z = Global}) early_fault HasBuffers
-    (map (λ (line : Bor (List ℕ)). line.now) c.args.lines.now) c.in_err-draft.field-0.0
-    c.from_residual.result _ c.from_residual.ensures.1 (c.in_err-draft.ensures tt c.new.ensures)
+    (lines_of c.args.text.now) c.in_err-draft.field-0.0 c.from_residual.result _
+    c.from_residual.ensures.1 (c.in_err-draft.ensures c.new.ensures)
 
 pub returns-then-is_empty : goal.returns-then-is_empty
 returns-then-is_empty c =
-    let lines = map (λ (line : Bor (List ℕ)). line.now) c.args.lines.now in
     let draft = c.in_ok-draft.draft in
-    (names_decide lines draft (c.in_ok-draft.ensures tt c.new.ensures)).0
+    (names_decide (lines_of c.args.text.now) draft (c.in_ok-draft.ensures c.new.ensures)).0
     (omega (arith, draft.names.ok.0, eqb-true (vec_len draft.names) 0 (sym c.if-is_empty.ensures)))
 
 pub returns : goal.returns
 returns c =
-    let lines = map (λ (line : Bor (List ℕ)). line.now) c.args.lines.now in
     let draft = c.in_ok-draft.draft in
-    (names_decide lines draft (c.in_ok-draft.ensures tt c.new.ensures)).1
+    (names_decide (lines_of c.args.text.now) draft (c.in_ok-draft.ensures c.new.ensures)).1
     (λ e. eqb-false (vec_len draft.names) 0 (sym c.if-is_empty.ensures)
     (omega (arith, e, draft.names.ok.0)))

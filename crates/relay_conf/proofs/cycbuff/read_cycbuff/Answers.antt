@@ -5,41 +5,32 @@ use Rattle.relay_conf.specs.Places.{group_view}
 use Rattle.relay_conf.specs.declared.cycbuff.BufferConf.{BufferConf}
 use Rattle.relay_conf.specs.declared.cycbuff.GroupConf.{GroupConf}
 use Rattle.relay_conf.proofs.CycbuffReadings.{buffers_fault, groups_fault, cycbuff_done}
-use Rattle.relay_conf.proofs.LinesRead.{read_of}
 use Rattle.relay_conf.proofs.SoundCycbuff.{cycbuff_is_sound}
 use Rattle.relay_conf.proofs.cycbuff.read_cycbuff.Goals as goal
 
 pub returns-in_err-buffers : goal.returns-in_err-buffers
 returns-in_err-buffers c =
-    let lines = lines_of c.args.text.now in
-    buffers_fault (vec_items {X = BufferConf} {Z = Global}) _ lines
-    (read_of _ _ lines c.deref.ensures.value c.in_ok-lines.ensures)
-    c.from_residual-in_err-buffers.result c.in_err-buffers.field-0.0
-    c.from_residual-in_err-buffers.ensures.1 c.in_err-buffers.ensures
+    buffers_fault (lines_of c.args.text.now) (vec_items {X = BufferConf} {Z = Global})
+    c.from_residual.result c.in_err-buffers.field-0.0
+    c.from_residual.ensures.1 c.in_err-buffers.ensures
 
 pub returns-in_err-groups : goal.returns-in_err-groups
 returns-in_err-groups c =
-    let lines = lines_of c.args.text.now in
-    groups_fault _ _ lines (read_of _ _ lines c.deref.ensures.value c.in_ok-lines.ensures)
-    (read_of _ _ lines c.deref-2.ensures.value c.in_ok-lines.ensures) _ _ c.deref-3.ensures.value
-    c.in_ok-buffers.ensures (λ (groups : Vec GroupConf Global). map group_view groups.items)
+    groups_fault (lines_of c.args.text.now) _ c.in_ok-buffers.ensures
+    (λ (groups : Vec GroupConf Global). map group_view groups.items)
     c.from_residual-in_err-groups.result c.in_err-groups.field-0.0
     c.from_residual-in_err-groups.ensures.1 c.in_err-groups.ensures
 
 pub returns : goal.returns
 returns c =
-    let lines = lines_of c.args.text.now in
-    cycbuff_done _ _ lines (read_of _ _ lines c.deref.ensures.value c.in_ok-lines.ensures)
-    (read_of _ _ lines c.deref-2.ensures.value c.in_ok-lines.ensures) _ _ c.deref-3.ensures.value
-    c.in_ok-buffers.ensures _ c.in_ok-groups.ensures
+    cycbuff_done (lines_of c.args.text.now) _ c.in_ok-buffers.ensures _ c.in_ok-groups.ensures
 
 pub invariant_of-result : goal.invariant_of-result
 invariant_of-result c =
     let lines = lines_of c.args.text.now in
     let sound = cycbuff_is_sound lines _
-    (cycbuff_done _ _ lines (read_of _ _ lines c.deref.ensures.value c.in_ok-lines.ensures)
-    (read_of _ _ lines c.deref-2.ensures.value c.in_ok-lines.ensures) _ _ c.deref-3.ensures.value
-    c.in_ok-buffers.ensures (map group_view c.in_ok-groups.groups.items) c.in_ok-groups.ensures) in
+    (cycbuff_done lines _ c.in_ok-buffers.ensures (map group_view c.in_ok-groups.groups.items)
+    c.in_ok-groups.ensures) in
     record {
       sound = sound.sound;
       few_buffers = sound.few_buffers;

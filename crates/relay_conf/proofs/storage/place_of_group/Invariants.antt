@@ -1,4 +1,6 @@
 use Rattle.std.proofs.Common.{◌≡◌, ◌+◌, drop, map}
+use Rattle.std.specs.Prelude.{bytes_eq}
+use Rattle.std.specs.List.{position_or_len}
 use Rattle.relay_conf.specs.Places.{group_view}
 use Rattle.relay_conf.specs.StorageFile.{group_number}
 use Rattle.relay_conf.proofs.storage.place_of_group.Given as goal
@@ -7,4 +9,4 @@ use Rattle.relay_conf.proofs.storage.place_of_group.Given as goal
 abbrev pub invariant-loop-place : goal.invariant-loop-place
 invariant-loop-place l =
     group_number (map group_view l.groups) l.name
-    ≡ l.place + group_number (map group_view (drop l.place l.groups)) l.name
+    ≡ l.place + position_or_len (λ group. bytes_eq l.name group.name) (drop l.place l.groups)

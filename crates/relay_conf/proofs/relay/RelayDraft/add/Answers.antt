@@ -3,66 +3,103 @@ use Rattle.relay_conf.specs.RelayLines.{Skipped, Own, MaxArticle, Cutoff, Rememb
 use Rattle.relay_conf.specs.RelayLines.{PeerLine, Bind}
 use Rattle.relay_conf.specs.RelayDraft.{Reading, draft_view, after_line}
 use Rattle.relay_conf.proofs.LinesRead.{read_by}
+use Rattle.relay_conf.proofs.RelayReadings.{no_memory, peers_listed, still}
 use Rattle.relay_conf.proofs.relay.RelayDraft.add.Goals as goal
 
-pub returns-in-Skipped-clause-step : goal.returns-in-Skipped-clause-step
-returns-in-Skipped-clause-step c = λ listed.
-    rw c.in-Skipped.is (record { line = Skipped; says = refl; none = refl; reading = refl })
+pub returns-in-Skipped : goal.returns-in-Skipped
+returns-in-Skipped c = λ listed.
+    rw c.in-Skipped.is (record {
+      step = record { line = Skipped; says = refl; none = refl; reading = refl };
+      listed = listed;
+    })
 
-pub returns-in_ok-copied-in-Own-clause-step : goal.returns-in_ok-copied-in-Own-clause-step
-returns-in_ok-copied-in-Own-clause-step c = λ listed.
+pub returns-in_ok-copied-in-Own : goal.returns-in_ok-copied-in-Own
+returns-in_ok-copied-in-Own c = λ listed.
     let own = c.in_ok-copied-in-Own.field-0 in
     rw c.in-Own.is
-    (read_by _ _ (after_line c.args.number) _
-    (λ (slot : Option (List ℕ)). draft_view (record c.args.self.now { own = slot }))
-    c.set_once.new.slot (Some own) (Own own) c.set_once.result
-    (ap (λ (identity : List ℕ). Ok (Own identity)) c.in_ok-copied-in-Own.ensures)
-    c.set_once.ensures.fault c.set_once.ensures.set refl)
+    (record {
+      step = read_by _ _ (after_line c.args.number) _
+          (λ (slot : Option (List ℕ)). draft_view (record c.args.self.now { own = slot }))
+          c.set_once.new.slot (Some own) (Own own) c.set_once.result
+          (ap (λ (identity : List ℕ). Ok (Own identity)) c.in_ok-copied-in-Own.ensures)
+          c.set_once.ensures.fault c.set_once.ensures.set refl;
+      listed = still c.set_once.result listed;
+    })
 
-pub returns-in-MaxArticle-clause-step : goal.returns-in-MaxArticle-clause-step
-returns-in-MaxArticle-clause-step c = λ listed.
+pub returns-in-MaxArticle : goal.returns-in-MaxArticle
+returns-in-MaxArticle c = λ listed.
     let set = c.set_once-in-MaxArticle in
     rw c.in-MaxArticle.is
-    (read_by _ _ (after_line c.args.number) _
-    (λ (slot : Option ℕ). draft_view (record c.args.self.now { max_article = slot })) _ _
-    (MaxArticle c.in-MaxArticle.octets) set.result refl set.ensures.fault set.ensures.set refl)
+    (record {
+      step = read_by _ _ (after_line c.args.number) _
+          (λ (slot : Option ℕ). draft_view (record c.args.self.now { max_article = slot })) _ _
+          (MaxArticle c.in-MaxArticle.octets) set.result refl set.ensures.fault set.ensures.set
+          refl;
+      listed = still set.result listed;
+    })
 
-pub returns-in-Cutoff-clause-step : goal.returns-in-Cutoff-clause-step
-returns-in-Cutoff-clause-step c = λ listed.
+pub returns-in-Cutoff : goal.returns-in-Cutoff
+returns-in-Cutoff c = λ listed.
     let set = c.set_once-in-Cutoff in
     rw c.in-Cutoff.is
-    (read_by _ _ (after_line c.args.number) _
-    (λ (slot : Option ℕ). draft_view (record c.args.self.now { cutoff = slot })) _ _
-    (Cutoff c.in-Cutoff.seconds) set.result refl set.ensures.fault set.ensures.set refl)
+    (record {
+      step = read_by _ _ (after_line c.args.number) _
+          (λ (slot : Option ℕ). draft_view (record c.args.self.now { cutoff = slot })) _ _
+          (Cutoff c.in-Cutoff.seconds) set.result refl set.ensures.fault set.ensures.set refl;
+      listed = still set.result listed;
+    })
 
-pub returns-in-Remember-clause-step : goal.returns-in-Remember-clause-step
-returns-in-Remember-clause-step c = λ listed.
+pub returns-in-Remember : goal.returns-in-Remember
+returns-in-Remember c = λ listed.
     let set = c.set_once-in-Remember in
     rw c.in-Remember.is
-    (read_by _ _ (after_line c.args.number) _
-    (λ (slot : Option ℕ). draft_view (record c.args.self.now { remember = slot })) _ _
-    (Remember c.in-Remember.seconds) set.result refl set.ensures.fault set.ensures.set refl)
+    (record {
+      step = read_by _ _ (after_line c.args.number) _
+          (λ (slot : Option ℕ). draft_view (record c.args.self.now { remember = slot })) _ _
+          (Remember c.in-Remember.seconds) set.result refl set.ensures.fault set.ensures.set refl;
+      listed = still set.result listed;
+    })
 
-pub returns-in-Patience-clause-step : goal.returns-in-Patience-clause-step
-returns-in-Patience-clause-step c = λ listed.
+pub returns-in-Patience : goal.returns-in-Patience
+returns-in-Patience c = λ listed.
     let set = c.set_once-in-Patience in
     rw c.in-Patience.is
-    (read_by _ _ (after_line c.args.number) _
-    (λ (slot : Option ℕ). draft_view (record c.args.self.now { patience = slot })) _ _
-    (Patience c.in-Patience.seconds) set.result refl set.ensures.fault set.ensures.set refl)
+    (record {
+      step = read_by _ _ (after_line c.args.number) _
+          (λ (slot : Option ℕ). draft_view (record c.args.self.now { patience = slot })) _ _
+          (Patience c.in-Patience.seconds) set.result refl set.ensures.fault set.ensures.set refl;
+      listed = still set.result listed;
+    })
 
-pub returns-in-Bind-clause-step : goal.returns-in-Bind-clause-step
-returns-in-Bind-clause-step c = λ listed.
+pub returns-in-Bind : goal.returns-in-Bind
+returns-in-Bind c = λ listed.
     let set = c.set_once-in-Bind in
     rw c.in-Bind.is
-    (read_by _ _ (after_line c.args.number) _
-    (λ (slot : Option (List ℕ)). draft_view (record c.args.self.now { bind = slot })) _ _
-    (Bind c.in-Bind.address) set.result refl set.ensures.fault set.ensures.set refl)
+    (record {
+      step = read_by _ _ (after_line c.args.number) _
+          (λ (slot : Option (List ℕ)). draft_view (record c.args.self.now { bind = slot })) _ _
+          (Bind c.in-Bind.address) set.result refl set.ensures.fault set.ensures.set refl;
+      listed = still set.result listed;
+    })
 
-pub returns-in-Peer-clause-step : goal.returns-in-Peer-clause-step
-returns-in-Peer-clause-step c = λ listed.
+pub returns-in-Peer : goal.returns-in-Peer
+returns-in-Peer c = λ listed.
     let peer = PeerLine c.in-Peer.name.now c.in-Peer.identity.now c.in-Peer.port in
     rw c.in-Peer.is
-    (read_by _ _ (after_line c.args.number) _ (λ (r : Reading). r)
-    (draft_view c.add_peer.new.self) _
-    peer c.add_peer.result refl c.add_peer.ensures.fault c.add_peer.ensures.peers refl)
+    (record {
+      step = read_by _ _ (after_line c.args.number) _ (λ (r : Reading). r)
+          (draft_view c.add_peer.new.self) _
+          peer c.add_peer.result refl c.add_peer.ensures.fault c.add_peer.ensures.peers refl;
+      listed = peers_listed c.args.self.now c.add_peer.new.self _ c.add_peer.result
+          c.add_peer.ensures.peers
+          c.add_peer.ensures.names c.add_peer.ensures.connected listed;
+    })
+
+pub returns-in_err-copied-in-Own : goal.returns-in_err-copied-in-Own
+returns-in_err-copied-in-Own c = λ listed. no_memory _ c.from_residual.ensures.1
+
+pub returns-in-Connections : goal.returns-in-Connections
+returns-in-Connections c = λ listed. rw c.in-Connections.is (c.add_connections.ensures listed)
+
+pub returns-in-Feed : goal.returns-in-Feed
+returns-in-Feed c = λ listed. rw c.in-Feed.is (c.add_feed.ensures listed)

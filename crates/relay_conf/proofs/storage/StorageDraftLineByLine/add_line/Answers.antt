@@ -1,15 +1,17 @@
 use Rattle.std.proofs.Common.{refl, Err}
+use Rattle.relay_conf.specs.Settings.{buffers_view}
 use Rattle.relay_conf.proofs.StorageReadings.{storage_step}
 use Rattle.relay_conf.proofs.storage.StorageDraftLineByLine.add_line.Goals as goal
 
 pub returns-in-Ok : goal.returns-in-Ok
 returns-in-Ok c =
-    storage_step c.args.number c.args.line.now c.args.self.now c.add.new.self c.add.result
+    storage_step (buffers_view c.args.over.now).groups c.args.number c.args.line.now
+    c.args.self.now c.add.new.self c.add.result
     (rw (← c.in-Ok.ensures) c.add.ensures)
 
 pub returns-in-Err : goal.returns-in-Err
-returns-in-Err c = λ groups said number of. record {
+returns-in-Err c = λ said number of. record {
   one = Err c.in-Err.fault;
-  says = rw (← of.reading.place, ← c.in-Err.ensures) refl;
+  says = rw (← of.place, ← c.in-Err.ensures) refl;
   found = refl;
 }
