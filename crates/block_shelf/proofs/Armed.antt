@@ -1,6 +1,9 @@
 -- A buffer of a buffer set is armed.
-use Rattle.std.proofs.Common.{◌≡◌, ◌∙◌, ℕ, Some, refl, sym, ap, option_map, slice_get}
-use Rattle.std.proofs.lemmas.Option.{none-some}
+use Rattle.std.proofs.Common.{◌≡◌, ◌∙◌, ℕ, Some, refl, sym, ap, option_map, slice_get, length}
+use Rattle.std.proofs.Common.{false}
+use Rattle.std.specs.Prelude.{nat_lt}
+use Rattle.std.proofs.lemmas.Bool.{ltb-false}
+use Rattle.std.proofs.lemmas.Option.{none-some, slice_get_past}
 use Rattle.cyc_block.specs.Failing.{armed}
 use Rattle.cyc_block.specs.declared.failing.FailAt.{FailAt}
 use Rattle.cyc_block.specs.declared.store.BlockStore.{Ghosts}
@@ -26,3 +29,18 @@ arms old number k {code} new is armed_one = record {
   placed_groups = refl;
   missing = λ none. absurd (none-some code (sym none ∙ is));
 }
+
+-- where there is no buffer, nothing is
+pub arms_none : {S : Type 0} {g : Ghosts (FailAt S)} (old : BufferSet (FailAt S) g) (number k : ℕ)
+    → false ≡ nat_lt number (length old.buffers.items) → Arms number k old old
+arms_none old number k past =
+    let none = slice_get_past old.buffers.items number
+    (ltb-false number (length old.buffers.items) (sym past)) in
+    record {
+      store = ap (option_map store_of) none
+          ∙ sym (ap (option_map (λ buffer. armed k (store_of buffer))) none);
+      buffer_state = refl;
+      others = λ j apart. refl;
+      placed_groups = refl;
+      missing = λ none. refl;
+    }

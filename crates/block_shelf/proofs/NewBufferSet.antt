@@ -4,11 +4,11 @@ use Rattle.std.proofs.Common.{length, map, All, Option, None, Some, slice_get, t
 use Rattle.std.proofs.Common.{append-nil, zero, suc, refl, sym, ap, arith}
 use Rattle.std.specs.List.{cons_option, enumerate_from}
 use Rattle.std.specs.Prelude.{option_map}
-use Rattle.std.proofs.lemmas.List.{length-append, length-map, map-append, length-take-le, take_more}
+use Rattle.std.proofs.lemmas.List.{length-append, length-map, map-append, take_more}
 use Rattle.std.proofs.lemmas.List.Elements.{All-nil, filter_map-append}
 use Rattle.std.proofs.lemmas.List.FromFn.{length-enumerate_from}
 use Rattle.std.proofs.lemmas.Option.{none-some, same_Some, slice_get-map, slice_get_past}
-use Rattle.std.proofs.lemmas.Option.{get_or_from_slice_get, slice_get_within}
+use Rattle.std.proofs.lemmas.Option.{slice_get_within}
 use Rattle.buffer_group.specs.Groups.{blocks_in}
 use Rattle.cyc_block.specs.declared.store.BlockStore.{Ghosts}
 use Rattle.cyc_buffer.specs.History.{new_history}
@@ -17,7 +17,7 @@ use Rattle.news_terms.specs.Fronts.{FitsGroup}
 use Rattle.news_terms.specs.Places as places
 use Rattle.news_terms.specs.Settings.{AreSound}
 use Rattle.news_terms.proofs.ListPlaces.{at_pushed, holds_at, numbered_at, there_within}
-use Rattle.relay_conf.specs.Places.{group_view, group_over, groups_over, numbered_buffer}
+use Rattle.relay_conf.specs.Places.{group_view, group_over, numbered_buffer}
 use Rattle.relay_conf.specs.Places.{numbered_buffers}
 use Rattle.relay_conf.specs.Settings.{places_of_buffers, places_of_groups}
 use Rattle.relay_conf.specs.declared.cycbuff.BufferConf.{BufferConf}
@@ -29,8 +29,7 @@ use Rattle.block_shelf.specs.Filling.{IsNewOver, AreNewOver, AreNewPlacedGroups,
 use Rattle.block_shelf.specs.Filling.{members, IsNamed}
 use Rattle.block_shelf.specs.Histories.{IsHistoryOf}
 use Rattle.block_shelf.specs.Starting.{buffer_over}
-use Rattle.block_shelf.specs.Keeping.{KeepsTexts, HasBuffer, KeepsPlacedGroup}
-use Rattle.block_shelf.specs.declared.buffer_set.PlacedGroup.{PlacedGroup}
+use Rattle.block_shelf.specs.Keeping.{KeepsTexts, HasBuffer}
 use Rattle.block_shelf.specs.declared.buffer_set.BufferSet.{BufferSet}
 
 -- an item that was put behind the others is there
@@ -140,32 +139,6 @@ group_filled settings k group is =
     settings.sound.filled k
     (group_over (numbered_buffers settings.buffers.items) (group_view group))
     (group_at settings k group is)
-
--- the placed groups of the groups so far, and one more
-pub one_more_placed : (all : List BufferConf) (groups : List GroupConf) (k : ℕ) {group : GroupConf}
-    (placed_groups : List PlacedGroup) {placed_group : PlacedGroup}
-    → length placed_groups ≡ k → slice_get groups k ≡ Some group
-    → AreNewPlacedGroups (groups_over all (map group_view (take k groups))) placed_groups
-    → KeepsPlacedGroup placed_group (group_over (numbered_buffers all) (group_view group)) []
-    → AreNewPlacedGroups (groups_over all (map group_view (take (k + 1) groups)))
-    (placed_groups ++ placed_group ∷ [])
-one_more_placed all groups k {group} placed_groups {placed_group} count at are keeps =
-    let within = slice_get_within groups k group at in
-    rw (
-      take_more groups k group within,
-      get_or_from_slice_get groups k group group at,
-      map-append,
-      map-append,
-    )
-    (λ h one is.
-    let now = push_both (λ b each code. KeepsPlacedGroup code each [])
-    (groups_over all (map group_view (take k groups))) placed_groups
-    (group_over (numbered_buffers all) (group_view group)) placed_group
-    (count ∙ sym (length-map (map group_view (take k groups)) (group_over (numbered_buffers all))
-    ∙ length-map (take k groups) group_view ∙ length-take-le k groups (omega (arith, within))))
-    h one
-    (λ there. let had = are h one there in (had.code, had.there, had.keeps)) keeps is in
-    record { code = now.0; there = now.1; keeps = now.2 })
 
 -- THE BUFFER SET
 

@@ -1,7 +1,8 @@
 -- The groups of a started buffer set are where they were.
 use Rattle.std.proofs.Common.{◌≡◌, ◌∙◌, ℕ, ◌+◌, ◌*◌, ◌<◌, ◌≤◌, Bool, true, arith, sym, ap, subst}
-use Rattle.std.proofs.Common.{List, length, map, Some, slice_get, unwrap_or}
+use Rattle.std.proofs.Common.{List, [], length, map, Some, slice_get, unwrap_or}
 use Rattle.std.proofs.lemmas.Option.{slice_get-map}
+use Rattle.std.proofs.Math.Nat.{zero-mod}
 use Rattle.cyc_block.specs.declared.store.BlockStore.{Ghosts}
 use Rattle.cyc_buffer.specs.Agreement.{Agrees}
 use Rattle.cyc_buffer.specs.History.{History, cycle_of, front_of}
@@ -9,17 +10,19 @@ use Rattle.cyc_buffer.specs.Stopped.{used_of}
 use Rattle.cyc_buffer.specs.declared.buffer.Buffer.{Buffer}
 use Rattle.news_terms.proofs.PickedPlaces.{used_of_position}
 use Rattle.news_terms.specs.Places as places
-use Rattle.news_terms.specs.Places.{Group, Sequential}
+use Rattle.news_terms.specs.Places.{Group, Interleave, Sequential}
 use Rattle.news_terms.specs.Positions.{Position, position_by, position_of}
 use Rattle.news_terms.proofs.ListPlaces.{holds_at, mapped_at, there_within}
 use Rattle.relay_conf.specs.Places.{group_over, group_view, mode_view, numbered_buffers}
 use Rattle.relay_conf.specs.declared.cycbuff.Mode as confs
 use Rattle.relay_conf.specs.declared.cycbuff.Mode.TheVariants as modes
 use Rattle.relay_conf.specs.declared.settings.Buffers.{Buffers}
+use Rattle.relay_conf.specs.Settings.{places_of_groups}
 use Rattle.relay_conf.proofs.SoundCycbuff.{as_many_groups}
 use Rattle.relay_model.specs.State.{Kept}
 use Rattle.relay_model.specs.Terms.{Terms}
 use Rattle.block_shelf.specs.Each.{AreEach}
+use Rattle.block_shelf.specs.Filling.{AreNewPlacedGroups}
 use Rattle.block_shelf.specs.Resuming.{AreUsed, HasCurrent, IsResumedAt, ResumesByUse}
 use Rattle.block_shelf.specs.Resuming.{ResumesPlacedGroup}
 use Rattle.block_shelf.specs.Starting.{BuffersKeep, ResumePlacedGroups}
@@ -90,45 +93,89 @@ module _ {S : Type 0} {g : Ghosts S} {codes : List (Buffer S g)} {used : List �
       record {
         buffer = one.0;
         there = one.1;
-        used_there = λ mode. cc (
-          number,
-          said.there,
-          said.belongs true history had.keeps.agrees,
-          had.keeps.is_said.begins.picked h index group at
-              (one.1 ∙ ap Some (sym had.keeps.is_of_buffer)),
-          had.keeps.is_of_buffer,
-          used_of_position group (begun h) mode (keeps.fit h group at) one.0 one.1,
-        );
+        used_there = λ mode.
+            let here : slice_get used one.0.number ≡ Some (position_of group (begun h)).used = cc (
+              number,
+              said.there,
+              said.belongs true history had.keeps.agrees,
+              had.keeps.is_said.begins.picked h index group at
+                  (one.1 ∙ ap Some (sym had.keeps.is_of_buffer)),
+              had.keeps.is_of_buffer,
+              used_of_position group (begun h) mode (keeps.fit h group at) one.0 one.1,
+            ) in
+            ap (λ o. unwrap_or o 0) here;
       }
 
--- the placed groups are those of the settings' groups
-pub placed_groups_resumed
-    : (settings : Buffers) (positions used : List ℕ) (placed_groups : List PlacedGroup)
-    → AreEach (IsResumedAt settings.buffers.items positions used)
-    settings.groups.items placed_groups
-    → ResumesByUse settings positions used placed_groups
-placed_groups_resumed settings positions used placed_groups are w begun groups current_of are_at =
+-- the placed group of a group of the settings
+pub record IsResumed (positions used : List ℕ) (placed_groups : List PlacedGroup) (h : ℕ)
+    (group : Group)
+    : Type 0 where
+  pub code : PlacedGroup
+  pub there : slice_get placed_groups h ≡ Some code
+  pub resumes : ResumesPlacedGroup group (unwrap_or (slice_get positions h) 0) used code
+
+module _ (settings : Buffers) (positions used : List ℕ) (placed_groups : List PlacedGroup)
+    (are : AreEach (IsResumedAt settings.buffers.items positions used) settings.groups.items
+    placed_groups) where
+  -- each group of the settings has its placed group
+  resumed_at : (h : ℕ) (group : Group) → slice_get (places_of_groups settings) h ≡ Some group
+      → IsResumed positions used placed_groups h group
+  resumed_at h group at =
+      let over = group_over (numbered_buffers settings.buffers.items) in
+      let a = mapped_at over (map group_view settings.groups.items) h group at in
+      let b = mapped_at group_view settings.groups.items h a.0 a.1 in
+      let one = are.each h b.0 b.1 in
+      record {
+        code = one.item;
+        there = one.there;
+        resumes = subst (λ each. ResumesPlacedGroup each (unwrap_or (slice_get positions h) 0) used
+            one.item) (ap over b.2 ∙ a.2) one.belongs;
+      }
+
+  -- the placed groups are those of the settings' groups
+  pub placed_groups_resumed : ResumesByUse settings positions used placed_groups
+  placed_groups_resumed w begun groups current_of are_at =
+      record {
+        count = are.count ∙ sym (ap length groups ∙ as_many_groups settings);
+        each = λ h group at.
+            let one = resumed_at h group (ap (λ all. slice_get all h) (sym groups) ∙ at) in
+            record {
+              code = one.code;
+              there = one.there;
+              keeps = one.resumes (begun h) (sym (ap (λ o. unwrap_or o 0) (are_at.each h group at)))
+                  (current_of h group at);
+            };
+      }
+
+-- a group of which nothing is begun is at its first buffer
+starts : (group : Group) → position_of group [] ≡ record { index = 0; used = 0 }
+starts group = by_mode group.mode
+  where
+    by_mode : (mode : places.Mode) → position_by mode group.buffers []
+        ≡ record { index = 0; used = 0 }
+    by_mode Interleave =
+        ap (λ i. record { index = i; used = 0 }) (zero-mod (length group.buffers))
+    by_mode Sequential =
+        ap (λ i. record { index = i; used = 0 }) (zero-mod (length group.buffers))
+
+-- without positions, and with nothing used, nothing is begun in the groups
+pub placed_groups_new : (settings : Buffers) (placed_groups : List PlacedGroup)
+    → AreEach (IsResumedAt settings.buffers.items [] []) settings.groups.items placed_groups
+    → AreNewPlacedGroups (places_of_groups settings) placed_groups
+placed_groups_new settings placed_groups are h group at =
+    let one = resumed_at settings [] [] placed_groups are h group at in
+    let some = holds_at (λ (each : Group). 1 ≤ length each.buffers) (places_of_groups settings)
+    settings.sound.filled h group at in
+    let first = there_within group.buffers 0 some in
+    let begins = starts group in
     record {
-      count = are.count ∙ sym (ap length groups ∙ as_many_groups settings);
-      each = λ h group at.
-          let a = mapped_at (group_over (numbered_buffers settings.buffers.items))
-          (map group_view settings.groups.items) h group
-          (ap (λ all. slice_get all h) (sym groups) ∙ at) in
-          let b = mapped_at group_view settings.groups.items h a.0 a.1 in
-          let same : group_over (numbered_buffers settings.buffers.items) (group_view b.0) ≡ group =
-          ap (group_over (numbered_buffers settings.buffers.items)) b.2 ∙ a.2 in
-          let placed_group = are.each h b.0 b.1 in
-          let resumes : ResumesPlacedGroup group (unwrap_or (slice_get positions h) 0)
-          used placed_group.item =
-          subst (λ each. ResumesPlacedGroup each (unwrap_or (slice_get positions h) 0) used
-          placed_group.item) same
-          placed_group.belongs in
-          record {
-            code = placed_group.item;
-            there = placed_group.there;
-            keeps = resumes (begun h) (sym (ap (λ o. unwrap_or o 0) (are_at.each h group at)))
-                (current_of h group at);
-          };
+      code = one.code;
+      there = one.there;
+      keeps = one.resumes [] (ap (λ (p : Position). p.index) begins) (record {
+        buffer = first.0;
+        there = rw begins first.1;
+        used_there = λ mode. sym (ap (λ (p : Position). p.used) begins);
+      });
     }
 
 -- over buffers of which so much is used, they are those that keep what the buffers do

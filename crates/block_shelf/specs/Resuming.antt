@@ -35,7 +35,7 @@ pub record HasCurrent (used : List ℕ) (group : Group) (begun : List ℕ) : Typ
   pub buffer : places.Buffer
   pub there : slice_get group.buffers (position_of group begun).index ≡ Some buffer
   pub used_there : group.mode ≡ Sequential
-      → slice_get used buffer.number ≡ Some (position_of group begun).used
+      → unwrap_or (slice_get used buffer.number) 0 ≡ (position_of group begun).used
 
 -- the placed group is that of a group at this position of it, over buffers with so many blocks used
 abbrev pub ResumesPlacedGroup : Group → (position : ℕ) → (used : List ℕ) → PlacedGroup → Type 0

@@ -5,12 +5,10 @@ ghost use Rattle.block_shelf.specs.Filling.{KeepsNothing, IsNewOver, AreNewOver}
 ghost use Rattle.block_shelf.specs.Filling.{AreNewPlacedGroups};
 ghost use Rattle.block_shelf.specs.Filling.{IsNamed, IsRefusalOver, IsBufferSetRefusal};
 ghost use Rattle.block_shelf.specs.declared.filling.BufferSetError.TheVariants as errors;
-ghost use Rattle.block_shelf.specs.Keeping.{KeepsPlacedGroup};
-ghost use Rattle.relay_conf.specs.Places.{group_view, group_over, numbered_buffers};
 ghost use Rattle.relay_conf.specs.Settings.{places_of_groups};
 
 use crate::buffer_set::{BufferSet, PlacedGroup};
-use buffer_group::Group;
+use crate::resuming::placed_groups_at;
 use cyc_block::BlockStore;
 use cyc_buffer::{Buffer, FormatError, Unformatted};
 use relay_conf::{BufferConf, Buffers, GroupConf};
@@ -109,27 +107,7 @@ pub fn new_placed_groups(alloc: Global, settings: &Buffers) -> Result<Vec<Placed
     ensures count { IfOk result (λ placed_groups.
         length placed_groups.items ≡ length settings.now.groups.items) }
 {
-    let mut placed_groups = Vec::with_capacity(alloc, settings.groups.len())?;
-    for group in &settings.groups {
-        placed_groups.push_reserved(PlacedGroup::new(alloc, &settings.buffers, group)?);
-    }
-    Ok(placed_groups)
-}
-
-impl PlacedGroup {
-    /// The placed group of a group over all buffers, before anything is begun.
-    fn new(alloc: Global, all: &[BufferConf], group: &GroupConf) -> Result<PlacedGroup, AllocError>
-        requires { 1 ≤ length
-            (group_over (numbered_buffers all.now) (group_view group.now)).buffers }
-        ensures { IfOk result (λ placed_group. KeepsPlacedGroup placed_group
-            (group_over (numbered_buffers all.now) (group_view group.now)) []) }
-    {
-        let Members { numbers, blocks } = members_of(alloc, all, group)?;
-        Ok(PlacedGroup {
-            group: Group::new(group.mode, blocks),
-            numbers,
-        })
-    }
+    placed_groups_at(alloc, settings, &[], &[])
 }
 
 /// The numbers of a group's buffers, and how many blocks each has.

@@ -1,6 +1,8 @@
 //! The groups of a buffer set that is started, as they were.
 ghost use Rattle.std.specs.Prelude.{◌≡◌, ◌≤◌, ◌<◌, Bool, ℕ, IfOk, length, slice_get, unwrap_or};
-ghost use Rattle.block_shelf.specs.Resuming.{AreUsed, ResumesByUse, ResumesPlacedGroup};
+ghost use Rattle.block_shelf.specs.Each.{AreEach};
+ghost use Rattle.block_shelf.specs.Resuming.{AreUsed, IsResumedAt, ResumesByUse};
+ghost use Rattle.block_shelf.specs.Resuming.{ResumesPlacedGroup};
 ghost use Rattle.block_shelf.specs.Starting.{ResumePlacedGroups, buffers_inside};
 ghost use Rattle.cyc_buffer.specs.Agreement.{Agrees};
 ghost use Rattle.cyc_buffer.specs.History.{History};
@@ -56,9 +58,24 @@ pub fn resume_placed_groups(
     ensures count { IfOk result (λ placed_groups.
         length placed_groups.items ≡ length settings.now.groups.items) }
 {
+    placed_groups_at(alloc, settings, used, positions)
+}
+
+/// The placed groups of all groups, each at its position, or at its first buffer where there is
+/// none, over buffers in whose cycles so many blocks are used.
+pub(crate) fn placed_groups_at(
+    alloc: Global,
+    settings: &Buffers,
+    used: &[u32],
+    positions: &[u32],
+) -> Result<Vec<PlacedGroup>, AllocError>
+    ensures { IfOk result (λ placed_groups.
+        AreEach (IsResumedAt settings.now.buffers.items positions.now used.now)
+        settings.now.groups.items placed_groups.items) }
+{
     let mut placed_groups = Vec::with_capacity(alloc, settings.groups.len())?;
     for (place, group) in settings.groups.iter().enumerate() {
-        let position = position_in(positions, place);
+        let position = at_place(positions, place) as usize;
         placed_groups.push_reserved(PlacedGroup::resume(
             alloc,
             &settings.buffers,
@@ -68,16 +85,6 @@ pub fn resume_placed_groups(
         )?);
     }
     Ok(placed_groups)
-}
-
-/// The position of the group at this place; 0 where there is none.
-fn position_in(positions: &[u32], place: usize) -> usize
-    ensures { result ≡ unwrap_or (slice_get positions.now place) 0 }
-{
-    match positions.get(place) {
-        Some(position) => *position as usize,
-        None => 0,
-    }
 }
 
 impl PlacedGroup {
@@ -132,16 +139,16 @@ fn used_by(mode: Mode, used: &[u32], number: usize) -> u32
 {
     match mode {
         Mode::Interleave => 0,
-        Mode::Sequential => used_at(used, number),
+        Mode::Sequential => at_place(used, number),
     }
 }
 
-/// The blocks used in the cycle of the buffer of this number; 0 where there is none.
-fn used_at(used: &[u32], number: usize) -> u32
-    ensures { result ≡ unwrap_or (slice_get used.now number) 0 }
+/// What stands at this place of a list; 0 where nothing does.
+fn at_place(list: &[u32], place: usize) -> u32
+    ensures { result ≡ unwrap_or (slice_get list.now place) 0 }
 {
-    match used.get(number) {
-        Some(blocks) => *blocks,
+    match list.get(place) {
+        Some(one) => *one,
         None => 0,
     }
 }

@@ -45,11 +45,14 @@ overflow_cast-number g c = omega (
       c.in-Some.ensures.steps.0,
 )
 
-pub returns-clause-over : goal.returns-clause-over
-returns-clause-over g c =
-    rw (← none_left c.loop-store.yielded c.loop-store.store-iterator.rest.items
-    c.loop-store.invariant.all (omega (arith, c.in-None.ensures.steps.0)))
-    c.loop-store.invariant.over
+pub returns : goal.returns
+returns g c = record {
+  over =
+      rw (← none_left c.loop-store.yielded c.loop-store.store-iterator.rest.items
+      c.loop-store.invariant.all (omega (arith, c.in-None.ensures.steps.0)))
+      c.loop-store.invariant.over;
+  refusal = tt;
+}
 
 pub loop-store-init : goal.loop-store-init
 loop-store-init g c = record {

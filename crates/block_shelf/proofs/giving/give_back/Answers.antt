@@ -37,12 +37,12 @@ loop-unopened-preserved g c = record {
   capacity = c.push_reserved.ensures.capacity ∙ c.loop-unopened.invariant.capacity;
 }
 
-pub returns-clause-items : goal.returns-clause-items
-returns-clause-items g c =
-    c.loop-unopened.invariant.items
-    ∙ ap (λ bs. c.args.room.items ++ map (λ one. store_of (inside one)) bs)
-    (none_left c.loop-unopened.yielded c.loop-unopened.unopened-iterator.rest.items
-    c.loop-unopened.invariant.all (omega (arith, c.in-None.ensures.steps.0)))
-
-pub returns-clause-capacity : goal.returns-clause-capacity
-returns-clause-capacity g c = c.loop-unopened.invariant.capacity
+pub returns : goal.returns
+returns g c = record {
+  items =
+      c.loop-unopened.invariant.items
+      ∙ ap (λ bs. c.args.room.items ++ map (λ one. store_of (inside one)) bs)
+      (none_left c.loop-unopened.yielded c.loop-unopened.unopened-iterator.rest.items
+      c.loop-unopened.invariant.all (omega (arith, c.in-None.ensures.steps.0)));
+  capacity = c.loop-unopened.invariant.capacity;
+}

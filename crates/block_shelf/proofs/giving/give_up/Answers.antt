@@ -36,12 +36,12 @@ loop-buffer-preserved g c = record {
   capacity = c.push_reserved.ensures.capacity ∙ c.loop-buffer.invariant.capacity;
 }
 
-pub returns-clause-items : goal.returns-clause-items
-returns-clause-items g c =
-    c.loop-buffer.invariant.items
-    ∙ ap (λ bs. c.args.room.items ++ map (λ one. store_of one) bs)
-    (none_left c.loop-buffer.yielded c.loop-buffer.buffer-iterator.rest.items
-    c.loop-buffer.invariant.all (omega (arith, c.in-None.ensures.steps.0)))
-
-pub returns-clause-capacity : goal.returns-clause-capacity
-returns-clause-capacity g c = c.loop-buffer.invariant.capacity
+pub returns : goal.returns
+returns g c = record {
+  items =
+      c.loop-buffer.invariant.items
+      ∙ ap (λ bs. c.args.room.items ++ map (λ one. store_of one) bs)
+      (none_left c.loop-buffer.yielded c.loop-buffer.buffer-iterator.rest.items
+      c.loop-buffer.invariant.all (omega (arith, c.in-None.ensures.steps.0)));
+  capacity = c.loop-buffer.invariant.capacity;
+}

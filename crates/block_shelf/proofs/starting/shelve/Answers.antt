@@ -1,10 +1,15 @@
-use Rattle.std.proofs.Common.{◌∙◌, ◌++◌, ap, arith, length, map}
+use Rattle.std.proofs.Common.{◌∙◌, ◌++◌, ap, arith, length, map, refl}
 use Rattle.cyc_buffer.specs.Agreement.{store_of}
 use Rattle.cyc_buffer.specs.Head.{inside}
 use Rattle.block_shelf.proofs.starting.shelve.Goals as goal
 
-pub returns-clause-placed_groups : goal.returns-clause-placed_groups
-returns-clause-placed_groups g c = rw c.deref.ensures.value at c.in-Ok.ensures
+pub returns : goal.returns
+returns g c = record {
+  buffers = refl;
+  placed_groups = rw c.deref.ensures.value at c.in-Ok.ensures;
+  stores = tt;
+  memory = tt;
+}
 
 -- there is room for the stores
 pub give_back-requires : goal.give_back-requires
@@ -16,8 +21,13 @@ give_back-requires g c = omega (
 )
 
 -- and none before them
-pub returns-in_default-clause-stores : goal.returns-in_default-clause-stores
-returns-in_default-clause-stores g c =
-    c.give_back.ensures.items
-    ∙ ap (λ before. before ++ map (λ one. store_of (inside one)) c.args.buffers.items)
-    c.requires.none_back
+pub returns-in_default : goal.returns-in_default
+returns-in_default g c = record {
+  buffers = tt;
+  placed_groups = tt;
+  stores =
+      c.give_back.ensures.items
+      ∙ ap (λ before. before ++ map (λ one. store_of (inside one)) c.args.buffers.items)
+      c.requires.none_back;
+  memory = (refl, refl);
+}

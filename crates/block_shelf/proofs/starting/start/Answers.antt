@@ -5,15 +5,18 @@ use Rattle.block_shelf.proofs.Starts.{few_stores, refused_buffer_set, refused_ca
 use Rattle.block_shelf.proofs.Starts.{untouched_stores}
 use Rattle.block_shelf.proofs.starting.start.Goals as goal
 
-pub returns-in-Refused-clause-refusal : goal.returns-in-Refused-clause-refusal
-returns-in-Refused-clause-refusal g c =
-    refused_buffer_set g.S.BlockStore c.args.stores.items c.args.stop
-    (rw c.in-Refused.is at c.start_each.ensures.tried)
-
-pub returns-in-Refused-clause-cause : goal.returns-in-Refused-clause-cause
-returns-in-Refused-clause-cause g c = λ w begun kept failures held.
-    refused_cause c.args.settings.now c.requires held
-    (rw c.in-Refused.is at c.start_each.ensures.tried)
+pub returns-in-Refused : goal.returns-in-Refused
+returns-in-Refused g c = record {
+  held = tt;
+  keeps = tt;
+  started = tt;
+  refusal =
+      refused_buffer_set g.S.BlockStore c.args.stores.items c.args.stop
+      (rw c.in-Refused.is at c.start_each.ensures.tried);
+  cause = λ w begun kept failures held.
+      refused_cause c.args.settings.now c.requires held
+      (rw c.in-Refused.is at c.start_each.ensures.tried);
+}
 
 pub returns-in-Some : goal.returns-in-Some
 returns-in-Some g c =
@@ -56,9 +59,15 @@ returns-in-None g c =
           (λ refused is also w begun kept failures held. rw is.1 tt);
     }
 
-pub returns-in_default-clause-refusal : goal.returns-in_default-clause-refusal
-returns-in_default-clause-refusal g c =
-    (refl, untouched_stores g.S.BlockStore c.args.stores.items)
+pub returns-in_default : goal.returns-in_default
+returns-in_default g c = record {
+  held = tt;
+  keeps = tt;
+  started = tt;
+  refusal =
+      (refl, untouched_stores g.S.BlockStore c.args.stores.items);
+  cause = λ w begun kept failures held. tt;
+}
 
 pub start_each-requires-clause-few : goal.start_each-requires-clause-few
 start_each-requires-clause-few g c =

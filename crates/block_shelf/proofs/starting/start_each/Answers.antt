@@ -57,20 +57,18 @@ loop-store-preserved g c = record {
   room = omega (arith, c.next-starting.ensures.room);
 }
 
-pub returns-clause-tried : goal.returns-clause-tried
-returns-clause-tried g c =
-    rw (← none_left c.loop-store.yielded c.loop-store.store-iterator.rest.items
-    c.loop-store.invariant.all (omega (arith, c.in-None.ensures.steps.0)))
-    c.loop-store.invariant.tried
-
-pub returns-clause-count : goal.returns-clause-count
-returns-clause-count g c = omega (
-  arith,
-  c.args.stores.ok,
-  c.loop-store.invariant.count,
-  ap length (none_left c.loop-store.yielded c.loop-store.store-iterator.rest.items
-      c.loop-store.invariant.all (omega (arith, c.in-None.ensures.steps.0))),
-)
-
-pub returns-clause-room : goal.returns-clause-room
-returns-clause-room g c = omega (arith, c.args.stores.ok, c.loop-store.invariant.room)
+pub returns : goal.returns
+returns g c = record {
+  tried =
+      rw (← none_left c.loop-store.yielded c.loop-store.store-iterator.rest.items
+      c.loop-store.invariant.all (omega (arith, c.in-None.ensures.steps.0)))
+      c.loop-store.invariant.tried;
+  count = omega (
+    arith,
+    c.args.stores.ok,
+    c.loop-store.invariant.count,
+    ap length (none_left c.loop-store.yielded c.loop-store.store-iterator.rest.items
+        c.loop-store.invariant.all (omega (arith, c.in-None.ensures.steps.0))),
+  );
+  room = omega (arith, c.args.stores.ok, c.loop-store.invariant.room);
+}

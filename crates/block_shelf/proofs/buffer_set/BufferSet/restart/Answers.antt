@@ -1,5 +1,6 @@
-use Rattle.std.proofs.Common.{Ok, Err, arith}
-use Rattle.block_shelf.proofs.Stops.{all_restarted, keeps_further, nothing_restarted, stays_same}
+use Rattle.std.proofs.Common.{Ok, Err, arith, refl}
+use Rattle.block_shelf.proofs.Stops.{all_restarted, keeps_further, not_busy, not_idle}
+use Rattle.block_shelf.proofs.Stops.{nothing_restarted, stays_same}
 use Rattle.block_shelf.proofs.buffer_set.BufferSet.restart.Goals as goal
 
 pub loop-place-init : goal.loop-place-init
@@ -16,22 +17,36 @@ loop-place-preserved g c = record {
       c.loop-place.invariant.restarted;
 }
 
-pub returns-then-is_busy-clause-keeps : goal.returns-then-is_busy-clause-keeps
-returns-then-is_busy-clause-keeps g c = λ trusted w begun kept failures keeps.
-    absurd ((c.is_busy.ensures.busy c.if-is_busy.true).writing trusted w begun kept failures keeps)
+pub returns-then-is_busy : goal.returns-then-is_busy
+returns-then-is_busy g c =
+    let busy = c.is_busy.ensures.busy c.if-is_busy.true in
+    record {
+      keeps = λ trusted w begun kept failures keeps.
+          absurd (busy.writing trusted w begun kept failures keeps);
+      restarted = tt;
+      busy = (busy, refl);
+    }
 
-pub returns-in-Err-clause-keeps : goal.returns-in-Err-clause-keeps
-returns-in-Err-clause-keeps g c =
-    keeps_further c.args.self.now c.loop-place.self c.restart_buffer.new.self (Err c.in-Err.fault)
-    c.loop-place.invariant.keeps c.in-Err.ensures.keeps
+pub returns-in-Err : goal.returns-in-Err
+returns-in-Err g c = record {
+  keeps = keeps_further c.args.self.now c.loop-place.self c.restart_buffer.new.self
+      (Err c.in-Err.fault) c.loop-place.invariant.keeps c.in-Err.ensures.keeps;
+  restarted = tt;
+  busy = not_busy c.args.self.now c.restart_buffer.new.self c.in-Err.fault c.in-Err.ensures.other
+      (not_idle (c.is_busy.ensures.idle c.if-is_busy.false));
+}
 
-pub returns-clause-restarted : goal.returns-clause-restarted
-returns-clause-restarted g c =
-    all_restarted c.args.stop c.loop-place.place c.args.self.now c.loop-place.self
-    (omega (
-      arith,
-      c.loop-place-test.false,
-      c.len-place-end.ensures,
-      c.args.self.now.buffers.ok,
-    ))
-    c.loop-place.invariant.restarted
+pub returns : goal.returns
+returns g c = record {
+  keeps = c.loop-place.invariant.keeps;
+  restarted =
+      all_restarted c.args.stop c.loop-place.place c.args.self.now c.loop-place.self
+      (omega (
+        arith,
+        c.loop-place-test.false,
+        c.len-place-end.ensures,
+        c.args.self.now.buffers.ok,
+      ))
+      c.loop-place.invariant.restarted;
+  busy = tt;
+}

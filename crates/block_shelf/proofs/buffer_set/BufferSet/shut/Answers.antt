@@ -18,12 +18,21 @@ loop-buffer-preserved g c = record {
   room = omega (arith, c.shut_next-failed.ensures.room);
 }
 
-pub returns-clause-held : goal.returns-clause-held
-returns-clause-held g c =
-    holds_kept c.args.stop c.args.self c.loop-buffer.stores.items
-    (rw (← none_left c.loop-buffer.yielded c.loop-buffer.buffer-iterator.rest.items
-    c.loop-buffer.invariant.all (omega (arith, c.in-None.ensures.steps.0)))
-    (rw c.in-None-failed.is at c.loop-buffer.invariant.stopped))
+pub returns : goal.returns
+returns g c = record {
+  held =
+      holds_kept c.args.stop c.args.self c.loop-buffer.stores.items
+      (rw (← none_left c.loop-buffer.yielded c.loop-buffer.buffer-iterator.rest.items
+      c.loop-buffer.invariant.all (omega (arith, c.in-None.ensures.steps.0)))
+      (rw c.in-None-failed.is at c.loop-buffer.invariant.stopped));
+  shut =
+      rw (← none_left c.loop-buffer.yielded c.loop-buffer.buffer-iterator.rest.items
+      c.loop-buffer.invariant.all (omega (arith, c.in-None.ensures.steps.0)))
+      (rw c.in-None-failed.is at c.loop-buffer.invariant.stopped);
+  refusal = tt;
+  busy = λ busy.
+      absurd (not_idle (c.is_busy.ensures.idle c.if-is_busy.false) busy);
+}
 
 pub shut_next-failed-requires : goal.shut_next-failed-requires
 shut_next-failed-requires g c = omega (
@@ -35,23 +44,32 @@ shut_next-failed-requires g c = omega (
       c.loop-buffer.invariant.all c.in-Some.ensures.steps.0,
 )
 
-pub returns-in_default-clause-busy : goal.returns-in_default-clause-busy
-returns-in_default-clause-busy g c = λ busy.
-    absurd (not_idle (c.is_busy.ensures.idle c.if-is_busy.false) busy)
+pub returns-in_default : goal.returns-in_default
+returns-in_default g c = record {
+  held = tt;
+  shut = tt;
+  refusal = refl;
+  busy = λ busy.
+      absurd (not_idle (c.is_busy.ensures.idle c.if-is_busy.false) busy);
+}
 
-pub returns-in-Some-failed-clause-busy : goal.returns-in-Some-failed-clause-busy
-returns-in-Some-failed-clause-busy g c = λ busy.
-    absurd (not_idle (c.is_busy.ensures.idle c.if-is_busy.false) busy)
-
-pub returns-clause-busy : goal.returns-clause-busy
-returns-clause-busy g c = λ busy.
-    absurd (not_idle (c.is_busy.ensures.idle c.if-is_busy.false) busy)
-
-pub returns-clause-shut : goal.returns-clause-shut
-returns-clause-shut g c =
-    rw (← none_left c.loop-buffer.yielded c.loop-buffer.buffer-iterator.rest.items
-    c.loop-buffer.invariant.all (omega (arith, c.in-None.ensures.steps.0)))
-    (rw c.in-None-failed.is at c.loop-buffer.invariant.stopped)
+pub returns-in-Some-failed : goal.returns-in-Some-failed
+returns-in-Some-failed g c = record {
+  held = tt;
+  shut = tt;
+  refusal =
+      let through = none_left c.loop-buffer.yielded c.loop-buffer.buffer-iterator.rest.items
+      c.loop-buffer.invariant.all (omega (arith, c.in-None.ensures.steps.0)) in
+      let was = rw c.in-Some-failed.is at c.loop-buffer.invariant.stopped in
+      record {
+        place = c.in-Some-failed.place;
+        within = omega (arith, was.0, ap length through);
+        told = c.number_of.ensures;
+        left = rw through at was.1;
+      };
+  busy = λ busy.
+      absurd (not_idle (c.is_busy.ensures.idle c.if-is_busy.false) busy);
+}
 
 pub loop-buffer-init : goal.loop-buffer-init
 loop-buffer-init g c = record {
@@ -61,17 +79,10 @@ loop-buffer-init g c = record {
   room = omega (arith, c.args.self.buffers.ok, c.len.ensures, c.in-Ok.ensures.capacity);
 }
 
-pub returns-in-Some-failed-clause-refusal : goal.returns-in-Some-failed-clause-refusal
-returns-in-Some-failed-clause-refusal g c =
-    let through = none_left c.loop-buffer.yielded c.loop-buffer.buffer-iterator.rest.items
-    c.loop-buffer.invariant.all (omega (arith, c.in-None.ensures.steps.0)) in
-    let was = rw c.in-Some-failed.is at c.loop-buffer.invariant.stopped in
-    record {
-      place = c.in-Some-failed.place;
-      within = omega (arith, was.0, ap length through);
-      told = c.number_of.ensures;
-      left = rw through at was.1;
-    }
-
-pub returns-then-is_busy-clause-refusal : goal.returns-then-is_busy-clause-refusal
-returns-then-is_busy-clause-refusal g c = (refl, c.is_busy.ensures.busy c.if-is_busy.true)
+pub returns-then-is_busy : goal.returns-then-is_busy
+returns-then-is_busy g c = record {
+  held = tt;
+  shut = tt;
+  refusal = (refl, c.is_busy.ensures.busy c.if-is_busy.true);
+  busy = λ busy. tt;
+}

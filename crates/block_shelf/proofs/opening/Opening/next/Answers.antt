@@ -6,32 +6,59 @@ use Rattle.block_shelf.proofs.Opens.{behind_failed, first_failed}
 use Rattle.block_shelf.specs.Heads.{IsOpenedFrom}
 use Rattle.block_shelf.proofs.opening.Opening.next.Goals as goal
 
-pub returns-in-Failed-clause-opens : goal.returns-in-Failed-clause-opens
-returns-in-Failed-clause-opens g c = λ before had.
-    rw (c.push_reserved.ensures.items, c.into_store.ensures)
-    (behind_failed before c.args.unopened c.in-Failed.place c.in-Failed.stores.items
-    (rw c.in-Failed.is at had))
+pub returns-in-Failed : goal.returns-in-Failed
+returns-in-Failed g c = record {
+  opens = λ before had.
+      rw (c.push_reserved.ensures.items, c.into_store.ensures)
+      (behind_failed before c.args.unopened c.in-Failed.place c.in-Failed.stores.items
+      (rw c.in-Failed.is at had));
+  count = rw c.in-Failed.is (omega (arith, c.push_reserved.ensures.len));
+  room =
+      rw c.in-Failed.is (omega (arith, c.push_reserved.ensures.capacity));
+}
 
-pub returns-in-Ok-clause-opens : goal.returns-in-Ok-clause-opens
-returns-in-Ok-clause-opens g c = λ before had.
-    let was = rw c.in-Opened.is at had in
-    rw c.push_reserved-in-Ok.ensures.items (
-      one_more_each IsOpenedFrom before c.in-Opened.buffers.items c.args.unopened c.in-Ok.buffer
-          was.0 (assumption c.in-Ok.ensures),
-      was.1,
-    )
+pub returns-in-Ok : goal.returns-in-Ok
+returns-in-Ok g c = record {
+  opens = λ before had.
+      let was = rw c.in-Opened.is at had in
+      rw c.push_reserved-in-Ok.ensures.items (
+        one_more_each IsOpenedFrom before c.in-Opened.buffers.items c.args.unopened c.in-Ok.buffer
+            was.0 (assumption c.in-Ok.ensures),
+        was.1,
+      );
+  count =
+      rw c.in-Opened.is (omega (arith, c.push_reserved-in-Ok.ensures.len));
+  room =
+      rw c.in-Opened.is (omega (arith, c.push_reserved-in-Ok.ensures.capacity));
+}
 
-pub returns-in-Err-clause-opens : goal.returns-in-Err-clause-opens
-returns-in-Err-clause-opens g c = λ before had.
-    let was = rw c.in-Opened.is at had in
-    rw (
-      c.push_reserved-in-Err.ensures.items,
-      c.give_up-stores.ensures.items,
-      c.into_store-in-Err.ensures,
-    )
-    (first_failed before c.args.unopened c.in-Opened.buffers.items c.in-Opened.room.items
-    c.len-place.result c.in-Err.unopened was.0 was.1
-    (omega (arith, c.len-place.ensures, c.in-Opened.buffers.ok)) c.in-Err.ensures.failed)
+pub returns-in-Err : goal.returns-in-Err
+returns-in-Err g c = record {
+  opens = λ before had.
+      let was = rw c.in-Opened.is at had in
+      rw (
+        c.push_reserved-in-Err.ensures.items,
+        c.give_up-stores.ensures.items,
+        c.into_store-in-Err.ensures,
+      )
+      (first_failed before c.args.unopened c.in-Opened.buffers.items c.in-Opened.room.items
+      c.len-place.result c.in-Err.unopened was.0 was.1
+      (omega (arith, c.len-place.ensures, c.in-Opened.buffers.ok)) c.in-Err.ensures.failed);
+  count = rw c.in-Opened.is (omega (
+    arith,
+    c.in-Opened.buffers.ok,
+    c.in-Opened.room.ok,
+    c.give_up-stores.result.ok,
+    c.push_reserved-in-Err.ensures.len,
+    count_given (λ one. store_of one) c.in-Opened.buffers.items c.in-Opened.room.items
+        c.give_up-stores.result.items c.give_up-stores.ensures.items,
+  ));
+  room = rw c.in-Opened.is (omega (
+    arith,
+    c.push_reserved-in-Err.ensures.capacity,
+    c.give_up-stores.ensures.capacity,
+  ));
+}
 
 pub push_reserved-requires : goal.push_reserved-requires
 push_reserved-requires g c = rw c.in-Failed.is at c.requires
@@ -53,36 +80,3 @@ push_reserved-requires-in-Err g c = omega (
   count_given (λ one. store_of one) c.in-Opened.buffers.items c.in-Opened.room.items
       c.give_up-stores.result.items c.give_up-stores.ensures.items,
 )
-
-pub returns-in-Failed-clause-count : goal.returns-in-Failed-clause-count
-returns-in-Failed-clause-count g c = rw c.in-Failed.is (omega (arith, c.push_reserved.ensures.len))
-
-pub returns-in-Failed-clause-room : goal.returns-in-Failed-clause-room
-returns-in-Failed-clause-room g c =
-    rw c.in-Failed.is (omega (arith, c.push_reserved.ensures.capacity))
-
-pub returns-in-Ok-clause-count : goal.returns-in-Ok-clause-count
-returns-in-Ok-clause-count g c =
-    rw c.in-Opened.is (omega (arith, c.push_reserved-in-Ok.ensures.len))
-
-pub returns-in-Ok-clause-room : goal.returns-in-Ok-clause-room
-returns-in-Ok-clause-room g c =
-    rw c.in-Opened.is (omega (arith, c.push_reserved-in-Ok.ensures.capacity))
-
-pub returns-in-Err-clause-count : goal.returns-in-Err-clause-count
-returns-in-Err-clause-count g c = rw c.in-Opened.is (omega (
-  arith,
-  c.in-Opened.buffers.ok,
-  c.in-Opened.room.ok,
-  c.give_up-stores.result.ok,
-  c.push_reserved-in-Err.ensures.len,
-  count_given (λ one. store_of one) c.in-Opened.buffers.items c.in-Opened.room.items
-      c.give_up-stores.result.items c.give_up-stores.ensures.items,
-))
-
-pub returns-in-Err-clause-room : goal.returns-in-Err-clause-room
-returns-in-Err-clause-room g c = rw c.in-Opened.is (omega (
-  arith,
-  c.push_reserved-in-Err.ensures.capacity,
-  c.give_up-stores.ensures.capacity,
-))

@@ -13,26 +13,37 @@ loop-unopened-preserved g c = record {
   room = omega (arith, c.next-opening.ensures.room);
 }
 
-pub returns-in-Opened-clause-keeps : goal.returns-in-Opened-clause-keeps
-returns-in-Opened-clause-keeps g c =
-    keeps_opened
-    (rw (← none_left c.loop-unopened.yielded c.loop-unopened.unopened-iterator.rest.items
-    c.loop-unopened.invariant.all (omega (arith, c.in-None.ensures.steps.0)))
-    (rw c.in-Opened.is at c.loop-unopened.invariant.opened).0)
-    refl
+pub returns-in-Opened : goal.returns-in-Opened
+returns-in-Opened g c = record {
+  keeps =
+      keeps_opened
+      (rw (← none_left c.loop-unopened.yielded c.loop-unopened.unopened-iterator.rest.items
+      c.loop-unopened.invariant.all (omega (arith, c.in-None.ensures.steps.0)))
+      (rw c.in-Opened.is at c.loop-unopened.invariant.opened).0)
+      refl;
+  opened =
+      rw (← none_left c.loop-unopened.yielded c.loop-unopened.unopened-iterator.rest.items
+      c.loop-unopened.invariant.all (omega (arith, c.in-None.ensures.steps.0)))
+      (rw c.in-Opened.is at c.loop-unopened.invariant.opened).0;
+  refusal = tt;
+}
 
-pub returns-in-Failed-clause-refusal : goal.returns-in-Failed-clause-refusal
-returns-in-Failed-clause-refusal g c =
-    let through = none_left c.loop-unopened.yielded c.loop-unopened.unopened-iterator.rest.items
-    c.loop-unopened.invariant.all (omega (arith, c.in-None.ensures.steps.0)) in
-    let was = rw c.in-Failed.is at c.loop-unopened.invariant.opened in
-    record {
-      device = refl;
-      place = c.in-Failed.place;
-      within = omega (arith, was.0, ap length through);
-      told = grind arith;
-      left = rw through at was.1;
-    }
+pub returns-in-Failed : goal.returns-in-Failed
+returns-in-Failed g c = record {
+  keeps = tt;
+  opened = tt;
+  refusal =
+      let through = none_left c.loop-unopened.yielded c.loop-unopened.unopened-iterator.rest.items
+      c.loop-unopened.invariant.all (omega (arith, c.in-None.ensures.steps.0)) in
+      let was = rw c.in-Failed.is at c.loop-unopened.invariant.opened in
+      record {
+        device = refl;
+        place = c.in-Failed.place;
+        within = omega (arith, was.0, ap length through);
+        told = grind arith;
+        left = rw through at was.1;
+      };
+}
 
 pub loop-unopened-init : goal.loop-unopened-init
 loop-unopened-init g c = record {
@@ -62,9 +73,3 @@ next-opening-requires g c = omega (
       c.args.self.buffers.items c.in-Some.unopened c.next.new.self.rest.items
       c.loop-unopened.invariant.all c.in-Some.ensures.steps.0,
 )
-
-pub returns-in-Opened-clause-opened : goal.returns-in-Opened-clause-opened
-returns-in-Opened-clause-opened g c =
-    rw (← none_left c.loop-unopened.yielded c.loop-unopened.unopened-iterator.rest.items
-    c.loop-unopened.invariant.all (omega (arith, c.in-None.ensures.steps.0)))
-    (rw c.in-Opened.is at c.loop-unopened.invariant.opened).0

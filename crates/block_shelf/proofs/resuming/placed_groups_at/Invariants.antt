@@ -1,7 +1,7 @@
 use Rattle.std.proofs.Common.{◌≡◌, ◌≤◌, length, take, vec_capacity, vec_len}
 use Rattle.block_shelf.specs.Each.{AreEach}
 use Rattle.block_shelf.specs.Resuming.{IsResumedAt}
-use Rattle.block_shelf.proofs.resuming.resume_placed_groups.Given as goal
+use Rattle.block_shelf.proofs.resuming.placed_groups_at.Given as goal
 
 -- the placed groups so far are those of the groups so far, at their positions
 abbrev pub invariant-loop-place : goal.invariant-loop-place
