@@ -355,8 +355,8 @@ impl Shard {
             (λ claim. claim_of_kept (id_view one))) }
         ensures err { OnErr result (KeepsClaims (Keeps self.old) (Keeps self.new)) }
     {
-        let KeptId { id, token, moment } = one;
-        self.insert(id, Entry::since(token, moment))
+        let entry = Entry::since(one.token, one.moment);
+        self.insert(one.into_id(), entry)
     }
 
     /// The entry of the id.

@@ -1,15 +1,41 @@
 //! What outlives a clean stop besides the buffers (docs/FORMATS.md, History file).
+ghost use Rattle.std.specs.Prelude.{◌≡◌};
+
 use cyc_token::Token;
 use nntp_text::MsgId;
 
 /// A message-id that is remembered.
-#[derive(Drop)]
 pub struct KeptId {
     pub id: MsgId,
     /// The token under which its article is stored; `None` where an article was refused.
     pub token: Option<Token>,
     /// When it was stored or refused, in seconds since 1970-01-01 00:00:00 UTC.
     pub moment: u64,
+}
+
+// Written out, so that no crate above proves anew how each part is let go.
+impl Drop for KeptId {
+    fn drop(self) {
+        let KeptId {
+            id: _,
+            token: _,
+            moment: _,
+        } = self;
+    }
+}
+
+impl KeptId {
+    /// The message-id alone.
+    pub(crate) fn into_id(self) -> MsgId
+        ensures { result ≡ self.id }
+    {
+        let KeptId {
+            id,
+            token: _,
+            moment: _,
+        } = self;
+        id
+    }
 }
 
 /// What is left of a feed.

@@ -2,7 +2,7 @@
 ghost use Rattle.std.specs.Prelude.{◌≡◌, map, option_map, IfOk, Some};
 ghost use Rattle.std.specs.Int.{w32, w64};
 ghost use Rattle.cyc_token.specs.Token.{token_view};
-ghost use Rattle.id_history.specs.Reading.{Gives, octet_at, number_at, token_at, id_at, fate_at};
+ghost use Rattle.id_history.specs.Reading.{Gives, number_at, token_at, id_at, fate_at};
 ghost use Rattle.id_history.specs.Reading.{kept_id_at, times_at, counted_at, feed_at, marked_at};
 ghost use Rattle.id_history.specs.Reading.{lists_at, all_of};
 ghost use Rattle.id_history.specs.History.{Kept, Fits, Holds, history_octets};
@@ -17,16 +17,6 @@ use std::alloc::Global;
 
 /// The four octets that a history begins with.
 pub(crate) const MARK: [u8; 4] = *b"CNR1";
-
-/// One octet.
-fn octet(bytes: &[u8]) -> Option<(u8, &[u8])>
-    ensures { octet_at bytes.now ≡ option_map (λ x. (x.0, x.1.now)) result }
-{
-    match bytes {
-        [] => None,
-        [octet, rest @ ..] => Some((*octet, rest)),
-    }
-}
 
 /// A number of four octets.
 fn number32(bytes: &[u8]) -> Option<(u32, &[u8])>
@@ -59,14 +49,15 @@ fn number64(bytes: &[u8]) -> Option<(u64, &[u8])>
 fn token(bytes: &[u8]) -> Option<(Token, &[u8])>
     ensures { token_at bytes.now ≡ option_map (λ x. (token_view x.0, x.1.now)) result }
 {
-    let (class, rest) = octet(bytes)?;
-    let (buffer, rest) = octet(rest)?;
+    let [class, buffer, rest @ ..] = bytes else {
+        return None;
+    };
     let (cycle, rest) = number32(rest)?;
     let (first, rest) = number32(rest)?;
     let (length, rest) = number32(rest)?;
     let token = Token {
-        class,
-        buffer,
+        class: *class,
+        buffer: *buffer,
         cycle,
         first,
         length,
@@ -79,10 +70,10 @@ fn token(bytes: &[u8]) -> Option<(Token, &[u8])>
 fn id(alloc: Global, bytes: &[u8]) -> Result<(MsgId, &[u8]), HistoryError>
     ensures { Gives (λ x. (x.0, x.1.now)) result (id_at bytes.now) }
 {
-    let Some((count, rest)) = octet(bytes) else {
+    let [count, rest @ ..] = bytes else {
         return Err(HistoryError::BadHistory);
     };
-    let count = usize::from(count);
+    let count = usize::from(*count);
     if rest.len() < count {
         return Err(HistoryError::BadHistory);
     }

@@ -118,8 +118,7 @@ fn put_token(out: &mut Vec<u8>, token: Token) -> Result<(), AllocError>
         (out.new.items ≡ out.old.items ++ token_octets (token_view token)) }
     ensures fits { OnOk result (IsToken (token_view token)) }
 {
-    out.push(token.class)?;
-    out.push(token.buffer)?;
+    out.extend_from_slice(&[token.class, token.buffer])?;
     put32(out, token.cycle)?;
     put32(out, token.first)?;
     put32(out, token.length)
