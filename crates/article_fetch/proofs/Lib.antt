@@ -5,5 +5,6 @@ pub mod Fronts
 mod Hearing
 pub mod Lines
 mod Overviews
+mod Readings
 pub mod Rooms
 pub mod Walks

@@ -1,5 +1,7 @@
 -- The line of the parts of an article, and the room that it needs.
 use Rattle.std.proofs.Common.{◌≡◌, ◌≢◌, ℕ, ◌+◌, ◌<◌, ◌≤◌, ◌^◌, length, refl, ap, arith, Ok, Err}
+use Rattle.std.proofs.Common.{false, true, ⊎_elim}
+use Rattle.std.proofs.lemmas.Bool.{both_ways, cases_lt}
 use Rattle.news_terms.specs.Article.{Article, article_text}
 use Rattle.news_terms.specs.Overview.{overview_line}
 use Rattle.article_fetch.specs.declared.parts.Parts.{Parts}
@@ -28,3 +30,8 @@ line_fits p a header h small sum =
 -- what is put is no fault
 pub ok_no_err : {X E : Type 0} (x : X) (e : E) → Ok x ≢ Err e
 ok_no_err x e same = cc
+
+-- what isn't at least so much is less
+pub not_less : (a b : ℕ) → (b ≤ a → false ≡ true) → a < b
+not_less a b not =
+    ⊎_elim (λ less. less) (λ least. absurd (both_ways false refl (not least))) (cases_lt a b)

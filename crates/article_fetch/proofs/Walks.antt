@@ -1,11 +1,12 @@
 -- A header gone over field by field.
-use Rattle.std.proofs.Common.{◌≡◌, ℕ, ◌+◌, false, List, [], ◌∷◌, ◌++◌, length, drop}
-use Rattle.std.proofs.Common.{sym, ap, ◌∙◌, arith, append_assoc, append-nil, length-drop}
+use Rattle.std.proofs.Common.{◌≡◌, ℕ, ◌+◌, ◌-◌, false, List, [], ◌∷◌, ◌++◌, length, take, drop}
+use Rattle.std.proofs.Common.{sym, ap, subst, ◌∙◌, arith, append_assoc, append-nil, length-drop}
+use Rattle.std.proofs.Common.{IsTrue}
 use Rattle.std.specs.Prelude.{flat_map}
 use Rattle.std.specs.List.{AllByRecursion}
 use Rattle.std.proofs.lemmas.Bool.{both_ways}
 use Rattle.std.proofs.lemmas.Grind.{flat_map-append}
-use Rattle.std.proofs.lemmas.List.{drop-drop}
+use Rattle.std.proofs.lemmas.List.{drop-drop, take_rest}
 use Rattle.news_terms.specs.Article.{Field, Article, IsField, IsLaidOut, field_text, has_empty_line}
 use Rattle.news_terms.specs.Article.{are_header_lines, header_lines, is_paired}
 use Rattle.news_terms.proofs.ArticleFaults.{laid_out_line, laid_out_header}
@@ -58,3 +59,9 @@ pub no_header : (s rest : List ℕ) (fields : List Field) (at : ℕ) → rest �
 no_header s rest fields at e h none a laid =
     both_ways _ (h.good ∙ ap (λ x. are_header_lines (header_lines x)) (sym e) ∙ none)
     (laid_out_header s a laid)
+
+-- what is left of the text is sliced off with its line ends in pairs
+pub rest_paired : (s : List ℕ) (fields : List Field) (at : ℕ) → AreFieldsTo s fields at
+    → IsTrue (is_paired (take (length s - at) (drop at s)))
+rest_paired s fields at h =
+    subst (λ (x : List ℕ). IsTrue (is_paired x)) (sym (take_rest s at)) h.paired

@@ -45,7 +45,7 @@ pub(crate) fn last_reply(
         Chunk::Found(_) => found_reply(room, asked, token, text),
         Chunk::Gone(_) => gone_reply(room, asked, token),
         Chunk::Unknown => unknown_reply(room, asked, token),
-        Chunk::Device(_) => said(room, &Reply::DeviceFault),
+        Chunk::Device(_) => said(room, Reply::DeviceFault),
     }
 }
 
@@ -57,8 +57,8 @@ fn gone_reply(room: Vec<u8>, asked: &Asked, token: Token) -> Vec<u8>
     ensures some { 1 ≤ length result.items }
 {
     match asked {
-        Asked::OfId(_, _) => said(room, &Reply::NoArticle),
-        Asked::OfToken => said(room, &Reply::TokenGone(token)),
+        Asked::OfId(_, _) => said(room, Reply::NoArticle),
+        Asked::OfToken => said(room, Reply::TokenGone(token)),
     }
 }
 
@@ -71,8 +71,8 @@ fn unknown_reply(room: Vec<u8>, asked: &Asked, token: Token) -> Vec<u8>
     ensures some { 1 ≤ length result.items }
 {
     match asked {
-        Asked::OfId(_, _) => said(room, &Reply::NoArticle),
-        Asked::OfToken => said(room, &Reply::TokenUnknown(token)),
+        Asked::OfId(_, _) => said(room, Reply::NoArticle),
+        Asked::OfToken => said(room, Reply::TokenUnknown(token)),
     }
 }
 
@@ -88,7 +88,7 @@ fn found_reply(room: Vec<u8>, asked: &Asked, token: Token, text: &[u8]) -> Vec<u
 {
     match asked {
         Asked::OfId(part, id) => part_reply(room, *part, id, text),
-        Asked::OfToken => said(room, &Reply::TokenFollows(token, text)),
+        Asked::OfToken => said(room, Reply::TokenFollows(token, text)),
     }
 }
 
@@ -102,11 +102,11 @@ fn part_reply(room: Vec<u8>, part: Part, id: &MsgId, text: &[u8]) -> Vec<u8>
     ensures some { 1 ≤ length result.items }
 {
     match part {
-        Part::WholeText => said(room, &Reply::ArticleFollows(id, text)),
+        Part::WholeText => said(room, Reply::ArticleFollows(id, text)),
         Part::Header => header_reply(room, id, text),
         Part::BodyLines => body_reply(room, id, text),
         Part::OverviewLine => overview_reply(room, text),
-        Part::Presence => said(room, &Reply::Exists(id)),
+        Part::Presence => said(room, Reply::Exists(id)),
     }
 }
 
@@ -122,8 +122,8 @@ fn header_reply(room: Vec<u8>, id: &MsgId, text: &[u8]) -> Vec<u8>
     ensures some { 1 ≤ length result.items }
 {
     match empty_line_place(text) {
-        Some(at) => said(room, &Reply::HeaderFollows(id, &text[..at])),
-        None => said(room, &Reply::DeviceFault),
+        Some(at) => said(room, Reply::HeaderFollows(id, &text[..at])),
+        None => said(room, Reply::DeviceFault),
     }
 }
 
@@ -139,8 +139,8 @@ fn body_reply(room: Vec<u8>, id: &MsgId, text: &[u8]) -> Vec<u8>
     ensures some { 1 ≤ length result.items }
 {
     match empty_line_place(text) {
-        Some(at) => said(room, &Reply::BodyFollows(id, &text[at + 2..])),
-        None => said(room, &Reply::DeviceFault),
+        Some(at) => said(room, Reply::BodyFollows(id, &text[at + 2..])),
+        None => said(room, Reply::DeviceFault),
     }
 }
 
@@ -163,18 +163,18 @@ fn overview_reply(mut room: Vec<u8>, text: &[u8]) -> Vec<u8>
         }
         Err(_) => {
             room.clear();
-            said(room, &Reply::DeviceFault)
+            said(room, Reply::DeviceFault)
         }
     }
 }
 
 /// The octets of a reply, in the room that was made for it.
-fn said(mut room: Vec<u8>, reply: &Reply<'_>) -> Vec<u8>
+fn said(mut room: Vec<u8>, reply: Reply<'_>) -> Vec<u8>
     requires empty { room.items ≡ [] }
-    requires room { room_of reply.now ≤ vec_capacity room }
-    ensures octets { result.items ≡ reply_text (reply_view reply.now) }
+    requires room { room_of reply ≤ vec_capacity room }
+    ensures octets { result.items ≡ reply_text (reply_view reply.entry) }
     ensures some { 1 ≤ length result.items }
 {
-    put_reply(&mut room, reply);
+    put_reply(&mut room, &reply);
     room
 }

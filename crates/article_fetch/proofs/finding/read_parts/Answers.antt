@@ -4,7 +4,7 @@ use Rattle.news_terms.specs.Article.{Article}
 use Rattle.article_parse.specs.Header.{field_view}
 use Rattle.article_parse.proofs.FieldCuts.{header_ends}
 use Rattle.article_parse.proofs.FirstFaults.{laid_out}
-use Rattle.article_fetch.proofs.Walks.{field_passed, no_line, no_header}
+use Rattle.article_fetch.proofs.Walks.{field_passed, no_line, no_header, rest_paired}
 use Rattle.article_fetch.proofs.finding.read_parts.Goals as goal
 
 pub loop-field-preserved : goal.loop-field-preserved
@@ -44,3 +44,7 @@ returns-in-BadHeader c =
     let s = c.args.text.now in
     let l = c.loop-field in
     no_header s _ l.invariant.0 l.at (take_rest s l.at) l.invariant.1 c.in-BadHeader.ensures
+
+pub front_of-requires : goal.front_of-requires
+front_of-requires c =
+    rest_paired c.args.text.now c.loop-field.invariant.0 c.loop-field.at c.loop-field.invariant.1

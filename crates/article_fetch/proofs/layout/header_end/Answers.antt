@@ -1,7 +1,7 @@
 use Rattle.std.proofs.Common.{◌∷◌, ◌++◌, []}
 use Rattle.std.proofs.lemmas.List.{take_rest}
 use Rattle.article_parse.specs.Header.{field_view}
-use Rattle.article_fetch.proofs.Walks.{field_passed, no_line, no_header}
+use Rattle.article_fetch.proofs.Walks.{field_passed, no_line, no_header, rest_paired}
 use Rattle.article_fetch.proofs.EmptyLinePlaces.{place_found}
 use Rattle.article_fetch.proofs.layout.header_end.Goals as goal
 
@@ -34,3 +34,7 @@ returns-in-BadHeader c =
     let s = c.args.text.now in
     let l = c.loop-octets in
     no_header s _ l.invariant.0 l.at (take_rest s l.at) l.invariant.1 c.in-BadHeader.ensures
+
+pub front_of-requires : goal.front_of-requires
+front_of-requires c =
+    rest_paired c.args.text.now c.loop-octets.invariant.0 c.loop-octets.at c.loop-octets.invariant.1

@@ -2,7 +2,7 @@ use Rattle.std.proofs.Common.{◌<◌, ◌^◌, ◌++◌, ◌∙◌, ap, arith, 
 use Rattle.news_terms.specs.Article.{Article, article_text}
 use Rattle.news_terms.specs.Overview.{overview_line}
 use Rattle.news_terms.proofs.ArticleReadings.{one_article}
-use Rattle.article_fetch.proofs.Lines.{line_fits, ok_no_err, same_line}
+use Rattle.article_fetch.proofs.Lines.{line_fits, not_less, ok_no_err, same_line}
 use Rattle.article_fetch.proofs.overview.put_line.Goals as goal
 
 pub put_parts-requires : goal.put_parts-requires
@@ -41,4 +41,23 @@ returns-clause-no_room c = (
         made.2.octets,
         c.header_octets.ensures,
       )),
+)
+
+pub returns-then-not-has_room-clause-no_room : goal.returns-then-not-has_room-clause-no_room
+returns-then-not-has_room-clause-no_room c = (
+  λ e. let made = c.in-Some.ensures in (
+    made.0,
+    made.1,
+    not_less _ _ (λ enough. c.if-not-has_room.ensures.1 (omega (
+      arith,
+      enough,
+      ap length made.1.spelled,
+      ap length made.2.body,
+      made.2.octets,
+      c.header_octets.ensures,
+      c.capacity.ensures,
+      c.len.ensures,
+    ))),
+  ),
+  λ w. refl,
 )

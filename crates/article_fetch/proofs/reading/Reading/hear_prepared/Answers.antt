@@ -1,5 +1,5 @@
 use Rattle.std.proofs.Common.{◌≡◌, ◌+◌, ◌<◌, ◌≤◌, ◌++◌, ◌∙◌, ap, subst, take, List, ℕ, [], None}
-use Rattle.std.proofs.Common.{arith, false, length, refl, sym, Some, Vec}
+use Rattle.std.proofs.Common.{arith, false, length, refl, sym, Some, Vec, vec_capacity}
 use Rattle.std.specs.Global.{Global}
 use Rattle.cyc_token.specs.Token.{token_view}
 use Rattle.relay_model.specs.Fetches.{Fetched}
@@ -7,14 +7,15 @@ use Rattle.relay_model.specs.Hears.{goes_on, turns_of}
 use Rattle.article_fetch.specs.Fetch.{asked_view, ended, Fetch, FoundAs, HearsBlock, Replies}
 use Rattle.article_fetch.specs.Fetch.{StaysSame}
 use Rattle.article_fetch.specs.Given.{HearsAny, ReplyToAny, SaysSuch, found_with, given}
-use Rattle.article_fetch.specs.Inside.{most_due}
+use Rattle.article_fetch.specs.Inside.{HasRoom, most_due}
 use Rattle.article_fetch.specs.Malformed.{FaultsAsked, FaultsLast, SaysFault}
-use Rattle.article_fetch.specs.Shown.{SaysLast}
+use Rattle.article_fetch.specs.Shown.{SaysLast, most_by}
 use Rattle.news_terms.specs.BlockImage.{chunk_size}
 use Rattle.article_fetch.specs.contracts.reading.Reading.{the_view}
 use Rattle.article_fetch.specs.declared.chunk.Chunk.{Chunk}
 use Rattle.article_fetch.proofs.Hearing.{all_due, any_last, any_nothing, any_on}
 use Rattle.article_fetch.proofs.Hearing.{heard_on, heard_last, heard_nothing, no_text}
+use Rattle.article_fetch.proofs.Readings.{last_has_room, none_has_room, read_on}
 use Rattle.article_fetch.proofs.reading.Reading.hear_prepared.Goals as goal
 use Rattle.article_fetch.proofs.reading.Reading.hear_prepared.Goals.{in-Found+else-self-turns}
 use Rattle.article_fetch.proofs.reading.Reading.hear_prepared.Goals.{in_default}
@@ -160,3 +161,43 @@ returns c =
       fault = subst (λ (fetch : Fetch). SaysFault fetch c.args.chunk (Some c.last_reply.result))
           c.self.view_is faults;
     }
+
+pub invariant_of-self : goal.invariant_of-self
+invariant_of-self c =
+    let inside = c.self.inside in
+    let due = most_due (asked_view inside.asked) in
+    read_on (asked_view inside.asked) (token_view inside.token) inside.had inside.gathered
+    c.gather.new.text inside.room inside.prepared c.as_slice.result.now c.self.invariant
+    (omega (arith, c.if-self-turns.true, c.turns-turns.ensures))
+    (c.gather.ensures.items
+    ∙ ap (λ (v : Vec ℕ Global). v.items ++ take due c.as_slice.result.now)
+    c.replace-text.ensures.value)
+    c.as_slice.ensures.short
+    (c.gather.ensures.capacity
+    ∙ ap (λ (v : Vec ℕ Global). vec_capacity v) c.replace-text.ensures.value)
+
+pub last_reply-requires-clause-room : goal.last_reply-requires-clause-room
+last_reply-requires-clause-room c =
+    let inside = c.self.inside in
+    let asked = asked_view inside.asked in
+    let token = token_view inside.token in
+    let room : HasRoom asked token inside.had inside.gathered inside.room =
+    c.self.invariant.ready (ap (λ (x : Fetch). x.prepared) c.self.view_is ∙ c.requires) in
+    let fits : most_by c.args.chunk c.match-chunk.text.items ≤ vec_capacity inside.room =
+    elim c.match-chunk.branch [
+      | in-Found+else-self-turns w ↦
+          let due = most_due asked in
+          last_has_room asked token inside.had inside.gathered inside.room c.args.chunk
+          w.as_slice.result.now c.match-chunk.text.items room c.self.invariant.turns
+          (omega (arith, w.if-self-turns.false, w.turns-turns.ensures))
+          (ap (λ (v : Vec ℕ Global). v.items) w.text-is
+          ∙ w.gather.ensures.items
+          ∙ ap (λ (v : Vec ℕ Global). v.items ++ take due w.as_slice.result.now)
+          c.replace-text.ensures.value)
+      | in_default w ↦ none_has_room asked token inside.had inside.gathered inside.room c.args.chunk
+          c.match-chunk.text.items room w.in_default.not-Found
+    ] in
+    subst (λ (v : Vec ℕ Global). most_by c.args.chunk c.deref.result.now ≤ vec_capacity v)
+    (sym c.replace-room.ensures.value)
+    (subst (λ (x : List ℕ). most_by c.args.chunk x ≤ vec_capacity inside.room)
+    (sym c.deref.ensures.value) fits)
