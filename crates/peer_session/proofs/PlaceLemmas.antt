@@ -172,3 +172,12 @@ pub found_open : {X : Type 0} (found : Option X) (places : List (Option (List �
     → is_some found ≡ is_open (open_ids places) id
 found_open None places id place none = sym (closed_nowhere places id none)
 found_open (Some spot) places id place at = sym (open_somewhere places (place spot) id at)
+
+-- a place without an id has none still, once one has ended
+pub none_still : (places : List (Option (List ℕ))) (i j : ℕ) → get_or places j None ≡ None
+    → get_or (set places i None) j None ≡ None
+none_still [] i j e = e
+none_still (place ∷ places) zero zero e = refl
+none_still (place ∷ places) zero (suc j) e = e
+none_still (place ∷ places) (suc i) zero e = e
+none_still (place ∷ places) (suc i) (suc j) e = none_still places i j e

@@ -1,13 +1,15 @@
 -- The first place of a table.
-use Rattle.std.proofs.Common.{◌≡◌, ◌<◌, ℕ, List, [], ◌∷◌, ◌++◌, Option, None, Some}
-use Rattle.std.proofs.Common.{length, get_or, arith, ◌∙◌, inl, inr}
+use Rattle.std.proofs.Common.{◌≡◌, ◌≢◌, ◌<◌, ℕ, List, [], ◌∷◌, ◌++◌, Option, None, Some}
+use Rattle.std.proofs.Common.{length, get_or, arith, refl, rules, ◌∙◌, inl, inr}
 use Rattle.std.proofs.Common.{length-append, Bor}
 use Rattle.std.specs.Prelude.{filter, is_some, MatchOption, option_copied}
+use Rattle.std.specs.List.{AllPairs}
 use Rattle.std.proofs.lemmas.Bool.{cases_lt}
 use Rattle.std.proofs.lemmas.List.{get_or_append_left, get_or_default}
 use Rattle.std.proofs.lemmas.List.Elements.{filter_passes}
 use Rattle.std.proofs.Math.Seq.{get_or-append_seam}
 use Rattle.peer_session.proofs.PlaceLemmas.{has_id}
+use Rattle.peer_session.specs.Places.{open_ids}
 use Rattle.peer_session.specs.Table.{IsFirst}
 
 -- the place that is first, where any has an id
@@ -56,3 +58,18 @@ pub shown : {X : Type 0} (r : Option (Bor X)) (x : X) (N : Type 0) (S : X → Ty
     → option_copied r ≡ Some x → S x → MatchOption r N (λ b. S b.now)
 shown None x N S e s = absurd (cc)
 shown (Some b) x N S e s = let same : b.now ≡ x = cc in rw same s
+
+-- where there are no places none is open
+pub none_placed : (places : List (Option (List ℕ))) → places ≡ []
+    → AllPairs (λ id other. id ≢ other) (open_ids places)
+    × (0 ≡ length (open_ids places)) × IsFirst places 0
+none_placed [] none = (
+  search rules,
+  refl,
+  record {
+    within = omega arith;
+    before = λ j lt. absurd (omega arith);
+    first_open = λ lt. absurd (omega (arith, lt));
+  },
+)
+none_placed (place ∷ places) none = absurd (cc)

@@ -12,7 +12,7 @@ ghost use Rattle.relay_model.specs.Terms.{last_moment};
 ghost use Rattle.stream_cut.specs.Stream.{ShowsBlock};
 ghost use Rattle.peer_session.specs.Asking.{IsOwedAsked, IsAwaitingBlock, TakesOwed};
 ghost use Rattle.peer_session.specs.Asking.{TextAt};
-ghost use Rattle.peer_session.specs.Hearing.{HeardIs};
+ghost use Rattle.peer_session.specs.Hearing.{HeardIs, HeardUnless};
 ghost use Rattle.peer_session.specs.Planning.{Plans, block_passed};
 ghost use Rattle.peer_session.specs.Session.{HasAll, IsBounded, StandsAsBefore, session_view};
 ghost use Rattle.peer_session.specs.Session.{transfer_view};
@@ -109,21 +109,19 @@ impl Session {
 
     /// The answer to a refusal.
     pub(crate) fn hear_refused(&mut self, read: usize, room: Room, answer: Answer) -> Vec<u8>
-        ensures heard { (transfer : Transfer) (id : MsgId) → answer ≡ Answer.Nothing
+        ensures { HeardUnless
+            ((transfer : Transfer) (id : MsgId) → answer ≡ Answer.Nothing
             → self.old.phase ≡ Phase.AwaitsBlock transfer (Some id)
             → HeardIs result.items self.old (says (block_passed read self.old id)
-            (hears.rejected (transfer_view transfer) id)) self.new }
-        ensures memory { answer ≡ Answer.Memory → self.new ≡ self.old }
+            (hears.rejected (transfer_view transfer) id)) self.new)
+            answer self.old self.new }
     {
         match answer {
             Answer::Nothing => match self.take_owed(read) {
-                Some((transfer, id)) => room.say(&rejected(transfer, &id)),
+                Some((transfer, id)) => room.say(rejected(transfer, &id)),
                 None => Vec::new(self.alloc),
             },
-            other => {
-                drop(other);
-                Vec::new(self.alloc)
-            }
+            _ => self.unheard(answer),
         }
     }
 
@@ -137,11 +135,12 @@ impl Session {
         room: Room,
         answer: Answer,
     ) -> Vec<u8>
-        ensures heard { (transfer : Transfer) (told : Take) → answer ≡ Answer.Take told
+        ensures { HeardUnless
+            ((transfer : Transfer) (told : Take) → answer ≡ Answer.Take told
             → self.old.phase ≡ Phase.AwaitsBlock transfer (Some copy)
             → HeardIs result.items self.old (take_heard number (block_passed read self.old copy)
-            (transfer_view transfer) copy (article_view article) (take_view told)) self.new }
-        ensures memory { answer ≡ Answer.Memory → self.new ≡ self.old }
+            (transfer_view transfer) copy (article_view article) (take_view told)) self.new)
+            answer self.old self.new }
     {
         match answer {
             Answer::Take(told) => match self.take_owed(read) {
@@ -155,10 +154,7 @@ impl Session {
                 }
                 None => Vec::new(self.alloc),
             },
-            other => {
-                drop(other);
-                Vec::new(self.alloc)
-            }
+            _ => self.unheard(answer),
         }
     }
 
@@ -184,7 +180,7 @@ impl Session {
             }
             Take::Seen => {
                 drop(job);
-                room.say(&rejected(transfer, &id))
+                room.say(rejected(transfer, &id))
             }
             Take::Held => match transfer {
                 Transfer::TakesThis => {
@@ -193,7 +189,7 @@ impl Session {
                 }
                 Transfer::Has => {
                     drop(job);
-                    room.say(&Reply::IhaveLater)
+                    room.say(Reply::IhaveLater)
                 }
             },
         }
@@ -214,7 +210,7 @@ fn owed_asked(
         (IsOwedAsked (terms_of config.now) peer now id.now (option_copied text.entry)) }
 {
     let Some(id) = id else {
-        return said(alloc, &Reply::SyntaxError);
+        return said(alloc, Reply::SyntaxError);
     };
     let (room, asked) = room_and_copy(alloc, id)?;
     match verdict(alloc, config, id, peer, text, now)? {

@@ -14,7 +14,7 @@ ghost use Rattle.relay_model.specs.State as model;
 ghost use Rattle.relay_model.specs.State.{in_phase};
 ghost use Rattle.peer_session.specs.Asking.{IsReadingAsked, TakesReading};
 ghost use Rattle.peer_session.specs.Given.{ReadAnyIs};
-ghost use Rattle.peer_session.specs.Hearing.{HeardIs, ReadHeardIs};
+ghost use Rattle.peer_session.specs.Hearing.{HeardIs, HeardUnless, ReadHeardIs, ReadUnless};
 ghost use Rattle.peer_session.specs.Session.{passed, session_view};
 
 use crate::phase::{Due, Phase, Todo};
@@ -50,11 +50,12 @@ impl Session {
         room: Room,
         answer: Answer,
     ) -> Vec<u8>
-        ensures heard { (told : Option Token) → answer ≡ Answer.Look told
+        ensures { HeardUnless
+            ((told : Option Token) → answer ≡ Answer.Look told
             → self.old.phase ≡ Phase.Ready
             → HeardIs result.items self.old (look_heard (passed read self.old) (part_view part) id
-            (option_map token_view told)) self.new }
-        ensures memory { answer ≡ Answer.Memory → self.new ≡ self.old }
+            (option_map token_view told)) self.new)
+            answer self.old self.new }
     {
         match answer {
             Answer::Look(Some(token)) => {
@@ -67,34 +68,29 @@ impl Session {
             Answer::Look(None) => {
                 drop(answer);
                 self.cutter.pass(read);
-                room.say(&Reply::NoArticle)
+                room.say(Reply::NoArticle)
             }
-            other => {
-                drop(other);
-                Vec::new(self.alloc)
-            }
+            _ => self.unheard(answer),
         }
     }
 
     /// The first block of a token.
     pub(crate) fn hear_first(&mut self, read: usize, reading: Reading, answer: Answer) -> Vec<u8>
-        ensures heard { (chunk : Chunk) (found : Fetched) → answer ≡ Answer.Chunk chunk
+        ensures { ReadUnless
+            ((chunk : Chunk) (found : Fetched) → answer ≡ Answer.Chunk chunk
             → FoundAs reading chunk found → reading.prepared ≡ true → self.old.phase ≡ Phase.Ready
-            → ReadHeardIs result.items self.old (passed read self.old) reading found self.new }
-        ensures given { (chunk : Chunk) → answer ≡ Answer.Chunk chunk → reading.prepared ≡ true
+            → ReadHeardIs result.items self.old (passed read self.old) reading found self.new)
+            ((chunk : Chunk) → answer ≡ Answer.Chunk chunk → reading.prepared ≡ true
             → self.old.phase ≡ Phase.Ready
-            → ReadAnyIs result.items self.old (passed read self.old) reading chunk self.new }
-        ensures memory { answer ≡ Answer.Memory → self.new ≡ self.old }
+            → ReadAnyIs result.items self.old (passed read self.old) reading chunk self.new)
+            answer self.old self.new }
     {
         match answer {
             Answer::Chunk(chunk) => {
                 self.cutter.pass(read);
                 self.hear_block(reading, chunk)
             }
-            other => {
-                drop(other);
-                Vec::new(self.alloc)
-            }
+            _ => self.unheard(answer),
         }
     }
 
@@ -113,28 +109,26 @@ impl Session {
 
     /// The next block of a fetch.
     pub(crate) fn hear_next(&mut self, answer: Answer) -> Vec<u8>
-        ensures heard { (reading : Reading) (chunk : Chunk) (found : Fetched)
+        ensures { ReadUnless
+            ((reading : Reading) (chunk : Chunk) (found : Fetched)
             → answer ≡ Answer.Chunk chunk → self.old.phase ≡ Phase.Fetches reading
             → FoundAs reading chunk found → reading.prepared ≡ true
             → self.old.cutter.dropped ≡ 0
             → ReadHeardIs result.items self.old (in_phase (session_view self.old) model.Ready)
-            reading found self.new }
-        ensures given { (reading : Reading) (chunk : Chunk) → answer ≡ Answer.Chunk chunk
+            reading found self.new)
+            ((reading : Reading) (chunk : Chunk) → answer ≡ Answer.Chunk chunk
             → self.old.phase ≡ Phase.Fetches reading → reading.prepared ≡ true
             → self.old.cutter.dropped ≡ 0
             → ReadAnyIs result.items self.old (in_phase (session_view self.old) model.Ready)
-            reading chunk self.new }
-        ensures memory { answer ≡ Answer.Memory → self.new ≡ self.old }
+            reading chunk self.new)
+            answer self.old self.new }
     {
         match answer {
             Answer::Chunk(chunk) => match self.take_reading() {
                 Some(reading) => self.hear_block(reading, chunk),
                 None => Vec::new(self.alloc),
             },
-            other => {
-                drop(other);
-                Vec::new(self.alloc)
-            }
+            _ => self.unheard(answer),
         }
     }
 
@@ -158,21 +152,19 @@ impl Session {
 
     /// What was taken of a feed's queue.
     pub(crate) fn hear_queue(&mut self, read: usize, room: Room, answer: Answer) -> Vec<u8>
-        ensures heard { (taken : Taken) → answer ≡ Answer.Queue taken
+        ensures { HeardUnless
+            ((taken : Taken) → answer ≡ Answer.Queue taken
             → length taken.items.items ≤ room → self.old.phase ≡ Phase.Ready
             → HeardIs result.items self.old (says (passed read self.old)
-            (QueueFollows taken.missed (map item_view taken.items.items))) self.new }
-        ensures memory { answer ≡ Answer.Memory → self.new ≡ self.old }
+            (QueueFollows taken.missed (map item_view taken.items.items))) self.new)
+            answer self.old self.new }
     {
         match answer {
             Answer::Queue(taken) => {
                 self.cutter.pass(read);
                 room.say_queue(taken.missed, &taken.items)
             }
-            other => {
-                drop(other);
-                Vec::new(self.alloc)
-            }
+            _ => self.unheard(answer),
         }
     }
 }

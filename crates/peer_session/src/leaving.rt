@@ -4,7 +4,7 @@ ghost use Rattle.relay_model.specs.Hears.{silent};
 ghost use Rattle.relay_model.specs.State as model;
 ghost use Rattle.relay_model.specs.State.{in_phase, with_offers};
 ghost use Rattle.peer_session.specs.Asking.{IsLeavingAsked};
-ghost use Rattle.peer_session.specs.Hearing.{HeardIs};
+ghost use Rattle.peer_session.specs.Hearing.{HeardIs, HeardUnless};
 ghost use Rattle.peer_session.specs.Session.{LeavesFree, session_view};
 
 use crate::offers::OpenOffers;
@@ -45,29 +45,29 @@ pub(crate) fn leaving_due(
 impl Session {
     /// The oldest open offer was released.
     pub(crate) fn hear_released(&mut self, answer: Answer) -> Vec<u8>
-        ensures heard { (id : List ℕ) (later : List (List ℕ)) → answer ≡ Answer.Nothing
+        ensures { HeardUnless
+            ((id : List ℕ) (later : List (List ℕ)) → answer ≡ Answer.Nothing
             → self.old.phase ≡ Phase.Leaving → self.old.offers ≡ id ∷ later
             → HeardIs result.items self.old (silent (with_offers (session_view self.old) later))
-            self.new }
-        ensures memory { answer ≡ Answer.Memory → self.new ≡ self.old }
+            self.new)
+            answer self.old self.new }
     {
         if let Answer::Nothing = answer {
             drop(self.offers.close_oldest());
         }
-        drop(answer);
-        Vec::new(self.alloc)
+        self.unheard(answer)
     }
 
     /// Nothing was left.
     pub(crate) fn hear_ended(&mut self, answer: Answer) -> Vec<u8>
-        ensures heard { answer ≡ Answer.Nothing → HeardIs result.items self.old
-            (silent (in_phase (session_view self.old) model.Ended)) self.new }
-        ensures memory { answer ≡ Answer.Memory → self.new ≡ self.old }
+        ensures { HeardUnless
+            (answer ≡ Answer.Nothing → HeardIs result.items self.old
+            (silent (in_phase (session_view self.old) model.Ended)) self.new)
+            answer self.old self.new }
     {
         if let Answer::Nothing = answer {
             self.enter(Phase::Ended);
         }
-        drop(answer);
-        Vec::new(self.alloc)
+        self.unheard(answer)
     }
 }

@@ -9,17 +9,16 @@ ghost use Rattle.news_terms.specs.Command as commands;
 ghost use Rattle.news_terms.specs.Lines.{Incomplete, next_line};
 ghost use Rattle.nntp_text.specs.Command.{command_view};
 ghost use Rattle.nntp_text.specs.Reply.{reply_room, reply_view, room_of};
-ghost use Rattle.relay_model.specs.Asks.{feed_of, is_full, without_offer};
-ghost use Rattle.relay_model.specs.Hears.{offer_heard, says};
+ghost use Rattle.relay_model.specs.Asks.{feed_of, is_full};
+ghost use Rattle.relay_model.specs.Hears.{offer_heard};
 ghost use Rattle.relay_model.specs.State as model;
-ghost use Rattle.relay_model.specs.State.{with_offers};
 ghost use Rattle.relay_model.specs.Terms.{FeedTerms, last_moment};
 ghost use Rattle.stream_cut.specs.Stream.{ShowsLine};
 ghost use Rattle.peer_session.specs.Asking.{IsAskedBy, IsFetching, IsLeaving, IsLooking};
 ghost use Rattle.peer_session.specs.Asking.{IsOffering, IsSaying};
-ghost use Rattle.peer_session.specs.Hearing.{HeardIs};
+ghost use Rattle.peer_session.specs.Hearing.{HeardIs, HeardUnless, offer_said, owed_by};
 ghost use Rattle.peer_session.specs.Planning.{Plans};
-ghost use Rattle.peer_session.specs.Session.{StandsAsBefore, passed, session_view};
+ghost use Rattle.peer_session.specs.Session.{StandsAsBefore, passed, transfer_view};
 
 use crate::offers::OpenOffers;
 use crate::phase::{Due, Phase, Todo, Transfer};
@@ -51,7 +50,7 @@ impl Session {
         match self.cutter.find_line() {
             FoundLine::Whole(end) => self.due_of_line(config, now, end),
             FoundLine::TooLong => {
-                let (todo, step) = left(self.alloc, &Reply::LineTooLong)?;
+                let (todo, step) = left(self.alloc, Reply::LineTooLong)?;
                 Ok(Due {
                     todo,
                     read: 0,
@@ -86,8 +85,8 @@ impl Session {
     {
         match Command::parse(self.alloc, line) {
             Ok(command) => self.asked(config, now, command),
-            Err(CmdError::Unknown) => said(self.alloc, &Reply::UnknownCommand),
-            Err(CmdError::Syntax) => said(self.alloc, &Reply::SyntaxError),
+            Err(CmdError::Unknown) => said(self.alloc, Reply::UnknownCommand),
+            Err(CmdError::Syntax) => said(self.alloc, Reply::SyntaxError),
             Err(CmdError::Memory) => Err(AllocError),
         }
     }
@@ -110,112 +109,97 @@ impl Session {
             Command::Fetch(part, id) => look_asked(self.alloc, part, id),
             Command::FetchToken(word) => token_asked(self.alloc, word),
             Command::TakeQueue(most) => queue_asked(self.alloc, config, self.peer, most),
-            Command::NeedsGroup => said(self.alloc, &Reply::NoGroup),
-            Command::Quit => left(self.alloc, &Reply::Bye),
-            Command::AskDate => said(self.alloc, &Reply::DateIs(stamp(now))),
-            Command::AskCapabilities => said(self.alloc, &Reply::CapabilityList),
-            Command::AskHelp => said(self.alloc, &Reply::HelpText),
-            Command::ModeStream => said(self.alloc, &Reply::StreamingPermitted),
-            Command::ModeReader => said(self.alloc, &Reply::PostingProhibited),
+            Command::NeedsGroup => said(self.alloc, Reply::NoGroup),
+            Command::Quit => left(self.alloc, Reply::Bye),
+            Command::AskDate => said(self.alloc, Reply::DateIs(stamp(now))),
+            Command::AskCapabilities => said(self.alloc, Reply::CapabilityList),
+            Command::AskHelp => said(self.alloc, Reply::HelpText),
+            Command::ModeStream => said(self.alloc, Reply::StreamingPermitted),
+            Command::ModeReader => said(self.alloc, Reply::PostingProhibited),
         }
     }
 
-    /// The answer to CHECK.
-    pub(crate) fn hear_check(
+    /// The answer to CHECK or IHAVE. After IHAVE the block of the id is owed where the article is
+    /// wanted; after CHECK none is.
+    pub(crate) fn hear_offer(
         &mut self,
         read: usize,
+        transfer: Transfer,
         id: MsgId,
+        owed: Option<MsgId>,
         room: Room,
         answer: Answer,
     ) -> Vec<u8>
-        ensures heard { (told : Offer) → answer ≡ Answer.Offer told
-            → is_full self.old.offers id ≡ false → self.old.phase ≡ Phase.Ready
-            → HeardIs result.items self.old
-            (offer_heard (passed read self.old) model.TakesThis id (offer_view told)) self.new }
-        ensures memory { answer ≡ Answer.Memory → self.new ≡ self.old }
+        ensures { HeardUnless
+            ((told : Offer) → answer ≡ Answer.Offer told
+            → owed ≡ owed_by (transfer_view transfer) id → is_full self.old.offers id ≡ false
+            → self.old.phase ≡ Phase.Ready
+            → HeardIs result.items self.old (offer_heard (passed read self.old)
+            (transfer_view transfer) id (offer_view told)) self.new)
+            answer self.old self.new }
     {
         match answer {
             Answer::Offer(told) => {
                 drop(answer);
                 self.cutter.pass(read);
+                let octets = room.say(offer_reply(transfer, told, &id));
                 match told {
                     Offer::Wanted => {
-                        let octets = room.say(&Reply::SendIt(&id));
                         self.offers.open(id);
+                        if let Transfer::TakesThis = transfer {
+                            drop(owed);
+                            return octets;
+                        }
+                        self.enter(Phase::AwaitsBlock(transfer, owed));
                         octets
                     }
-                    Offer::Later => self.decline(&id, room, &Reply::AskLater(&id)),
-                    Offer::Seen => self.decline(&id, room, &Reply::NotWanted(&id)),
-                }
-            }
-            other => {
-                drop(other);
-                Vec::new(self.alloc)
-            }
-        }
-    }
-
-    /// The answer to IHAVE.
-    pub(crate) fn hear_ihave(
-        &mut self,
-        read: usize,
-        id: MsgId,
-        copy: MsgId,
-        room: Room,
-        answer: Answer,
-    ) -> Vec<u8>
-        ensures heard { (told : Offer) → answer ≡ Answer.Offer told → copy ≡ id
-            → is_full self.old.offers id ≡ false → self.old.phase ≡ Phase.Ready
-            → HeardIs result.items self.old
-            (offer_heard (passed read self.old) model.Has id (offer_view told)) self.new }
-        ensures memory { answer ≡ Answer.Memory → self.new ≡ self.old }
-    {
-        match answer {
-            Answer::Offer(told) => {
-                drop(answer);
-                self.cutter.pass(read);
-                match told {
-                    Offer::Wanted => {
-                        self.offers.open(id);
-                        self.enter(Phase::AwaitsBlock(Transfer::Has, Some(copy)));
-                        room.say(&Reply::IhaveSend)
+                    _ => {
+                        self.offers.close(&id);
+                        drop(owed);
+                        octets
                     }
-                    Offer::Later => self.decline(&id, room, &Reply::IhaveLater),
-                    Offer::Seen => self.decline(&id, room, &Reply::IhaveNotWanted),
                 }
             }
-            other => {
-                drop(other);
-                Vec::new(self.alloc)
-            }
+            _ => self.unheard(answer),
         }
     }
+}
 
-    /// The id isn't sent now: it is no open offer, and this is said.
-    fn decline(&mut self, id: &MsgId, room: Room, reply: &Reply) -> Vec<u8>
-        requires { room_of reply.now ≡ reply_room }
-        ensures { self.old.phase ≡ Phase.Ready → self.old.cutter.dropped ≡ 0
-            → HeardIs result.items self.old (says (with_offers (session_view self.old)
-            (without_offer self.old.offers id.now)) (reply_view reply.now)) self.new }
-    {
-        self.offers.close(id);
-        room.say(reply)
+/// What is said of an id that was offered so.
+fn offer_reply(transfer: Transfer, told: Offer, id: &MsgId) -> Reply<'_>
+    ensures reply { reply_view result
+        ≡ offer_said (transfer_view transfer) id.now (offer_view told) }
+    ensures room { room_of result ≡ reply_room }
+{
+    match told {
+        Offer::Wanted => match transfer {
+            Transfer::TakesThis => Reply::SendIt(id),
+            Transfer::Has => Reply::IhaveSend,
+        },
+        Offer::Later => match transfer {
+            Transfer::TakesThis => Reply::AskLater(id),
+            Transfer::Has => Reply::IhaveLater,
+        },
+        Offer::Seen => match transfer {
+            Transfer::TakesThis => Reply::NotWanted(id),
+            Transfer::Has => Reply::IhaveNotWanted,
+        },
     }
 }
 
 /// These words are said, and nothing is shared.
-pub(crate) fn said(alloc: Global, reply: &Reply) -> Result<(Todo, Step), AllocError>
-    requires { room_of reply.now ≡ reply_room }
-    ensures { IfOk result (IsSaying (reply_view reply.now)) }
+pub(crate) fn said(alloc: Global, reply: Reply<'_>) -> Result<(Todo, Step), AllocError>
+    requires { room_of reply ≡ reply_room }
+    ensures { IfOk result (IsSaying (reply_view reply.entry)) }
 {
     let octets = Room::for_items(alloc, 0)?.say(reply);
     Ok((Todo::Say(octets), Step::Nothing))
 }
 
 /// These words are said, and the session leaves.
-fn left(alloc: Global, reply: &Reply) -> Result<(Todo, Step), AllocError>
-    requires { room_of reply.now ≡ reply_room }
-    ensures { IfOk result (IsLeaving (reply_view reply.now)) }
+fn left(alloc: Global, reply: Reply<'_>) -> Result<(Todo, Step), AllocError>
+    requires { room_of reply ≡ reply_room }
+    ensures { IfOk result (IsLeaving (reply_view reply.entry)) }
 {
     let octets = Room::for_items(alloc, 0)?.say(reply);
     Ok((Todo::Leave(octets), Step::Nothing))
@@ -237,7 +221,7 @@ fn check_asked(alloc: Global, offers: &OpenOffers, id: MsgId) -> Result<(Todo, S
     ensures { IfOk result (IsOffering offers.now model.TakesThis id) }
 {
     if offers.is_full(&id) {
-        return said(alloc, &Reply::AskLater(&id));
+        return said(alloc, Reply::AskLater(&id));
     }
     let (room, copy) = room_and_copy(alloc, &id)?;
     Ok((Todo::Check(id, room), Step::Offer(copy)))
@@ -248,7 +232,7 @@ fn ihave_asked(alloc: Global, offers: &OpenOffers, id: MsgId) -> Result<(Todo, S
     ensures { IfOk result (IsOffering offers.now model.Has id) }
 {
     if offers.is_full(&id) {
-        return said(alloc, &Reply::IhaveLater);
+        return said(alloc, Reply::IhaveLater);
     }
     let copy = id.copied(alloc)?;
     let (room, asked) = room_and_copy(alloc, &id)?;
@@ -270,7 +254,7 @@ fn queue_asked(
             let room = Room::for_items(alloc, most)?;
             Ok((Todo::Queue(room), Step::TakeQueue(feed, usize::from(most))))
         }
-        None => said(alloc, &Reply::NoFeed),
+        None => said(alloc, Reply::NoFeed),
     }
 }
 
@@ -297,7 +281,7 @@ fn token_asked(alloc: Global, word: &[u8]) -> Result<(Todo, Step), AllocError>
                 }
             }
         }
-        Err(_) => said(alloc, &Reply::SyntaxError),
+        Err(_) => said(alloc, Reply::SyntaxError),
     }
 }
 

@@ -39,13 +39,13 @@ impl Room {
     }
 
     /// The octets of a reply that shows no article and no queue.
-    pub(crate) fn say(self, reply: &Reply) -> Vec<u8>
-        requires { room_of reply.now ≡ reply_room }
-        ensures octets { IsReply result.items (reply_view reply.now) }
+    pub(crate) fn say(self, reply: Reply<'_>) -> Vec<u8>
+        requires { room_of reply ≡ reply_room }
+        ensures octets { IsReply result.items (reply_view reply.entry) }
         ensures room { vec_capacity result ≡ reply_room + 53 * self }
     {
         let mut octets = self.octets;
-        put_reply(&mut octets, reply);
+        put_reply(&mut octets, &reply);
         octets
     }
 

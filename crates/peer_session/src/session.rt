@@ -9,7 +9,7 @@ ghost use Rattle.relay_model.specs.State.{in_phase};
 ghost use Rattle.relay_model.specs.Terms.{last_moment};
 ghost use Rattle.peer_session.specs.Asking.{IsAwaitingBlock};
 ghost use Rattle.peer_session.specs.Given.{HearsPlanned, HeedsRead};
-ghost use Rattle.peer_session.specs.Hearing.{Forgets, HeardIs, Heeds};
+ghost use Rattle.peer_session.specs.Hearing.{Forgets, HeardIs, HeardUnless, Heeds};
 ghost use Rattle.peer_session.specs.Planning.{DueGiven, HandsOver, Plans, rests};
 ghost use Rattle.peer_session.specs.Said.{IsReply};
 ghost use Rattle.peer_session.specs.Session.{BrokenOff, Fed, IsBounded, NewStands, PlansFree};
@@ -54,10 +54,13 @@ impl Drop for Session {
             peer: _,
             cutter: _,
             offers: _,
-            phase: _,
-            hand: _,
-            planned: _,
+            phase,
+            hand,
+            planned,
         } = self;
+        drop(phase);
+        drop(hand);
+        drop(planned);
     }
 }
 
@@ -215,15 +218,16 @@ impl Session {
     {
         let Planned { todo, read } = planned;
         match todo {
-            Todo::Rest => {
-                drop(answer);
-                Vec::new(self.alloc)
-            }
+            Todo::Rest => self.unheard(answer),
             Todo::Owe(id) => self.hear_owed(read, id, answer),
             Todo::Say(octets) => self.hear_said(read, octets, answer),
             Todo::Leave(octets) => self.hear_left(read, octets, answer),
-            Todo::Check(id, room) => self.hear_check(read, id, room, answer),
-            Todo::Ihave(id, copy, room) => self.hear_ihave(read, id, copy, room, answer),
+            Todo::Check(id, room) => {
+                self.hear_offer(read, Transfer::TakesThis, id, None, room, answer)
+            }
+            Todo::Ihave(id, copy, room) => {
+                self.hear_offer(read, Transfer::Has, id, Some(copy), room, answer)
+            }
             Todo::Look(part, id, room) => self.hear_look(read, part, id, room, answer),
             Todo::Fetch(reading) => self.hear_first(read, reading, answer),
             Todo::ReadOn => self.hear_next(answer),
@@ -233,10 +237,7 @@ impl Session {
                 self.hear_taken(number, read, copy, article, room, answer)
             }
             Todo::TakeHeld(copy) => self.hear_held(number, copy, answer),
-            Todo::Push => {
-                drop(answer);
-                Vec::new(self.alloc)
-            }
+            Todo::Push => self.unheard(answer),
             Todo::Slot => self.hear_slot(answer),
             Todo::Release => self.hear_released(answer),
             Todo::End => self.hear_ended(answer),
@@ -245,25 +246,26 @@ impl Session {
 
     /// Nothing is said, and a block of this id follows.
     fn hear_owed(&mut self, read: usize, id: Option<MsgId>, answer: Answer) -> Vec<u8>
-        ensures heard { answer ≡ answers.Nothing
+        ensures { HeardUnless
+            (answer ≡ answers.Nothing
             → HeardIs result.items self.old (silent (in_phase (passed read self.old)
-            (model.AwaitsBlock model.TakesThis id))) self.new }
-        ensures memory { answer ≡ answers.Memory → self.new ≡ self.old }
+            (model.AwaitsBlock model.TakesThis id))) self.new)
+            answer self.old self.new }
     {
         if let Answer::Nothing = answer {
             self.cutter.pass(read);
             self.enter(Phase::AwaitsBlock(Transfer::TakesThis, id));
         }
-        drop(answer);
-        Vec::new(self.alloc)
+        self.unheard(answer)
     }
 
     /// This is said.
     fn hear_said(&mut self, read: usize, octets: Vec<u8>, answer: Answer) -> Vec<u8>
-        ensures heard { (reply : Reply) → answer ≡ answers.Nothing → IsReply octets.items reply
+        ensures { HeardUnless
+            ((reply : Reply) → answer ≡ answers.Nothing → IsReply octets.items reply
             → HeardIs result.items self.old
-            (says (in_phase (passed read self.old) model.Ready) reply) self.new }
-        ensures memory { answer ≡ answers.Memory → self.new ≡ self.old }
+            (says (in_phase (passed read self.old) model.Ready) reply) self.new)
+            answer self.old self.new }
     {
         match answer {
             Answer::Nothing => {
@@ -272,19 +274,17 @@ impl Session {
                 self.enter(Phase::Ready);
                 octets
             }
-            other => {
-                drop(other);
-                Vec::new(self.alloc)
-            }
+            _ => self.unheard(answer),
         }
     }
 
     /// This is said, and the session leaves.
     fn hear_left(&mut self, read: usize, octets: Vec<u8>, answer: Answer) -> Vec<u8>
-        ensures heard { (reply : Reply) → answer ≡ answers.Nothing → IsReply octets.items reply
+        ensures { HeardUnless
+            ((reply : Reply) → answer ≡ answers.Nothing → IsReply octets.items reply
             → HeardIs result.items self.old
-            (parts (passed read self.old) reply) self.new }
-        ensures memory { answer ≡ answers.Memory → self.new ≡ self.old }
+            (parts (passed read self.old) reply) self.new)
+            answer self.old self.new }
     {
         match answer {
             Answer::Nothing => {
@@ -293,11 +293,16 @@ impl Session {
                 self.enter(Phase::Leaving);
                 octets
             }
-            other => {
-                drop(other);
-                Vec::new(self.alloc)
-            }
+            _ => self.unheard(answer),
         }
+    }
+
+    /// Nothing is said, and the answer is let go.
+    pub(crate) fn unheard(&self, answer: Answer) -> Vec<u8>
+        ensures { result.items ≡ [] }
+    {
+        drop(answer);
+        Vec::new(self.alloc)
     }
 
     /// The job whose push is planned: it is in the session's hand no more. The answer to hear is

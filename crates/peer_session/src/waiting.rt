@@ -8,7 +8,7 @@ ghost use Rattle.relay_model.specs.Hears.{outcome_heard, slot_heard, take_heard}
 ghost use Rattle.relay_model.specs.State as model;
 ghost use Rattle.relay_model.specs.State.{in_phase};
 ghost use Rattle.peer_session.specs.Asking.{IsHeldAsked, IsPushOf, IsWaitingAsked};
-ghost use Rattle.peer_session.specs.Hearing.{HeardIs};
+ghost use Rattle.peer_session.specs.Hearing.{HeardIs, HeardUnless};
 ghost use Rattle.peer_session.specs.Session.{outcome_view, session_view, transfer_view};
 
 use crate::phase::{Due, Phase, Todo, Transfer};
@@ -61,12 +61,13 @@ pub(crate) fn push_due(job: &Job) -> Due
 impl Session {
     /// The answer to a held article.
     pub(crate) fn hear_held(&mut self, number: u64, copy: MsgId, answer: Answer) -> Vec<u8>
-        ensures heard { (article : Accepted) (room : Room) (told : Take) → answer ≡ Answer.Take told
+        ensures { HeardUnless
+            ((article : Accepted) (room : Room) (told : Take) → answer ≡ Answer.Take told
             → self.old.phase ≡ Phase.Holds copy article room → self.old.cutter.dropped ≡ 0
             → HeardIs result.items self.old
             (take_heard number (in_phase (session_view self.old) model.Ready) model.TakesThis copy
-            (article_view article) (take_view told)) self.new }
-        ensures memory { answer ≡ Answer.Memory → self.new ≡ self.old }
+            (article_view article) (take_view told)) self.new)
+            answer self.old self.new }
     {
         match answer {
             Answer::Take(told) => match mem::replace(&mut self.phase, Phase::Ready) {
@@ -83,21 +84,19 @@ impl Session {
                     Vec::new(self.alloc)
                 }
             },
-            other => {
-                drop(other);
-                Vec::new(self.alloc)
-            }
+            _ => self.unheard(answer),
         }
     }
 
     /// What was found in the slot.
     pub(crate) fn hear_slot(&mut self, answer: Answer) -> Vec<u8>
-        ensures heard { (transfer : Transfer) (id : MsgId) (room : Room) (told : Option Outcome)
+        ensures { HeardUnless
+            ((transfer : Transfer) (id : MsgId) (room : Room) (told : Option Outcome)
             → answer ≡ Answer.Slot told → self.old.phase ≡ Phase.Waits transfer id room
             → self.old.cutter.dropped ≡ 0
             → HeardIs result.items self.old (slot_heard (session_view self.old)
-            (transfer_view transfer) id (option_map outcome_view told)) self.new }
-        ensures memory { answer ≡ Answer.Memory → self.new ≡ self.old }
+            (transfer_view transfer) id (option_map outcome_view told)) self.new)
+            answer self.old self.new }
     {
         match answer {
             Answer::Slot(Some(outcome)) => match mem::replace(&mut self.phase, Phase::Ready) {
@@ -107,10 +106,7 @@ impl Session {
                     Vec::new(self.alloc)
                 }
             },
-            other => {
-                drop(other);
-                Vec::new(self.alloc)
-            }
+            _ => self.unheard(answer),
         }
     }
 
@@ -128,15 +124,15 @@ impl Session {
     {
         match transfer {
             Transfer::TakesThis => match outcome {
-                Outcome::Kept => room.say(&Reply::Kept(&id)),
+                Outcome::Kept => room.say(Reply::Kept(&id)),
                 Outcome::Failed => {
                     self.enter(Phase::Leaving);
-                    room.say(&Reply::NotStored)
+                    room.say(Reply::NotStored)
                 }
             },
             Transfer::Has => match outcome {
-                Outcome::Kept => room.say(&Reply::IhaveKept),
-                Outcome::Failed => room.say(&Reply::IhaveLater),
+                Outcome::Kept => room.say(Reply::IhaveKept),
+                Outcome::Failed => room.say(Reply::IhaveLater),
             },
         }
     }

@@ -1,4 +1,4 @@
-use Rattle.std.proofs.Common.{refl, subst, sym}
+use Rattle.std.proofs.Common.{ap, List, ℕ, refl, Some, subst, sym}
 use Rattle.peer_session.specs.Hearing.{Heeds}
 use Rattle.peer_session.specs.declared.phase.Todo.TheVariants as todos
 use Rattle.peer_session.proofs.GivenReads.{given_first, given_on, not_read}
@@ -15,12 +15,12 @@ returns-in-Rest c =
     let had = with_planned c.args.self.now c.args.planned in
     record {
       heard = subst (λ said. Heeds c.args.number had c.args.answer said
-          (with_planned had c.args.self.now.planned)) (sym c.new.ensures.items)
+          (with_planned had c.args.self.now.planned)) (sym c.unheard.ensures)
           (rests c.args.number had c.args.answer c.args.self.now.planned
           c.args.planned.read
           (was_planned had c.args.planned _ refl c.in-Rest.is));
       given = not_read had (with_planned had c.args.self.now.planned) c.args.answer
-          c.new.result.items todos.Rest c.args.planned.read refl
+          c.unheard.result.items todos.Rest c.args.planned.read refl
           (was_planned had c.args.planned _ refl c.in-Rest.is);
     }
 
@@ -29,12 +29,12 @@ returns-in-Push c =
     let had = with_planned c.args.self.now c.args.planned in
     record {
       heard = subst (λ said. Heeds c.args.number had c.args.answer said
-          (with_planned had c.args.self.now.planned)) (sym c.new-in-Push.ensures.items)
+          (with_planned had c.args.self.now.planned)) (sym c.unheard-in-Push.ensures)
           (pushes c.args.number had c.args.answer c.args.self.now.planned
           c.args.planned.read
           (was_planned had c.args.planned _ refl c.in-Push.is));
       given = not_read had (with_planned had c.args.self.now.planned) c.args.answer
-          c.new-in-Push.result.items todos.Push c.args.planned.read refl
+          c.unheard-in-Push.result.items todos.Push c.args.planned.read refl
           (was_planned had c.args.planned _ refl c.in-Push.is);
     }
 
@@ -83,12 +83,12 @@ pub returns-in-Check : goal.returns-in-Check
 returns-in-Check c =
     let had = with_planned c.args.self.now c.args.planned in
     record {
-      heard = checks c.args.number had c.hear_check.new.self c.args.answer
-          c.hear_check.result.items
+      heard = checks c.args.number had c.hear_offer.new.self c.args.answer
+          c.hear_offer.result.items
           c.args.self.now.planned c.args.planned.read c.in-Check.id c.in-Check.room
           (was_planned had c.args.planned _ refl c.in-Check.is)
-          c.hear_check.ensures.heard;
-      given = not_read had c.hear_check.new.self c.args.answer c.hear_check.result.items
+          (λ told is free ready. c.hear_offer.ensures.heard told is refl free ready);
+      given = not_read had c.hear_offer.new.self c.args.answer c.hear_offer.result.items
           (todos.Check c.in-Check.id c.in-Check.room) c.args.planned.read refl
           (was_planned had c.args.planned _ refl c.in-Check.is);
     }
@@ -97,12 +97,15 @@ pub returns-in-Ihave : goal.returns-in-Ihave
 returns-in-Ihave c =
     let had = with_planned c.args.self.now c.args.planned in
     record {
-      heard = offers c.args.number had c.hear_ihave.new.self c.args.answer
-          c.hear_ihave.result.items
+      heard = offers c.args.number had c.hear_offer-in-Ihave.new.self c.args.answer
+          c.hear_offer-in-Ihave.result.items
           c.args.self.now.planned c.args.planned.read c.in-Ihave.id c.in-Ihave.copy c.in-Ihave.room
           (was_planned had c.args.planned _ refl c.in-Ihave.is)
-          c.hear_ihave.ensures.heard;
-      given = not_read had c.hear_ihave.new.self c.args.answer c.hear_ihave.result.items
+          (λ told is same free ready.
+          c.hear_offer-in-Ihave.ensures.heard told is (ap (λ (x : List ℕ). Some x) same) free
+          ready);
+      given = not_read had c.hear_offer-in-Ihave.new.self c.args.answer
+          c.hear_offer-in-Ihave.result.items
           (todos.Ihave c.in-Ihave.id c.in-Ihave.copy c.in-Ihave.room) c.args.planned.read refl
           (was_planned had c.args.planned _ refl c.in-Ihave.is);
     }
@@ -266,11 +269,11 @@ hear_said-requires c = tt
 pub hear_left-requires : goal.hear_left-requires
 hear_left-requires c = tt
 
-pub hear_check-requires : goal.hear_check-requires
-hear_check-requires c = tt
+pub hear_offer-requires : goal.hear_offer-requires
+hear_offer-requires c = tt
 
-pub hear_ihave-requires : goal.hear_ihave-requires
-hear_ihave-requires c = tt
+pub hear_offer-requires-in-Ihave : goal.hear_offer-requires-in-Ihave
+hear_offer-requires-in-Ihave c = tt
 
 pub hear_look-requires : goal.hear_look-requires
 hear_look-requires c = tt

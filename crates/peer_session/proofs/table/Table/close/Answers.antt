@@ -1,7 +1,7 @@
-use Rattle.std.proofs.Common.{◌≡◌, sym, arith, rules, get_or, None, Some}
+use Rattle.std.proofs.Common.{◌≡◌, sym, subst, arith, rules, get_or, None, Some}
 use Rattle.peer_session.specs.Places.{open_ids}
 use Rattle.peer_session.proofs.PlaceLemmas.{one_fewer, still_once, closed_one, closed_nowhere}
-use Rattle.peer_session.proofs.PlaceLemmas.{kept_all}
+use Rattle.peer_session.proofs.PlaceLemmas.{kept_all, none_still}
 use Rattle.peer_session.proofs.table.Table.close.Goals as goal
 
 pub overflow_sub-self : goal.overflow_sub-self
@@ -42,3 +42,8 @@ returns-in_default-clause-closed c =
     sym (kept_all (open_ids c.args.self.now.ids.items) c.args.id.now
     (closed_nowhere c.args.self.now.ids.items c.args.id.now
     (search rules)))
+
+pub first_from-self-requires-clause-before : goal.first_from-self-requires-clause-before
+first_from-self-requires-clause-before c = λ j lt.
+    subst (λ places. get_or places j None ≡ None) (sym c.deref-in-Some.ensures.value)
+    (none_still c.args.self.now.ids.items c.in-Some.spot.place j (c.requires.first.before j lt))
