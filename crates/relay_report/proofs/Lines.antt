@@ -3,9 +3,9 @@ use Rattle.std.proofs.Common.{◌≡◌, ◌∙◌, ◌++◌, ◌∷◌, [], ◌
 use Rattle.std.proofs.Common.{sym, append_assoc, append-nil, codes, flat_map, get_or, length, map}
 use Rattle.std.proofs.Common.{refl, take}
 use Rattle.std.proofs.lemmas.Grind.{flat_map-append}
-use Rattle.std.proofs.lemmas.List.{map_push, take_all, take_more}
+use Rattle.std.proofs.lemmas.List.{map_push, replicate-append-replicate, take_all, take_more}
 use Rattle.std.specs.Prelude.{OnOk, decimal, is_ok, if◌then◌else◌}
-use Rattle.relay_report.specs.Text.{numbers_line, right_in}
+use Rattle.relay_report.specs.Text.{numbers_line, right_in, spaces}
 
 -- what is put behind a column stands with it behind all before
 pub behind : (before column more text all : List ℕ) → text ≡ before ++ column
@@ -69,6 +69,29 @@ plain_line (Ok done) text word with_word all columns has_word is =
     ∙ append_assoc text word (numbers_line columns)
     ∙ ap (λ (more : List ℕ). text ++ more) (numbers_behind word columns)
 plain_line (Err error) text word with_word all columns has_word is = tt
+
+-- a column more stands behind so many
+pub one_column : (before now after : List ℕ) (columns : List (ℕ × ℕ)) (i : ℕ) → i < length columns
+    → now ≡ before ++ flat_map (λ one. right_in one.1 (decimal one.0)) (take i columns)
+    → after ≡ now
+    ++ right_in (get_or columns i (0, 0)).1 (decimal (get_or columns i (0, 0)).0)
+    → after ≡ before ++ flat_map (λ one. right_in one.1 (decimal one.0)) (take (i + 1) columns)
+one_column before now after columns i there so_far is =
+    let f : ℕ × ℕ → List ℕ = λ one. right_in one.1 (decimal one.0) in
+    let past = flat_map f (take i columns) in
+    let column = get_or columns i (0, 0) in
+    is ∙ ap (λ (t : List ℕ). t ++ f column) so_far ∙ append_assoc before past (f column)
+    ∙ ap (λ (t : List ℕ). before ++ (past ++ t)) (sym (append-nil (f column)))
+    ∙ ap (λ (t : List ℕ). before ++ t) (sym (flat_map-append f (take i columns) (column ∷ [])))
+    ∙ ap (λ (some : List (ℕ × ℕ)). before ++ flat_map f some)
+    (sym (take_more columns i (0, 0) there))
+
+-- a space more stands behind so many
+pub one_space : (before now after : List ℕ) (n : ℕ) → now ≡ before ++ spaces n
+    → after ≡ now ++ 32 ∷ [] → after ≡ before ++ spaces (n + 1)
+one_space before now after n so_far is =
+    is ∙ ap (λ (t : List ℕ). t ++ 32 ∷ []) so_far ∙ append_assoc before (spaces n) (32 ∷ [])
+    ∙ ap (λ (t : List ℕ). before ++ t) (replicate-append-replicate n 1 32)
 
 module _ {A B : Type 0} (line : B → List ℕ) (view : A → B) where
   -- the line of one more stands behind those of so many

@@ -48,10 +48,10 @@ fn put_buffer(text: &mut Vec<u8>, buffer: &NamedBuffer) -> Result<(), AllocError
     text.extend_from_slice(b"buffer ")?;
     put_name(text, buffer.name.as_slice(), NAME_PLACES)?;
     let columns = [
-        (u128::from(buffer.figures.cycle), PLACES),
-        (u128::from(buffer.figures.front), WIDE_PLACES),
-        (u128::from(buffer.figures.begun), PLACES),
-        (u128::from(buffer.figures.stored), PLACES),
+        (buffer.figures.cycle as u128, PLACES),
+        (buffer.figures.front as u128, WIDE_PLACES),
+        (buffer.figures.begun as u128, PLACES),
+        (buffer.figures.stored as u128, PLACES),
     ];
     put_numbers(text, &columns)
 }
@@ -74,9 +74,9 @@ fn put_feed(text: &mut Vec<u8>, feed: &NamedFeed) -> Result<(), AllocError>
     text.extend_from_slice(b"feed   ")?;
     put_name(text, feed.peer.as_slice(), NAME_PLACES)?;
     let columns = [
-        (u128::from(feed.figures.waiting), PLACES),
-        (u128::from(feed.figures.gained), WIDE_PLACES),
-        (u128::from(feed.figures.overwritten), PLACES),
+        (feed.figures.waiting as u128, PLACES),
+        (feed.figures.gained as u128, WIDE_PLACES),
+        (feed.figures.overwritten as u128, PLACES),
     ];
     put_numbers(text, &columns)
 }

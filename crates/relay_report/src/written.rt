@@ -25,11 +25,10 @@ pub fn put<W: Write>(writer: &mut W, octets: &[u8]) -> Result<(), Unwritten>
         match writer.write(rest) {
             Ok(0) => return Err(Unwritten),
             Ok(count) => rest = &rest[count..],
-            Err(error) => {
-                if error.kind() != ErrorKind::Interrupted {
-                    return Err(Unwritten);
-                }
-            }
+            Err(error) => match error.kind() {
+                ErrorKind::Interrupted => {}
+                _ => return Err(Unwritten),
+            },
         }
     }
     Err(Unwritten)

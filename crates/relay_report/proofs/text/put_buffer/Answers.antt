@@ -12,5 +12,4 @@ returns c =
     c.put_name.new.text.items c.put_numbers.new.text.items
     ((figures.cycle, 11) ∷ (figures.front, 20) ∷ (figures.begun, 11) ∷ (figures.stored, 11) ∷ [])
     c.in_ok-extend_from_slice.ensures.items (rw c.as_slice.ensures at c.in_ok-put_name.ensures)
-    (rw (c.from.ensures, c.from-2.ensures, c.from-3.ensures, c.from-4.ensures)
-    at c.put_numbers.ensures)
+    c.put_numbers.ensures

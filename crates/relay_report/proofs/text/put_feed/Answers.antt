@@ -12,4 +12,4 @@ returns c =
     c.put_name.new.text.items c.put_numbers.new.text.items
     ((figures.waiting, 11) ∷ (figures.gained, 20) ∷ (figures.overwritten, 11) ∷ [])
     c.in_ok-extend_from_slice.ensures.items (rw c.as_slice.ensures at c.in_ok-put_name.ensures)
-    (rw (c.from.ensures, c.from-2.ensures, c.from-3.ensures) at c.put_numbers.ensures)
+    c.put_numbers.ensures
