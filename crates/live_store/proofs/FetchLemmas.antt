@@ -1,6 +1,6 @@
 -- What a fetch gathers.
 use Rattle.std.proofs.Common.{◌≡◌, refl, sym, ◌∙◌, ap, subst, arith, ℕ, ◌+◌, ◌*◌, ◌<◌, ◌++◌, take}
-use Rattle.std.proofs.Common.{List, [], Option, None, Some, length}
+use Rattle.std.proofs.Common.{List, [], Option, None, Some}
 use Rattle.std.proofs.Math.Seq.{take-add}
 use Rattle.std.proofs.lemmas.List.{take_all}
 use Rattle.std.proofs.lemmas.Option.{same_Some}

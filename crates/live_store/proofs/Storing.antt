@@ -1,5 +1,5 @@
 -- What a writer is told in the end.
-use Rattle.std.proofs.Common.{◌≡◌, ℕ, Bool, List, inl, subst, sym}
+use Rattle.std.proofs.Common.{ℕ, Bool, List, inl, subst, sym}
 use Rattle.live_store.specs.declared.answers.WriteFault.{WriteFault}
 use Rattle.live_store.specs.declared.answers.WriteFault.TheVariants as writes
 use Rattle.live_store.specs.declared.record.StorePremises.{Ghosts}

@@ -25,7 +25,7 @@ use Rattle.live_store.specs.declared.open_write.OpenWrite.{OpenWrite}
 use Rattle.live_store.specs.declared.numbered.NumberedBuffer.{NumberedBuffer}
 use Rattle.live_store.specs.declared.record.StorePremises as store_premises
 use Rattle.live_store.specs.declared.writing.entering.Record.{Record}
-use Rattle.live_store.specs.Tied.{token_in, text_in, number_at, IsNamed, IsSameRecord}
+use Rattle.live_store.specs.Tied.{token_in, text_in, number_at, IsNamed}
 use Rattle.news_terms.specs.BlockImage.{chunk, chunk_size}
 use Rattle.news_terms.specs.Places.{IsGone, size_of, on_line}
 use Rattle.news_terms.specs.Token.{Token}

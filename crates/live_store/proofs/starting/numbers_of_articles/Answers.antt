@@ -18,48 +18,50 @@ enter_articles-requires g c = record {
       c.requires.within;
 }
 
-pub returns-in-Err-clause-reads : goal.returns-in-Err-clause-reads
-returns-in-Err-clause-reads g c =
+pub returns-in-Err : goal.returns-in-Err
+returns-in-Err g c =
     let a = inside c.args.buffer.now in
-    refused_reads a a errors.Memory (merely_none a) tt refl
+    record {
+      numbered = tt;
+      shown = tt;
+      firsts = tt;
+      length = tt;
+      reads = refused_reads a a errors.Memory (merely_none a) tt refl;
+      refused = λ h agrees lists. tt;
+    }
 
-pub returns-in-Err-clause-refused : goal.returns-in-Err-clause-refused
-returns-in-Err-clause-refused g c h agrees lists = tt
+pub returns-in-Ok-enter_articles : goal.returns-in-Ok-enter_articles
+returns-in-Ok-enter_articles g c =
+    let was = c.in-Ok-enter_articles.ensures in
+    record {
+      numbered = λ trusted h agrees lists. all_numbered trusted c.args.register.now h
+          c.args.tokens.now c.enter_articles.new.numbers.items lists
+          (was.numbered trusted h agrees lists);
+      shown = was.shown
+          (none_shown c.args.register.now c.blocks-2.result c.in-Ok.numbers.items c.in-Ok.ensures);
+      firsts = was.firsts;
+      length = was.length
+          ∙ as_many c.blocks-2.result c.in-Ok.numbers.items _ c.in-Ok.ensures
+          (c.blocks-2.ensures.store
+          ∙ ap (λ b. length (g.S.BlockStore.blocks (store_of b))) c.buffer.ensures);
+      reads = record {
+        read = was.reads.read;
+        fault = tt;
+        failed = tt;
+        no_failure = was.reads.no_failure;
+      };
+      refused = λ h agrees lists. tt;
+    }
 
-pub returns-in-Ok-enter_articles-clause-numbered : goal.returns-in-Ok-enter_articles-clause-numbered
-returns-in-Ok-enter_articles-clause-numbered g c trusted h agrees lists =
-    all_numbered trusted c.args.register.now h c.args.tokens.now
-    c.enter_articles.new.numbers.items lists
-    (c.in-Ok-enter_articles.ensures.numbered trusted h agrees lists)
-
-pub returns-in-Ok-enter_articles-clause-shown : goal.returns-in-Ok-enter_articles-clause-shown
-returns-in-Ok-enter_articles-clause-shown g c =
-    c.in-Ok-enter_articles.ensures.shown
-    (none_shown c.args.register.now c.blocks-2.result c.in-Ok.numbers.items c.in-Ok.ensures)
-
-pub returns-in-Ok-enter_articles-clause-firsts : goal.returns-in-Ok-enter_articles-clause-firsts
-returns-in-Ok-enter_articles-clause-firsts g c = c.in-Ok-enter_articles.ensures.firsts
-
-pub returns-in-Ok-enter_articles-clause-length : goal.returns-in-Ok-enter_articles-clause-length
-returns-in-Ok-enter_articles-clause-length g c =
-    c.in-Ok-enter_articles.ensures.length
-    ∙ as_many c.blocks-2.result c.in-Ok.numbers.items _ c.in-Ok.ensures
-    (c.blocks-2.ensures.store
-    ∙ ap (λ b. length (g.S.BlockStore.blocks (store_of b))) c.buffer.ensures)
-
-pub returns-in-Ok-enter_articles-clause-reads : goal.returns-in-Ok-enter_articles-clause-reads
-returns-in-Ok-enter_articles-clause-reads g c =
-    let was = c.in-Ok-enter_articles.ensures.reads in
-    record { read = was.read; fault = tt; failed = tt; no_failure = was.no_failure }
-
-pub returns-in-Ok-enter_articles-clause-refused : goal.returns-in-Ok-enter_articles-clause-refused
-returns-in-Ok-enter_articles-clause-refused g c h agrees lists = tt
-
-pub returns-in-Err-enter_articles-clause-refused : goal.returns-in-Err-enter_articles-clause-refused
-returns-in-Err-enter_articles-clause-refused g c = c.in-Err-enter_articles.ensures.refused
-
-pub returns-in-Err-enter_articles-clause-reads : goal.returns-in-Err-enter_articles-clause-reads
-returns-in-Err-enter_articles-clause-reads g c =
-    let was = c.in-Err-enter_articles.ensures.reads in
-    refused_reads (inside c.args.buffer.now) (inside c.enter_articles.new.buffer)
-    c.in-Err-enter_articles.error was.read was.fault was.failed
+pub returns-in-Err-enter_articles : goal.returns-in-Err-enter_articles
+returns-in-Err-enter_articles g c =
+    let was = c.in-Err-enter_articles.ensures in
+    record {
+      numbered = tt;
+      shown = tt;
+      firsts = tt;
+      length = tt;
+      reads = refused_reads (inside c.args.buffer.now) (inside c.enter_articles.new.buffer)
+          c.in-Err-enter_articles.error was.reads.read was.reads.fault was.reads.failed;
+      refused = was.refused;
+    }

@@ -1,9 +1,49 @@
-use Rattle.std.proofs.Common.{◌∙◌, ap, inr, length, subst}
+use Rattle.std.proofs.Common.{◌≡◌, ◌∙◌, ap, inr, length, subst, sym}
+use Rattle.boxcar.specs.Table.{Shelves, Shows, Where}
+use Rattle.live_store.specs.Handles.{shown_of}
 use Rattle.live_store.specs.Stores.{IsStored}
 use Rattle.live_store.specs.Tied.{fresh_in, text_in, token_in}
 use Rattle.live_store.specs.declared.answers.WriteFault.TheVariants as writes
+use Rattle.live_store.specs.declared.steps.entered.Entered.{Entered}
+use Rattle.live_store.specs.declared.writing.entering.Record.{Record}
 use Rattle.live_store.proofs.Storing.{given_up, none_begun}
 use Rattle.live_store.proofs.writing.store.Goals as goal
+
+-- what was entered in the register is shown by that of the premises
+shown_here : (register premised : Shelves) (shown : Where Record) → register ≡ premised
+    → Shows register shown → Shows premised shown
+shown_here register premised shown same shows = subst (λ (r : Shelves). Shows r shown) same shows
+
+pub write_all-requires : goal.write_all-requires
+write_all-requires g c = record {
+  register = c.requires.register;
+  shown = shown_here _ _ c.enter-entered.result.shown c.requires.register
+      c.enter-entered.ensures.shown;
+  text = c.deref-2.ensures.value ∙ sym c.enter-entered.ensures.text;
+}
+
+pub finish-finished-requires : goal.finish-finished-requires
+finish-finished-requires g c = record {
+  register = c.requires.register;
+  shown = shown_here _ _ c.enter-entered.result.shown c.requires.register
+      c.enter-entered.ensures.shown;
+}
+
+pub give_up-requires : goal.give_up-requires
+give_up-requires g c = record {
+  register = c.requires.register;
+  shown = shown_here _ _ c.enter-entered.result.shown c.requires.register
+      c.enter-entered.ensures.shown;
+}
+
+pub give_up-requires-in-Err-finished : goal.give_up-requires-in-Err-finished
+give_up-requires-in-Err-finished g c = record {
+  register = c.requires.register;
+  shown = subst (λ (e : Entered). Shows g.J.StorePremises.register (shown_of e))
+      (sym c.in-Err-finished.ensures.back)
+      (shown_here _ _ c.enter-entered.result.shown c.requires.register
+      c.enter-entered.ensures.shown);
+}
 
 -- a worn buffer's fault is one of the storing of the text
 pub returns-in-Ok-refused-clause-stored : goal.returns-in-Ok-refused-clause-stored

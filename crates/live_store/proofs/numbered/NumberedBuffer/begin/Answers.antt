@@ -1,8 +1,10 @@
-use Rattle.std.proofs.Common.{sym, ◌∙◌, ap, subst, Some, true≢false}
+use Rattle.std.proofs.Common.{sym, ◌∙◌, ap, refl, subst, Some, true≢false}
 use Rattle.std.proofs.Math.Logic.{∥∥₁_map, ∥∥₁_elim}
 use Rattle.cyc_buffer.specs.Head.{is_busy}
 use Rattle.cyc_buffer.specs.Remembered.{place_of}
 use Rattle.cyc_token.specs.Token.{token_view}
+use Rattle.std.specs.Prelude.{IsSomeAnd}
+use Rattle.live_store.specs.Steps.{IsBegunAs}
 use Rattle.live_store.specs.Tied.{Tied}
 use Rattle.live_store.proofs.TiedLemmas.{tied_begin, tied_kept, busy_open_write}
 use Rattle.live_store.proofs.OpenLemmas.{begin_fault}
@@ -16,9 +18,25 @@ invariant_of-self g c = record {
       c.args.self.now.open_write t c.in-Err.ensures.refused c.in-Err.ensures.store);
 }
 
-pub returns-in-Err-clause-fault : goal.returns-in-Err-clause-fault
-returns-in-Err-clause-fault g c = begin_fault (place_of c.args.self.now.buffer)
-    (is_busy c.args.self.now.buffer) c.args.length c.in-Err.error c.in-Err.ensures.fault
+pub returns-in-Err : goal.returns-in-Err
+returns-in-Err g c =
+    let was = c.in-Err.ensures in
+    record {
+      refusal = was.refusal;
+      refused = was.refused;
+      begun = tt;
+      token = tt;
+      length = tt;
+      class = tt;
+      fresh = tt;
+      fault = begin_fault (place_of c.args.self.now.buffer) (is_busy c.args.self.now.buffer)
+          c.args.length c.in-Err.error was.fault;
+      free = tt;
+      open_write = tt;
+      kept = refl;
+      numbers = refl;
+      store = was.store;
+    }
 
 pub invariant_of-self-2 : goal.invariant_of-self-2
 invariant_of-self-2 g c = record {
@@ -41,11 +59,28 @@ unreachable-requires g c = ∥∥₁_elim c.args.self.now.tied (λ x y. absurd x
     c.args.self.now.numbers.items) (sym c.replace.ensures.value ∙ c.in-Some.is) t))
     ∙ c.in-Ok.ensures.idle))
 
-pub returns-clause-token : goal.returns-clause-token
-returns-clause-token g c = λ trusted h agrees.
-    ap (λ t. Some (token_view t)) (c.new.ensures.token ∙ c.token-token.ensures)
-    ∙ c.in-Ok.ensures.token trusted h agrees
-
-pub returns-clause-class : goal.returns-clause-class
-returns-clause-class g c = ap (λ t. t.class) (c.new.ensures.token ∙ c.token-token.ensures)
-    ∙ c.in-Ok.ensures.class
+pub returns : goal.returns
+returns g c =
+    let was = c.in-Ok.ensures in
+    let token = c.new.ensures.token ∙ c.token-token.ensures in
+    record {
+      refusal = was.refusal;
+      refused = tt;
+      begun = was.begun;
+      token = λ trusted h agrees. ap (λ t. Some (token_view t)) token ∙ was.token trusted h agrees;
+      length = ap (λ t. t.length) token ∙ was.length;
+      class = ap (λ t. t.class) token ∙ was.class;
+      fresh = c.new.ensures.fresh;
+      fault = tt;
+      free = sym c.replace.ensures.value ∙ c.in-None.is;
+      open_write = subst (λ o. IsSomeAnd o (IsBegunAs c.new.result.token))
+          (sym c.replace.ensures.after) (record {
+            named = sym token;
+            unnumbered = refl;
+            none_written = refl;
+            unbroken = refl;
+          });
+      kept = tt;
+      numbers = refl;
+      store = was.store;
+    }

@@ -1,5 +1,7 @@
-use Rattle.std.proofs.Common.{sym, ◌∙◌, ap, subst, arith, Some, None, set}
-use Rattle.std.specs.Prelude.{IfSome}
+use Rattle.std.proofs.Common.{sym, ◌∙◌, ap, refl, subst, arith, Some, None, set}
+use Rattle.std.specs.Prelude.{IfSome, IsSomeAnd}
+use Rattle.std.proofs.lemmas.Bool.{false≢true}
+use Rattle.cyc_token.specs.declared.Token as codes
 use Rattle.boxcar.specs.Table.{Shows, Where}
 use Rattle.live_store.specs.declared.writing.entering.Record.{Record}
 use Rattle.live_store.specs.Tied.{Tied}
@@ -84,8 +86,23 @@ invariant_of-result g c =
           c.args.self.now.numbers.items tied c.args.entered.shown can.unbroken can.named));
     }
 
-pub returns-clause-finished : goal.returns-clause-finished
-returns-clause-finished g c =
+pub returns-then-not-can_finish : goal.returns-then-not-can_finish
+returns-then-not-can_finish g c = record {
+  named = tt;
+  finished = tt;
+  own = tt;
+  closed = tt;
+  numbers = tt;
+  conflict = λ can. false≢true (sym c.if-not-can_finish.true ∙ c.can_finish.ensures.1
+      (subst (λ o. IsSomeAnd o (λ b. CanFinishFor b c.args.entered.shown)) c.in-Some.is can));
+  refused = refl;
+  back = refl;
+  store = refl;
+}
+
+pub returns : goal.returns
+returns g c =
+    let items = c.args.self.now.numbers.items in
     let field = c.in-Some-take.field-0 in
     let tied = subst (λ b. ∥ Tied g.J.StorePremises.trusted g.J.StorePremises.register
     c.args.self.now.buffer b c.args.self.now.numbers.items ∥₁)
@@ -93,7 +110,22 @@ returns-clause-finished g c =
     let can = subst (λ b. CanFinishFor b c.args.entered.shown)
     (the_same c.args.self.now.open_write c.take.result c.in-Some.open_write field c.in-Some.is
     c.take.ensures.value c.in-Some-take.is) (c.can_finish.ensures.0 c.if-not-can_finish.false) in
-    let follows = c.finish-token.ensures.finished
-    (can_finish g.J.StorePremises.register g.J.StorePremises.trusted c.args.self.now.buffer field
-    c.args.self.now.numbers.items tied c.args.entered.shown can) in
-    follows
+    record {
+      named = refl;
+      finished = c.finish-token.ensures.finished
+          (can_finish g.J.StorePremises.register g.J.StorePremises.trusted c.args.self.now.buffer
+          field items tied c.args.entered.shown can);
+      own = subst (λ o. IsSomeAnd o (λ b. CanFinishFor b c.args.entered.shown)) (sym c.in-Some.is)
+          (c.can_finish.ensures.0 c.if-not-can_finish.false);
+      closed = c.take.ensures.after;
+      numbers = ap (λ (w : Where Record). set items c.finish-token.result.first (Some w))
+          c.again.ensures
+          ∙ ap (λ (t : codes.Token). set items t.first (Some c.args.entered.shown))
+          (c.finish-token.ensures.handle ∙ same_token
+          (named_token g.J.StorePremises.register g.J.StorePremises.trusted c.args.self.now.buffer
+          field items tied c.args.entered.shown can.unbroken can.named));
+      conflict = tt;
+      refused = tt;
+      back = tt;
+      store = c.finish-token.ensures.store;
+    }

@@ -1,4 +1,4 @@
-use Rattle.std.proofs.Common.{◌∙◌, ap, None, replicate}
+use Rattle.std.proofs.Common.{◌∙◌, ap, refl, None, replicate}
 use Rattle.live_store.proofs.TiedLemmas.{tied_new}
 use Rattle.live_store.proofs.numbered.NumberedBuffer.format.Goals as goal
 
@@ -11,3 +11,38 @@ invariant_of-result g c = record {
       c.in-Ok-format.ensures.blocks.count
       (c.in-Ok.ensures ∙ ap (λ n. replicate n None) c.count.ensures.blocks) ∣₁;
 }
+
+pub returns-in-Err : goal.returns-in-Err
+returns-in-Err g c = record {
+  new = tt;
+  free = tt;
+  numbers = tt;
+  blocks = tt;
+  calls = tt;
+  failures = tt;
+  refusal = refl;
+}
+
+pub returns-in-Err-format : goal.returns-in-Err-format
+returns-in-Err-format g c = record {
+  new = tt;
+  free = tt;
+  numbers = tt;
+  blocks = tt;
+  calls = tt;
+  failures = tt;
+  refusal = c.in-Err-format.ensures.refusal;
+}
+
+pub returns : goal.returns
+returns g c =
+    let was = c.in-Ok-format.ensures in
+    record {
+      new = was.new;
+      free = refl;
+      numbers = c.in-Ok.ensures ∙ ap (λ n. replicate n None) c.count.ensures.blocks;
+      blocks = was.blocks;
+      calls = was.calls;
+      failures = was.failures;
+      refusal = tt;
+    }

@@ -1,4 +1,4 @@
-use Rattle.std.proofs.Common.{◌≡◌, ◌∙◌, sym, ap, arith}
+use Rattle.std.proofs.Common.{◌≡◌, ◌∙◌, ap, arith}
 use Rattle.boxcar.specs.Table.{first}
 use Rattle.live_store.specs.Places.{bucket_of, span}
 use Rattle.live_store.proofs.Spans.{bucket_few, tag_is}

@@ -1,8 +1,8 @@
 use Rattle.std.proofs.Common.{◌∙◌, ◌<◌, ap, arith, subst, length, slice_index_or}
 use Rattle.std.proofs.Common.{Bool, true, Some}
 use Rattle.std.proofs.lemmas.List.{length-set}
+use Rattle.std.specs.Prelude.{IfErr}
 use Rattle.news_terms.specs.ArticleTexts.{IsArticle}
-use Rattle.cyc_buffer.proofs.Refusals.{passed_on}
 use Rattle.cyc_buffer.specs.Agreement.{Agrees}
 use Rattle.cyc_buffer.specs.Head.{inside}
 use Rattle.cyc_token.specs.declared.Token as codes
@@ -36,7 +36,7 @@ returns-in_err-shown-clause-refused g c h agrees lists =
     let n = c.loop-token.token-index in
     let live = live_at h items n none_token c.loop-token-test.true lists in
     let token = slice_index_or items n none_token in
-    passed_on (IsUnentered (AreArticles h)) _ _ c.from_residual.ensures
+    refused_as (λ r. IfErr r (IsUnentered (AreArticles h))) _ _ c.from_residual.ensures
     (unentered_by ∥ IsArticle live.article.text ∥₁ (AreArticles h) c.in_err-shown.field-0.0
     (λ all. all token.cycle token.first live.article
     (record { finished = live.finished; live = live.live }))
