@@ -4,7 +4,8 @@ use Rattle.std.proofs.Common.{Some, refl, sym, ap, subst, ◌∙◌, take, drop,
 use Rattle.std.proofs.Common.{◌==◌, ⊎_elim, inl}
 use Rattle.std.specs.Global.{Vec}
 use Rattle.std.specs.Prelude.{is_some, unwrap_or, vec_len}
-use Rattle.std.proofs.lemmas.List.{append-nil, append_assoc, take-append-drop}
+use Rattle.std.proofs.lemmas.Bool.{eqb-true}
+use Rattle.std.proofs.lemmas.List.{append-nil, append_assoc, nil_from_length, take-append-drop}
 use Rattle.std.proofs.lemmas.Option.{none-some}
 use Rattle.live_session.specs.Carried.{Carried, Carries, CarriesOn, CarriesSame, EndsAs, HeardAs}
 use Rattle.live_session.specs.Carried.{Lasts, LastsOrHeld, Refusal, WrittenAs, finish_of, is_break}
@@ -191,6 +192,11 @@ stopped c finish breaks none came replies parted carries =
 pub some_of : (v : Vec ℕ) (empty : Bool) → empty ≡ (vec_len v == 0) → empty ≡ false → v.items ≢ []
 some_of v empty is none nil =
     cc (sym none ∙ is ∙ ap (λ n. n == 0) (v.ok.0 ∙ ap length nil))
+
+-- and one that is has none
+pub none_of : (v : Vec ℕ) (empty : Bool) → empty ≡ (vec_len v == 0) → empty ≡ true → v.items ≡ []
+none_of v empty is nothing =
+    nil_from_length v.items (sym v.ok.0 ∙ eqb-true (vec_len v) 0 (sym is ∙ nothing))
 
 -- a connection that was stopped for its turns is over for them where it had ended by nothing else
 pub spent_by : (last stopped : Option Finish)

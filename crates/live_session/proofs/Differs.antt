@@ -27,3 +27,9 @@ memory-held is = cc
 
 pub held-spent : finishes.Held ≢ finishes.TurnsSpent
 held-spent is = cc
+
+pub broken-spent : finishes.Broken ≢ finishes.TurnsSpent
+broken-spent is = cc
+
+pub broken-held : finishes.Broken ≢ finishes.Held
+broken-held is = cc

@@ -1,5 +1,5 @@
 use Rattle.std.proofs.Common.{◌∙◌, [], ap, false, subst, sym}
-use Rattle.live_session.proofs.Carrying.{parted_on, some_of}
+use Rattle.live_session.proofs.Carrying.{none_of, parted_on, said_nothing, some_of}
 use Rattle.live_session.proofs.wire.put.Goals as goal
 use Rattle.live_session.specs.Carried.{CarriesOn, carried, part_finish}
 
@@ -26,3 +26,11 @@ returns-clause-on g c =
     subst (CarriesOn (carried (g.H.Hears.heard wire.reader) (g.W.Says.said wire.writer) wire.outbox
     wire.finish) (carried (g.H.Hears.heard after.reader) (g.W.Says.said after.writer) after.outbox
     after.finish) [] c.args.said.items) (sym c.if-leaves.false) c.append-2.ensures.on
+
+pub returns-then-is_empty-clause-on : goal.returns-then-is_empty-clause-on
+returns-then-is_empty-clause-on g c =
+    let wire = c.args.wire.now in
+    said_nothing
+    (carried (g.H.Hears.heard wire.reader) (g.W.Says.said wire.writer) wire.outbox wire.finish)
+    c.args.leaves c.args.said.items
+    (none_of c.args.said c.is_empty.result c.is_empty.ensures c.if-is_empty.true)
