@@ -7,6 +7,7 @@ mod Fills
 mod Kept
 mod Lists
 mod OpenedBuffers
+mod Parts
 mod Rest
 mod Shuts
 mod StartedBuffers

@@ -1,9 +1,10 @@
 -- The heads of started buffers are opened, one after the other; how far they are filled.
 use Rattle.std.proofs.Common.{◌≡◌, ◌∙◌, ℕ, ◌<◌, true, arith, sym, ap, subst, List, [], ◌∷◌}
-use Rattle.std.proofs.Common.{◌++◌, length, map, None, option_map}
+use Rattle.std.proofs.Common.{◌++◌, append-nil, append_assoc, length, map, None, option_map, refl}
 use Rattle.std.proofs.lemmas.List.{length-append, length-map, map_push}
 use Rattle.std.proofs.lemmas.Option.{none-some, slice_get-map}
 use Rattle.std.proofs.lemmas.Simd.{map-map}
+use Rattle.block_shelf.proofs.EachLemmas.{none_left, one_more_each, one_through}
 use Rattle.block_shelf.proofs.Opens.{behind_failed, first_failed}
 use Rattle.block_shelf.specs.Each.{AreEach}
 use Rattle.block_shelf.specs.Heads as heads
@@ -22,7 +23,7 @@ use Rattle.live_store.specs.declared.unopened.UnopenedNumbered.{UnopenedNumbered
 use Rattle.news_terms.proofs.ListPlaces.{mapped_at}
 use Rattle.relay_live.proofs.Each.{both_mapped, each_joined, first_unmapped}
 use Rattle.relay_live.specs.Starting.{AreStarted, IsHeadFailed, IsLeftUnopened, IsOpenedFrom}
-use Rattle.relay_live.specs.Starting.{IsStartedOver, IsUnopened}
+use Rattle.relay_live.specs.Starting.{IsStartedOver, IsUnopened, stores_of}
 use Rattle.relay_model.specs.State.{Kept}
 use Rattle.relay_model.specs.Terms.{Terms}
 
@@ -82,6 +83,79 @@ module _ {S J : Type 0} {s : blocks.Ghosts S} {j : store_premises.Ghosts J}
       (both_mapped IsOpenedFrom heads.IsOpenedFrom unopened_in buffer_of before buffers had
       (λ b x y there opened. opened.buffer))
       none (is ∙ sym (length-map buffers buffer_of)) fails))
+
+-- the heads that are open so far, of the buffers that were gone through
+pub record OpenSoFar {S J : Type 0} {s : blocks.Ghosts S} {j : store_premises.Ghosts J}
+    (all left : List (UnopenedNumbered S J s j)) (opened : List (NumberedBuffer S J s j))
+    : Type 0 where
+  pub gone : List (UnopenedNumbered S J s j)
+  pub all_is : gone ++ left ≡ all
+  pub are : AreEach IsOpenedFrom gone opened
+
+module _ {S J : Type 0} {s : blocks.Ghosts S} {j : store_premises.Ghosts J}
+    (all : List (UnopenedNumbered S J s j)) where
+  -- all are, where no buffer is left
+  pub opened_all : (left : List (UnopenedNumbered S J s j)) (opened : List (NumberedBuffer S J s j))
+      → OpenSoFar all left opened → length left ≡ 0 → AreEach IsOpenedFrom all opened
+  opened_all left opened had none =
+      subst (λ buffers. AreEach IsOpenedFrom buffers opened)
+      (none_left had.gone left had.all_is none) had.are
+
+  -- the buffers behind one whose device failed give their stores
+  rest_behind : (place : ℕ) (rest before : List (UnopenedNumbered S J s j)) (stores : List S)
+      → (place < length before)
+      × AreEach (heads.IsLeftUnopened place) (map unopened_in before) stores
+      → (place < length (before ++ rest))
+      × AreEach (heads.IsLeftUnopened place) (map unopened_in (before ++ rest))
+      (stores ++ stores_of rest)
+  rest_behind place [] before stores had =
+      subst (λ (x : List (UnopenedNumbered S J s j) × List S). (place < length x.0)
+      × AreEach (heads.IsLeftUnopened place) (map unopened_in x.0) x.1)
+      (λ i. (sym (append-nil before) i, sym (append-nil stores) i)) had
+  rest_behind place (one ∷ rest) before stores had =
+      subst (λ (x : List (UnopenedNumbered S J s j) × List S). (place < length x.0)
+      × AreEach (heads.IsLeftUnopened place) (map unopened_in x.0) x.1)
+      (λ i. (
+        append_assoc before (one ∷ []) rest i,
+        append_assoc stores (store_of (inside (unopened_in one)) ∷ []) (stores_of rest) i,
+      ))
+      (rest_behind place rest (before ++ one ∷ [])
+      (stores ++ store_of (inside (unopened_in one)) ∷ [])
+      (failed_behind before one place stores had))
+
+  module _ (left : List (UnopenedNumbered S J s j)) (opened : List (NumberedBuffer S J s j))
+      (had : OpenSoFar all left opened) (one : UnopenedNumbered S J s j)
+      (more : List (UnopenedNumbered S J s j)) (next : left ≡ one ∷ more) where
+    -- one more is open
+    pub opened_more : (buffer : NumberedBuffer S J s j) → ((b : ℕ) → IsOpenedFrom b one buffer)
+        → OpenSoFar all more (opened ++ buffer ∷ [])
+    opened_more buffer is = record {
+      gone = had.gone ++ one ∷ [];
+      all_is = one_through had.gone left all one more had.all_is next;
+      are = one_more_each IsOpenedFrom had.gone opened one buffer had.are (is (length had.gone));
+    }
+
+    -- or its device fails, and the buffers behind it give their stores
+    pub failed_here : (place : ℕ) (refused : UnopenedNumbered S J s j) (back : List S)
+        → place ≡ length opened
+        → s.failures (store_of (inside (unopened_in one)))
+        < s.failures (store_of (inside (unopened_in refused)))
+        → back ≡ (map (λ (each : NumberedBuffer S J s j). store_of (buffer_of each)) opened
+        ++ store_of (inside (unopened_in refused)) ∷ []) ++ stores_of more
+        → (place < length all)
+        × AreEach (heads.IsLeftUnopened place) (map unopened_in all) back
+    failed_here place refused back at fails made =
+        subst (λ stores. (place < length all)
+        × AreEach (heads.IsLeftUnopened place) (map unopened_in all) stores) (sym made)
+        (subst (λ buffers. (place < length buffers)
+        × AreEach (heads.IsLeftUnopened place) (map unopened_in buffers)
+        ((map (λ (each : NumberedBuffer S J s j). store_of (buffer_of each)) opened
+        ++ store_of (inside (unopened_in refused)) ∷ []) ++ stores_of more))
+        (one_through had.gone left all one more had.all_is next)
+        (rest_behind place more (had.gone ++ one ∷ [])
+        (map (λ (each : NumberedBuffer S J s j). store_of (buffer_of each)) opened
+        ++ store_of (inside (unopened_in refused)) ∷ [])
+        (failed_first had.gone one opened [] place refused had.are refl at fails)))
 
 -- where a head isn't opened, the stores are left so
 pub not_opened : {S J : Type 0} {s : blocks.Ghosts S} {j : store_premises.Ghosts J}

@@ -1,10 +1,12 @@
 -- The buffers of a relay are started, one after the other.
-use Rattle.std.proofs.Common.{◌≡◌, ◌∙◌, ℕ, arith, refl, sym, ap, subst}
+use Rattle.std.proofs.Common.{◌≡◌, ◌∙◌, ℕ, append-nil, append_assoc, arith, refl, sym, ap, subst}
 use Rattle.std.proofs.Common.{List, [], ◌∷◌, ◌++◌, length, map, Option, None, Some, slice_get}
-use Rattle.std.proofs.Common.{option_map, true}
+use Rattle.std.proofs.Common.{option_map}
 use Rattle.std.proofs.lemmas.List.{length-map, map_push}
 use Rattle.std.proofs.lemmas.Option.{none-some, slice_get-map, slice_get_within}
-use Rattle.block_shelf.proofs.EachLemmas.{comes_from, each_mapped, one_more_each}
+use Rattle.block_shelf.proofs.EachLemmas.{comes_from, each_mapped, none_each, none_left}
+use Rattle.block_shelf.proofs.EachLemmas.{one_more_each}
+use Rattle.block_shelf.proofs.EachLemmas.{one_through}
 use Rattle.block_shelf.proofs.NewBufferSet.{pushed_before, pushed_last}
 use Rattle.block_shelf.proofs.Starts.{blamed_here, blamed_nowhere, buffer_is, failed_there}
 use Rattle.block_shelf.proofs.Starts.{other_more, still_earlier, untouched_store}
@@ -23,17 +25,15 @@ use Rattle.cyc_buffer.specs.Stopped.{HoldsStopped}
 use Rattle.cyc_buffer.specs.declared.answers.StartError.{StartError}
 use Rattle.cyc_buffer.specs.declared.answers.StartError.TheVariants as errors
 use Rattle.cyc_buffer.specs.declared.unopened.Unopened.{Unopened}
-use Rattle.live_store.specs.Started.{AreArticles, IsRefusedFor, IsUnentered, WasStopped}
+use Rattle.live_store.specs.Started.{AreArticles, IsRefusedFor, IsUnentered}
 use Rattle.live_store.specs.Started.{unopened_in}
 use Rattle.live_store.specs.declared.record.StorePremises as store_premises
 use Rattle.live_store.specs.declared.unopened.UnopenedNumbered.{UnopenedNumbered}
 use Rattle.relay_conf.specs.declared.cycbuff.BufferConf.{BufferConf}
 use Rattle.relay_conf.specs.declared.settings.Buffers.{Buffers}
 use Rattle.relay_live.specs.Starting.{AllStart, AreStarted, IsRefusedAt, IsStartedOver}
-use Rattle.relay_live.specs.Starting.{HasTried, IsNextStopped, IsTriedRefusal, IsUnstartedBy}
+use Rattle.relay_live.specs.Starting.{IsTriedRefusal, IsUnstartedBy}
 use Rattle.relay_live.specs.Starting.{stores_of}
-use Rattle.relay_live.specs.declared.started.Starting.{Starting}
-use Rattle.relay_live.specs.declared.started.Starting.TheVariants as states
 use Rattle.relay_model.specs.State.{Kept}
 use Rattle.relay_model.specs.Terms.{Terms}
 
@@ -152,13 +152,20 @@ module _ {S : Type 0} (s : blocks.Ghosts S) (before : List S) (store : S) where
         });
   }
 
--- a refusal, where the stores that come back are these
-pub told_refused : {S : Type 0} (s : blocks.Ghosts S) (before stores new : List S)
-    (number : Option ℕ) (fault : StopFault) (start : StartError) → fault ≡ fault_of_start start
-    → (why : IsRefusedAt s before start stores) → number ≡ number_told start why.place
-    → new ≡ stores → IsTriedRefusal s before fault number new
-told_refused s before stores new number fault start is why told made =
-    subst (IsTriedRefusal s before fault number) (sym made) (start, is, (why, told))
+-- so it stands with the stores behind that one
+pub rest_refused : {S : Type 0} (s : blocks.Ghosts S) (fault : StopFault) (number : Option ℕ)
+    (rest before back : List S) → IsTriedRefusal s before fault number back
+    → IsTriedRefusal s (before ++ rest) fault number (back ++ rest)
+rest_refused s fault number [] before back had =
+    subst (IsTriedRefusal s (before ++ []) fault number) (sym (append-nil back))
+    (subst (λ stores. IsTriedRefusal s stores fault number back) (sym (append-nil before)) had)
+rest_refused s fault number (store ∷ rest) before back had =
+    subst (IsTriedRefusal s (before ++ store ∷ rest) fault number)
+    (append_assoc back (store ∷ []) rest)
+    (subst (λ stores. IsTriedRefusal s stores fault number ((back ++ store ∷ []) ++ rest))
+    (append_assoc before (store ∷ []) rest)
+    (rest_refused s fault number rest (before ++ store ∷ []) (back ++ store ∷ [])
+    (had.0, had.1, (refused_before s before store had.0 back had.2.0, had.2.1))))
 
 -- a fault of a buffer, as that of the relay
 refused_by : {S : Type 0} (s : blocks.Ghosts S) (stores : List S) (stop : ℕ) (start : StartError)
@@ -243,14 +250,75 @@ buffers_keep {s = s} settings stores sized buffers are stop w begun kept failure
       };
 }
 
--- where none was refused, the next store is that of the next buffer
-pub next_stopped : {S J : Type 0} {s : blocks.Ghosts S} {j : store_premises.Ghosts J} (stop : ℕ)
-    (before : List S) (store : S) (state : Starting S J s j) → HasTried stop before state
-    → (j.trusted ≡ true
-    → ∥ WasStopped (s.heads store) (s.blocks store) (buffer_over s (length before) store) ∥₁)
-    → IsNextStopped store state
-next_stopped {s = s} stop before store (states.Started so_far) had stopped =
-    λ trusted.
-    subst (λ n. ∥ WasStopped (s.heads store) (s.blocks store) (buffer_over s n store) ∥₁)
-    (sym (so_far.buffers.ok.0 ∙ had.0.count)) (stopped trusted)
-next_stopped stop before store (states.Refused refused) had stopped = tt
+-- the buffers that were started so far, over the stores that were gone through
+pub record StartedSoFar {S J : Type 0} {s : blocks.Ghosts S} {j : store_premises.Ghosts J}
+    (stop : ℕ) (all left : List S) (buffers : List (UnopenedNumbered S J s j)) (mixed : Option ℕ)
+    : Type 0 where
+  pub gone : List S
+  pub all_is : gone ++ left ≡ all
+  pub over : AreEach IsStartedOver gone buffers
+  pub first : IsFirstOther stop (map unopened_in buffers) mixed
+
+module _ {S J : Type 0} {s : blocks.Ghosts S} {j : store_premises.Ghosts J} (stop : ℕ)
+    (all : List S) where
+  -- before the first store none is
+  pub started_none : StartedSoFar {J = J} {s = s} {j = j} stop all all [] None
+  started_none = record {
+    gone = [];
+    all_is = refl;
+    over = none_each IsStartedOver;
+    first = λ b one is. absurd (none-some one is);
+  }
+
+  -- all are, where no store is left
+  pub started_all : (left : List S) (buffers : List (UnopenedNumbered S J s j)) (mixed : Option ℕ)
+      → StartedSoFar stop all left buffers mixed → length left ≡ 0
+      → AreEach IsStartedOver all buffers
+  started_all left buffers mixed had none =
+      subst (λ stores. AreEach IsStartedOver stores buffers)
+      (none_left had.gone left had.all_is none) had.over
+
+  module _ (left : List S) (buffers : List (UnopenedNumbered S J s j)) (mixed : Option ℕ)
+      (had : StartedSoFar stop all left buffers mixed) (store : S) (more : List S)
+      (next : left ≡ store ∷ more) (number : ℕ) (at : number ≡ length buffers) where
+    -- one more is
+    pub started_more : (one : UnopenedNumbered S J s j) (found : ℕ) → IsStartedOver number store one
+        → stop_of (inside (unopened_in one)) ≡ found
+        → StartedSoFar stop all more (buffers ++ one ∷ []) (other_after mixed found stop number)
+    started_more one found is under = record {
+      gone = had.gone ++ store ∷ [];
+      all_is = one_through had.gone left all store more had.all_is next;
+      over = one_more_each IsStartedOver had.gone buffers store one had.over
+          (subst (λ n. IsStartedOver n store one) (at ∙ had.over.count) is);
+      first = other_joins stop buffers one mixed found number had.first under at;
+    }
+
+    -- or it is refused, and the stores behind it come back as they are
+    pub refused_here : (error : StartError) (refused : S) (fault : StopFault) (told : Option ℕ)
+        (back : List S) → StaysHeld s store refused → IsBlamed s store refused error
+        → (s.honest store → IsRefusedFor (s.heads store) (s.blocks store)
+        (buffer_over s number store) error)
+        → (s.honest store → (stop : ℕ) (h : History)
+        → HoldsStopped (s.heads store) (s.blocks store) stop h
+        → h.buffer ≡ buffer_over s number store → IsUnentered (AreArticles h) error)
+        → fault ≡ fault_of_start error → told ≡ number_told error number
+        → back ≡ (stores_of buffers ++ refused ∷ []) ++ more
+        → IsUnstartedBy s all stop fault told back
+    refused_here error refused fault told back held blamed reason outside is says made =
+        let here : number ≡ length had.gone = at ∙ had.over.count in
+        let why = first_refused s had.gone store buffers error refused had.over held blamed
+        (subst (λ n. s.honest store → IsRefusedFor (s.heads store) (s.blocks store)
+        (buffer_over s n store) error) here reason)
+        (subst (λ n. s.honest store → (stop : ℕ) (h : History)
+        → HoldsStopped (s.heads store) (s.blocks store) stop h
+        → h.buffer ≡ buffer_over s n store → IsUnentered (AreArticles h) error) here outside) in
+        let tried : IsTriedRefusal s (had.gone ++ store ∷ []) fault told
+        (stores_of buffers ++ refused ∷ []) =
+        (error, is, (why, says ∙ ap (number_told error) here)) in
+        refused_start s all stop fault told back
+        (subst (IsTriedRefusal s all fault told) (sym made)
+        (subst (λ stores. IsTriedRefusal s stores fault told
+        ((stores_of buffers ++ refused ∷ []) ++ more))
+        (one_through had.gone left all store more had.all_is next)
+        (rest_refused s fault told more (had.gone ++ store ∷ [])
+        (stores_of buffers ++ refused ∷ []) tried)))

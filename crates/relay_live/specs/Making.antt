@@ -1,7 +1,8 @@
 -- What a relay's threads share, by how much of it there is.
-use Rattle.std.specs.Prelude.{ℕ, Option, length}
+use Rattle.std.specs.Prelude.{◌≡◌, ℕ, Option, length}
 use Rattle.cyc_block.specs.declared.store.BlockStore as blocks
 use Rattle.live_store.specs.declared.record.StorePremises as store_premises
+use Rattle.relay_live.specs.declared.alone.Alone.{Alone}
 use Rattle.relay_live.specs.declared.keeper.Keeper.{Keeper}
 use Rattle.relay_live.specs.declared.register_ref.RegisterRef as register_ref
 use Rattle.relay_live.specs.declared.shared.Shared.{Shared}
@@ -40,3 +41,15 @@ ends_in shared = length shared.slots.items
 abbrev pub slots_of : {S J L C Q : Type 0} {s : blocks.Ghosts S} {j : store_premises.Ghosts J}
     {q : register_ref.Ghosts Q} → Keeper S J L C Q s j q → ℕ
 slots_of keeper = ends_in keeper.shared.now
+
+-- The parts behind these locks are as many as those without locks, beside which there are so many
+-- slots, and the settings are the same. No public contract cites it.
+pub record HasParts {S J L : Type 0} {s : blocks.Ghosts S} {j : store_premises.Ghosts J}
+    (shared : Shared S J L s j) (alone : Alone S J L s j) (slots : ℕ)
+    : Type 0 where
+  pub buffers : buffers_in shared ≡ length alone.buffers.items
+  pub groups : groups_in shared ≡ length alone.placed_groups.items
+  pub feeds : feeds_in shared ≡ alone.feeds
+  pub ends : ends_in shared ≡ slots
+  pub remembers : remember_in shared ≡ alone.remember
+  pub stop_is : last_stop shared ≡ alone.stop

@@ -1,6 +1,6 @@
 -- A start of the parts of a relay: from what, and why not (docs/PROTOCOL.md, Clean stop and start).
-use Rattle.std.specs.Prelude.{◌≡◌, ℕ, ◌+◌, ◌<◌, true, false, List, [], ◌∷◌, ◌++◌, length}
-use Rattle.std.specs.Prelude.{map, min, Option, None, Some, slice_get, vec_len, vec_capacity}
+use Rattle.std.specs.Prelude.{◌≡◌, ℕ, ◌<◌, true, false, List, length}
+use Rattle.std.specs.Prelude.{map, Option, None, Some, slice_get}
 use Rattle.article_verdict.specs.Config.{terms_of}
 use Rattle.boxcar.specs.Table.{Shelves}
 use Rattle.block_shelf.specs.Each.{AreEach}
@@ -51,11 +51,6 @@ use Rattle.relay_live.specs.Stopping.{AreShutWith}
 use Rattle.relay_live.specs.declared.alone.Alone.{Alone}
 use Rattle.relay_live.specs.declared.desks.Desks.{Desks}
 use Rattle.relay_live.specs.declared.shared.Shared.{Shared}
-use Rattle.relay_live.specs.declared.started.Opening.{Opening}
-use Rattle.relay_live.specs.declared.started.Opening.TheVariants as openings
-use Rattle.relay_live.specs.declared.started.SoFar.{SoFar}
-use Rattle.relay_live.specs.declared.started.Starting.{Starting}
-use Rattle.relay_live.specs.declared.started.Starting.TheVariants as states
 use Rattle.relay_model.specs.Claims.{Claim}
 use Rattle.relay_model.specs.State.{Feed, State}
 use Rattle.relay_model.specs.Terms.{Terms}
@@ -312,78 +307,3 @@ abbrev pub IsTriedRefusal : {S : Type 0} → blocks.Ghosts S → (before : List 
 IsTriedRefusal s before fault number back =
     (start : StartError) × (fault ≡ fault_of_start start)
     × ((why : IsRefusedAt s before start back) × (number ≡ number_told start why.place))
-
--- how a start stands after these stores: all their buffers were started, or it was refused
-abbrev pub HasTried : {S J : Type 0} {s : blocks.Ghosts S} {j : store_premises.Ghosts J}
-    → (stop : ℕ)
-    → (before : List S) → Starting S J s j → Type 0
-HasTried stop before (states.Started so_far) =
-    AreEach IsStartedOver before so_far.buffers.items × (so_far.room.items ≡ [])
-    × IsFirstOther stop (map unopened_in so_far.buffers.items) so_far.mixed
-HasTried {s = s} stop before (states.Refused refused) =
-    IsTriedRefusal s before refused.error refused.buffer refused.stores.items
-
--- the next buffer is started behind those that are, or not
-abbrev pub StartsNext : {S J : Type 0} {s : blocks.Ghosts S} {j : store_premises.Ghosts J}
-    → (stop : ℕ)
-    → S → SoFar S J s j → Starting S J s j → Type 0
-StartsNext {S} stop store so_far new =
-    (before : List S) → AreEach IsStartedOver before so_far.buffers.items → so_far.room.items ≡ []
-    → IsFirstOther stop (map unopened_in so_far.buffers.items) so_far.mixed
-    → HasTried stop (before ++ store ∷ []) new
-
--- the next store is tried, where none before it was refused
-abbrev pub TriesNext : {S J : Type 0} {s : blocks.Ghosts S} {j : store_premises.Ghosts J}
-    → (stop : ℕ)
-    → S → (old new : Starting S J s j) → Type 0
-TriesNext {S} stop store old new =
-    (before : List S) → HasTried stop before old → HasTried stop (before ++ store ∷ []) new
-
--- where none was refused, the next store holds the next buffer as it was stopped, if it is trusted
-abbrev pub IsNextStopped : {S J : Type 0} {s : blocks.Ghosts S} {j : store_premises.Ghosts J} → S
-    → Starting S J s j → Type 0
-IsNextStopped {s = s} {j} store (states.Started so_far) =
-    j.trusted ≡ true → ∥ WasStopped (s.heads store) (s.blocks store)
-    (buffer_over s (vec_len so_far.buffers) store) ∥₁
-IsNextStopped store (states.Refused refused) = Unit {0}
-
--- how many buffers and stores it has
-abbrev pub tried_count : {S J : Type 0} {s : blocks.Ghosts S} {j : store_premises.Ghosts J}
-    → Starting S J s j → ℕ
-tried_count (states.Started so_far) = vec_len so_far.buffers + vec_len so_far.room
-tried_count (states.Refused refused) = vec_len refused.stores
-
--- for how many it has room
-abbrev pub tried_room : {S J : Type 0} {s : blocks.Ghosts S} {j : store_premises.Ghosts J}
-    → Starting S J s j → ℕ
-tried_room (states.Started so_far) =
-    min (vec_capacity so_far.buffers) (vec_capacity so_far.room)
-tried_room (states.Refused refused) = vec_capacity refused.stores
-
--- how an opening stands after these buffers: each is open, or the one at a place has failed
-abbrev pub HasOpened : {S J : Type 0} {s : blocks.Ghosts S} {j : store_premises.Ghosts J}
-    → (before : List (UnopenedNumbered S J s j)) → Opening S J s j → Type 0
-HasOpened before (openings.Opened buffers room) =
-    AreEach IsOpenedFrom before buffers.items × (room.items ≡ [])
-HasOpened before (openings.Failed stores place) =
-    (place < length before)
-    × AreEach (heads.IsLeftUnopened place) (map unopened_in before) stores.items
-
--- the next buffer's head is opened, where none before it has failed
-abbrev pub OpensNext : {S J : Type 0} {s : blocks.Ghosts S} {j : store_premises.Ghosts J}
-    → UnopenedNumbered S J s j → (old new : Opening S J s j) → Type 0
-OpensNext {S} {J} {s} {j} one old new =
-    (before : List (UnopenedNumbered S J s j)) → HasOpened before old
-    → HasOpened (before ++ one ∷ []) new
-
--- how many buffers and stores it has
-abbrev pub opening_count : {S J : Type 0} {s : blocks.Ghosts S} {j : store_premises.Ghosts J}
-    → Opening S J s j → ℕ
-opening_count (openings.Opened buffers room) = vec_len buffers + vec_len room
-opening_count (openings.Failed stores place) = vec_len stores
-
--- for how many it has room
-abbrev pub opening_room : {S J : Type 0} {s : blocks.Ghosts S} {j : store_premises.Ghosts J}
-    → Opening S J s j → ℕ
-opening_room (openings.Opened buffers room) = min (vec_capacity buffers) (vec_capacity room)
-opening_room (openings.Failed stores place) = vec_capacity stores

@@ -4,10 +4,10 @@ ghost use Rattle.std.specs.Prelude.{◌≡◌, ◌≤◌, length};
 ghost use Rattle.relay_model.specs.Terms.{shard_count};
 
 use crate::drawing::Last;
-use crate::making::{new_buffers, new_desk, new_shards};
+use crate::making::new_buffers;
 use block_shelf::{BeginError, PlacedGroup, new_placed_groups, unbegun};
 use cyc_block::BlockStore;
-use id_history::Shard;
+use id_history::{Shard, Shards};
 use live_jobs::CountedDesk;
 use live_store::{NumberedBuffer, StorePremises};
 use relay_conf::Config;
@@ -44,7 +44,6 @@ impl<S: BlockStore + Drop, J: StorePremises, L: Ledger> Alone<S, J, L> {
 
     /// The relay over these stores, the i-th for buffer i, before anything has come. Each buffer's
     /// head block says that it may change.
-    #[tactic(auto, using(block_shelf::proofs::HostFaults::host_refuses))]
     pub(crate) fn new(
         rt: &impl RandomSource,
         alloc: Global,
@@ -59,10 +58,10 @@ impl<S: BlockStore + Drop, J: StorePremises, L: Ledger> Alone<S, J, L> {
         ensures begins { IfOk result (BeginsOver config.now stores.items) }
         ensures refusal { IfErr result (IsBeginRefusal ⟦<S as BlockStore>⟧ stores.items) }
     {
-        let shards = new_shards(rt, alloc)?;
+        let shards = Shards::new(rt, alloc)?.into_shards();
         let placed_groups = new_placed_groups(alloc, &config.buffers)?;
-        let last = Last::new(&book);
-        let desk = new_desk(alloc, config, book)?;
+        let last = Last::after(&book, 0);
+        let desk = CountedDesk::new(alloc, &config.relay.feeds, book)?;
         let buffers = match new_buffers(alloc, stores) {
             Ok(buffers) => buffers,
             Err(error) => {

@@ -33,15 +33,8 @@ pub(crate) struct Last<L: Ledger> {
 impl<L: Ledger> Last<L> {
     ghost use Rattle.relay_live.specs.Numbers.{last_of, number_of};
 
-    /// No number is drawn yet. The book of the relay is shown, and nobody has that once the desk
-    /// keeps it: so no other `Last` is made later.
-    pub(crate) fn new(book: &Book<L>) -> Last<L>
-        ensures { last_of result ≡ 0 }
-    {
-        Last::after(book, 0)
-    }
-
-    /// This number was drawn last, in a relay that goes on; its book is shown, as to `new`.
+    /// This number was drawn last, or 0 where none was drawn yet. The book of the relay is shown,
+    /// and nobody has that once the desk keeps it: so no other `Last` is made later.
     pub(crate) fn after(_book: &Book<L>, number: u64) -> Last<L>
         ensures { last_of result ≡ number }
     {

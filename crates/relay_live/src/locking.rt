@@ -1,6 +1,6 @@
 //! The parts of a relay go behind their locks, and come out again.
 ghost use Rattle.std.specs.Prelude.{◌≡◌, ◌≤◌, [], length, IfOk, vec_capacity};
-ghost use Rattle.relay_live.specs.Locking.{HasLockRoom, HasPartRoom};
+ghost use Rattle.relay_live.specs.Locking.{HasLockRoom, HasLocks, HasPartRoom};
 
 use crate::claims::Claims;
 use crate::forgetting::Rounds;
@@ -14,7 +14,7 @@ use std::sync::Mutex;
 
 /// Room for the locks of the parts of a relay.
 #[derive(Drop)]
-pub(crate) struct Locks<S: BlockStore + Drop, J: StorePremises> {
+pub(crate) struct LockRooms<S: BlockStore + Drop, J: StorePremises> {
     pub(crate) shards: Vec<Claims>,
     pub(crate) buffers: Vec<Mutex<NumberedBuffer<S, J>>>,
     pub(crate) placed_groups: Vec<Mutex<PlacedGroup>>,
@@ -28,24 +28,26 @@ pub(crate) struct Parts<S: BlockStore + Drop, J: StorePremises> {
     pub(crate) placed_groups: Vec<PlacedGroup>,
 }
 
-/// What stands beside the locks of a relay's parts: a slot for each end, and what rounds go by.
+/// Room for the locks of a relay's parts, with what stands beside these: a slot for each end, and
+/// what rounds go by.
 #[derive(Drop)]
-pub(crate) struct SlotsAndRounds<J: StorePremises> {
+pub(crate) struct Locks<S: BlockStore + Drop, J: StorePremises> {
+    pub(crate) rooms: LockRooms<S, J>,
     pub(crate) slots: Vec<Slot<J>>,
     pub(crate) rounds: Mutex<Rounds>,
 }
 
-impl<S: BlockStore + Drop, J: StorePremises> Locks<S, J> {
+impl<S: BlockStore + Drop, J: StorePremises> LockRooms<S, J> {
     /// Room for so many buffers and groups.
     pub(crate) fn new(
         alloc: Global,
         buffers: usize,
         placed_groups: usize,
-    ) -> Result<Locks<S, J>, AllocError>
+    ) -> Result<LockRooms<S, J>, AllocError>
         ensures { IfOk result (HasLockRoom buffers placed_groups) }
     {
         let (shards, buffers, placed_groups) = rooms(alloc, SHARD_COUNT, buffers, placed_groups)?;
-        Ok(Locks {
+        Ok(LockRooms {
             shards,
             buffers,
             placed_groups,
@@ -89,14 +91,21 @@ pub(crate) fn rooms<A: Drop, B: Drop, C: Drop>(
     Ok((of_one, of_other, of_third))
 }
 
-impl<J: StorePremises> SlotsAndRounds<J> {
-    /// For so many ends, before the first round.
-    pub(crate) fn new(alloc: Global, ends: usize) -> Result<SlotsAndRounds<J>, AllocError>
-        ensures { IfOk result (λ slots_and_rounds. length slots_and_rounds.slots.items ≡ ends) }
+impl<S: BlockStore + Drop, J: StorePremises> Locks<S, J> {
+    /// For so many buffers, groups and ends, before the first round.
+    pub(crate) fn new(
+        alloc: Global,
+        buffers: usize,
+        placed_groups: usize,
+        ends: usize,
+    ) -> Result<Locks<S, J>, AllocError>
+        ensures { IfOk result (HasLocks buffers placed_groups ends) }
     {
         let slots = new_slots(alloc, ends)?;
         let rounds = Rounds::new(alloc)?;
-        Ok(SlotsAndRounds {
+        let rooms = LockRooms::new(alloc, buffers, placed_groups)?;
+        Ok(Locks {
+            rooms,
             slots,
             rounds: Mutex::new(rounds),
         })

@@ -187,32 +187,7 @@ fn ends_of<
     Ok(ends)
 }
 
-/// The mismatched receipts of what the ends answered and the writers told.
-fn mismatched_receipts_of<
-    'a,
-    X,
-    S: BlockStore + Drop,
-    J: StorePremises,
-    L: Ledger,
-    C: Clock,
-    G,
-    Q: RegisterRef,
->(
-    alloc: Global,
-    seats: &Seats<L, StoreResult<J>, PeerServer<'a, X, S, J, L, C, G, Q>>,
-) -> Result<u128, AllocError>
-    ensures { IfOk result (λ n. n ≡ mismatched_receipts_in (map kept_of seats.now.services.items)
-        (map (λ w. w.finished.items) seats.now.writers.items)) }
-{
-    let mut answers = Vec::with_capacity(alloc, seats.services.len())?;
-    let ends = seats.services.as_slice();
-    for end in ends {
-        answers.push_reserved(end.kept());
-    }
-    mismatched_receipts(alloc, answers.as_slice(), seats.writers.as_slice())
-}
-
-/// The seats that have come back, with what is counted of them beside these totals of theirs.
+/// What is counted of seats that have come back, beside these totals of theirs.
 fn counted_of<
     'a,
     X: Drop,
@@ -225,21 +200,25 @@ fn counted_of<
 >(
     alloc: Global,
     totals: Totals,
-    seats: Seats<L, StoreResult<J>, PeerServer<'a, X, S, J, L, C, G, Q>>,
-) -> Result<CountedRun<L, StoreResult<J>, PeerServer<'a, X, S, J, L, C, G, Q>>, LiveError>
-    ensures { IfOk result (λ run. (run.seats ≡ seats.entry)
-        × AreCounts totals (map kept_of run.seats.services.items)
-        (map (λ w. w.finished.items) run.seats.writers.items) run.counted) }
+    seats: &Seats<L, StoreResult<J>, PeerServer<'a, X, S, J, L, C, G, Q>>,
+) -> Result<Counted, AllocError>
+    ensures { IfOk result (AreCounts totals (map kept_of seats.now.services.items)
+        (map (λ w. w.finished.items) seats.now.writers.items)) }
 {
-    let mismatched_receipts = mismatched_receipts_of(alloc, &seats)?;
-    let ids_stored_again = ids_stored_again(alloc, seats.writers.as_slice())?;
-    let counted = Counted {
+    let mut answers = Vec::with_capacity(alloc, seats.services.len())?;
+    let ends = seats.services.as_slice();
+    for end in ends {
+        answers.push_reserved(end.kept());
+    }
+    let writers = seats.writers.as_slice();
+    let mismatched_receipts = mismatched_receipts(alloc, answers.as_slice(), writers)?;
+    let ids_stored_again = ids_stored_again(alloc, writers)?;
+    Ok(Counted {
         accepted: totals.accepted,
         posted: totals.posted,
         mismatched_receipts,
         ids_stored_again,
-    };
-    Ok(CountedRun { seats, counted })
+    })
 }
 
 /// Serves an end behind each peer source, one thread for each of them and for each group's writer,
@@ -330,5 +309,9 @@ where
         Err(why) => return Err(live_error(why)),
     };
     let totals = close(rt, channels, &keeper.shared.desk, &mut rests, &mut seats);
-    counted_of(alloc, totals, seats)
+    let counted = match counted_of(alloc, totals, &seats) {
+        Ok(counted) => counted,
+        Err(_) => return Err(LiveError::Memory),
+    };
+    Ok(CountedRun { seats, counted })
 }

@@ -6,7 +6,7 @@ use crate::alone::Alone;
 use crate::claims::Claims;
 use crate::drawing::{Last, Number};
 use crate::forgetting::Rounds;
-use crate::locking::{Locks, Parts, SlotsAndRounds, free_all, free_shards, lock_all, lock_shards};
+use crate::locking::{LockRooms, Locks, Parts, free_all, free_shards, lock_all, lock_shards};
 use crate::slot::Slot;
 use crate::stopping::Unstopped;
 use block_shelf::{BeginError, PlacedGroup, StopFault};
@@ -17,6 +17,7 @@ use nntp_text::MsgId;
 use relay_conf::Config;
 use relay_core::{NotStarted, Stopped, refused};
 use std::alloc::{AllocError, Global};
+use std::hash::RandomState;
 use std::random::RandomSource;
 use std::sync::ledger::{Book, Ledger};
 use std::sync::{Mutex, Wait};
@@ -92,7 +93,7 @@ impl<S: BlockStore + Drop, J: StorePremises, L: Ledger> Shared<S, J, L> {
     ghost use Rattle.block_shelf.specs.Filling.{IsBeginRefusal};
     ghost use Rattle.relay_live.specs.Making.{buffers_in, groups_in, feeds_in, ends_in};
     ghost use Rattle.relay_live.specs.Locking.{HasLockRoom, HasPartRoom};
-    ghost use Rattle.relay_live.specs.Making.{last_stop, remember_in};
+    ghost use Rattle.relay_live.specs.Making.{HasParts, last_stop, remember_in};
     ghost use Rattle.relay_live.specs.Starting.{HasStopOf, IsNotStarted, WereStopped};
     ghost use Rattle.relay_live.specs.Stopping.{AreShutWith, IsUnshut};
     ghost use Rattle.relay_core.specs.Stopping.{next_stop};
@@ -123,13 +124,11 @@ impl<S: BlockStore + Drop, J: StorePremises, L: Ledger> Shared<S, J, L> {
             remember_in shared ≡ config.now.relay.remember) }
         ensures refusal { IfErr result (IsBeginRefusal ⟦<S as BlockStore>⟧ stores.items) }
     {
-        let locks = Locks::new(alloc, stores.len(), config.buffers.groups.len())?;
-        let slots_and_rounds = SlotsAndRounds::new(alloc, ends)?;
+        let locks = Locks::new(alloc, stores.len(), config.buffers.groups.len(), ends)?;
         match Alone::new(rt, alloc, config, stores, book) {
-            Ok(alone) => Ok(Shared::over(alone, locks, slots_and_rounds)),
+            Ok(alone) => Ok(Shared::over(alone, locks)),
             Err(error) => {
                 drop(locks);
-                drop(slots_and_rounds);
                 Err(error)
             }
         }
@@ -168,18 +167,22 @@ impl<S: BlockStore + Drop, J: StorePremises, L: Ledger> Shared<S, J, L> {
         ensures refused { IfErr result (IsNotStarted S.BlockStore config.now
             stopped.stores.items stopped.history.items) }
     {
-        let Ok(locks) = Locks::new(alloc, stopped.stores.len(), config.buffers.groups.len()) else {
+        let groups = config.buffers.groups.len();
+        let Ok(locks) = Locks::new(alloc, stopped.stores.len(), groups, ends) else {
             return Err(NotStarted::Refused(refused(stopped.stores, StopFault::Memory)));
         };
-        let Ok(slots_and_rounds) = SlotsAndRounds::new(alloc, ends) else {
-            return Err(NotStarted::Refused(refused(stopped.stores, StopFault::Memory)));
-        };
-        match Alone::start(rt, alloc, config, register, stopped, book) {
-            Ok(alone) => Ok(Shared::over(alone, locks, slots_and_rounds)),
-            Err(not_started) => {
+        let hasher = match RandomState::new(rt) {
+            Ok(hasher) => hasher,
+            Err(why) => {
                 drop(locks);
-                drop(slots_and_rounds);
-                Err(not_started)
+                return Err(NotStarted::Host(why, stopped.stores));
+            }
+        };
+        match Alone::start_with(rt, alloc, hasher, config, register, stopped, book) {
+            Ok(alone) => Ok(Shared::over(alone, locks)),
+            Err(unstarted) => {
+                drop(locks);
+                Err(NotStarted::Refused(unstarted))
             }
         }
     }
@@ -195,56 +198,48 @@ impl<S: BlockStore + Drop, J: StorePremises, L: Ledger> Shared<S, J, L> {
             J.register (next_stop (last_stop self)) stopped.stores.items) }
         ensures refused { IfErr result (IsUnshut self) }
     {
-        let Ok((parts, locks)) = self.room(alloc) else {
+        let Ok((parts, rooms)) = self.room(alloc) else {
             return Err(Unshut::Memory(self));
         };
-        let (alone, slots_and_rounds) = self.into_alone(parts);
+        let (alone, locks) = self.into_alone(parts, rooms);
         match alone.shut(alloc) {
             Ok(stopped) => {
                 drop(locks);
-                drop(slots_and_rounds);
                 Ok(stopped)
             }
-            Err(Unstopped::NotIdle(alone)) => {
-                Err(Unshut::NotIdle(Shared::over(alone, locks, slots_and_rounds)))
-            }
-            Err(Unstopped::Memory(alone)) => {
-                Err(Unshut::Memory(Shared::over(alone, locks, slots_and_rounds)))
-            }
+            Err(Unstopped::NotIdle(alone)) => Err(Unshut::NotIdle(Shared::over(alone, locks))),
+            Err(Unstopped::Memory(alone)) => Err(Unshut::Memory(Shared::over(alone, locks))),
             Err(Unstopped::Device(number, stores)) => {
                 drop(locks);
-                drop(slots_and_rounds);
                 Err(Unshut::Device(number, stores))
             }
         }
     }
 
     /// Room for its parts without their locks, and for their locks again.
-    fn room(&self, alloc: Global) -> Result<(Parts<S, J>, Locks<S, J>), AllocError>
+    fn room(&self, alloc: Global) -> Result<(Parts<S, J>, LockRooms<S, J>), AllocError>
         ensures parts { IfOk result (λ room.
             HasPartRoom (buffers_in self.now) (groups_in self.now) room.0) }
         ensures locks { IfOk result (λ room.
             HasLockRoom (buffers_in self.now) (groups_in self.now) room.1) }
     {
-        let parts = Parts::new(alloc, self.buffers.len(), self.placed_groups.len())?;
-        let locks = Locks::new(alloc, self.buffers.len(), self.placed_groups.len())?;
-        Ok((parts, locks))
+        let buffers = self.buffers.len();
+        let groups = self.placed_groups.len();
+        let parts = Parts::new(alloc, buffers, groups)?;
+        match LockRooms::new(alloc, buffers, groups) {
+            Ok(rooms) => Ok((parts, rooms)),
+            Err(error) => {
+                drop(parts);
+                Err(error)
+            }
+        }
     }
 
     /// These parts, each behind its lock, put where there is room for them.
-    fn over(
-        alone: Alone<S, J, L>,
-        locks: Locks<S, J>,
-        slots_and_rounds: SlotsAndRounds<J>,
-    ) -> Shared<S, J, L>
+    fn over(alone: Alone<S, J, L>, locks: Locks<S, J>) -> Shared<S, J, L>
         requires { HasLockRoom (length alone.buffers.items)
-            (length alone.placed_groups.items) locks }
-        ensures buffers { buffers_in result ≡ length alone.buffers.items }
-        ensures groups { groups_in result ≡ length alone.placed_groups.items }
-        ensures feeds { feeds_in result ≡ alone.feeds }
-        ensures ends { ends_in result ≡ length slots_and_rounds.slots.items }
-        ensures remember { remember_in result ≡ alone.remember }
-        ensures stop { last_stop result ≡ alone.stop }
+            (length alone.placed_groups.items) locks.rooms }
+        ensures { HasParts result alone (length locks.slots.items) }
     {
         let Alone {
             shards,
@@ -257,29 +252,25 @@ impl<S: BlockStore + Drop, J: StorePremises, L: Ledger> Shared<S, J, L> {
             remember,
         } = alone;
         Shared {
-            shards: lock_shards(shards, locks.shards),
+            shards: lock_shards(shards, locks.rooms.shards),
             desk: Mutex::new(desk),
             feeds,
-            buffers: lock_all(buffers, locks.buffers),
-            placed_groups: lock_all(placed_groups, locks.placed_groups),
-            slots: slots_and_rounds.slots,
+            buffers: lock_all(buffers, locks.rooms.buffers),
+            placed_groups: lock_all(placed_groups, locks.rooms.placed_groups),
+            slots: locks.slots,
             last: Mutex::new(last),
             stop,
             remember,
-            rounds: slots_and_rounds.rounds,
+            rounds: locks.rounds,
         }
     }
 
     /// Its parts without their locks, put where there is room for them, and what stood beside
-    /// these.
-    fn into_alone(self, parts: Parts<S, J>) -> (Alone<S, J, L>, SlotsAndRounds<J>)
+    /// these, with the room for new locks.
+    fn into_alone(self, parts: Parts<S, J>, rooms: LockRooms<S, J>) -> (Alone<S, J, L>, Locks<S, J>)
         requires { HasPartRoom (buffers_in self) (groups_in self) parts }
-        ensures buffers { length result.0.buffers.items ≡ buffers_in self }
-        ensures groups { length result.0.placed_groups.items ≡ groups_in self }
-        ensures feeds { result.0.feeds ≡ feeds_in self }
-        ensures ends { length result.1.slots.items ≡ ends_in self }
-        ensures remember { result.0.remember ≡ remember_in self }
-        ensures stop { result.0.stop ≡ last_stop self }
+        ensures parts { HasParts self result.0 (length result.1.slots.items) }
+        ensures rooms { result.1.rooms ≡ rooms }
     {
         let Shared {
             shards,
@@ -303,7 +294,12 @@ impl<S: BlockStore + Drop, J: StorePremises, L: Ledger> Shared<S, J, L> {
             stop,
             remember,
         };
-        (alone, SlotsAndRounds { slots, rounds })
+        let locks = Locks {
+            rooms,
+            slots,
+            rounds,
+        };
+        (alone, locks)
     }
 
     /// Draws the number of a session: one above the last, from 1 on, none after the greatest.

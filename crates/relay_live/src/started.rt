@@ -1,16 +1,15 @@
 //! The buffers of a relay are started, one after the other, and then their heads are opened.
-ghost use Rattle.std.specs.Prelude.{◌≡◌, ◌≤◌, ◌<◌, ◌+◌, ◌++◌, [], true, All, length, map, min};
+ghost use Rattle.std.specs.Prelude.{◌≡◌, ◌≤◌, ◌+◌, ◌++◌, [], true, All, length, map};
 ghost use Rattle.std.specs.Prelude.{IfErr, IfOk, vec_len, vec_capacity};
+ghost use Rattle.std.specs.Vec.Iter.{into_iter_items};
 ghost use Rattle.block_shelf.specs.Each.{AreEach};
 ghost use Rattle.block_shelf.specs.Resuming.{AreUsed};
-ghost use Rattle.block_shelf.specs.Starting.{buffer_over, buffers_inside};
+ghost use Rattle.block_shelf.specs.Starting.{buffers_inside};
 ghost use Rattle.cyc_buffer.specs.Agreement.{store_of};
-ghost use Rattle.live_store.specs.Started.{WasStopped, unopened_in};
+ghost use Rattle.live_store.specs.Started.{unopened_in};
 ghost use Rattle.live_store.specs.Steps.{buffer_of};
 ghost use Rattle.relay_live.specs.Starting.{AreStarted, IsHeadFailed, IsOpenedFrom, IsUnstarted};
-ghost use Rattle.relay_live.specs.Starting.{IsNextStopped, OpensNext, StartsNext, WereStopped};
-ghost use Rattle.relay_live.specs.Starting.{TriesNext, opening_count, opening_room, tried_count};
-ghost use Rattle.relay_live.specs.Starting.{stores_of, tried_room};
+ghost use Rattle.relay_live.specs.Starting.{WereStopped, stores_of};
 
 use crate::locking::rooms;
 use block_shelf::{StopFault, Unstarted, blamed, fault_of, first_other, number_of, used_in};
@@ -19,6 +18,7 @@ use live_store::{ArticleLog, NumberedBuffer, StorePremises, UnopenedNumbered};
 use relay_core::refused;
 use std::alloc::{AllocError, Global};
 use std::sync::Wait;
+use std::vec::IntoIter;
 
 /// Started buffers whose head blocks say closed yet. They begin nothing before those are open.
 #[derive(Drop)]
@@ -33,40 +33,6 @@ pub(crate) struct StartedBuffers<S: BlockStore + Drop, J: StorePremises> {
     ghost none_back: { stores.items ≡ [] },
     ghost opened_room: { vec_len buffers ≤ vec_capacity opened },
     ghost stores_room: { vec_len buffers ≤ vec_capacity stores },
-}
-
-/// The buffers that are started so far.
-#[derive(Drop)]
-struct SoFar<S: BlockStore + Drop, J: StorePremises> {
-    buffers: Vec<UnopenedNumbered<S, J>>,
-    /// Room for their stores.
-    room: Vec<S>,
-    /// The number of the first that was stopped at another stop.
-    mixed: Option<u8>,
-}
-
-/// How far a start is.
-#[derive(Drop)]
-enum Starting<S: BlockStore + Drop, J: StorePremises> {
-    /// The buffers so far are started.
-    Started(SoFar<S, J>),
-    /// One of them isn't: the stores so far, the buffer's number, and why.
-    Refused(Unstarted<S>),
-}
-
-/// How far the opening of heads is.
-#[derive(Drop)]
-enum Opening<S: BlockStore + Drop, J: StorePremises> {
-    /// The buffers so far are open; room for their stores.
-    Opened {
-        buffers: Vec<NumberedBuffer<S, J>>,
-        room: Vec<S>,
-    },
-    /// The device of the buffer at this place failed: the stores so far.
-    Failed {
-        stores: Vec<S>,
-        place: usize,
-    },
 }
 
 /// The buffers that were stopped at this stop over these stores, the i-th buffer i, with the
@@ -90,31 +56,40 @@ pub(crate) fn start_buffers<S: BlockStore + Drop, J: StorePremises, R: Wait>(
     ensures refusal { IfErr result (IsUnstarted S.BlockStore stores.items stop) }
 {
     let count = stores.len();
-    let Ok((unopened, opened, room)) = rooms(alloc, count, count, count) else {
+    let Ok((mut buffers, opened, room)) = rooms(alloc, count, count, count) else {
         return Err(refused(stores, StopFault::Memory));
     };
-    let mut starting = Starting::Started(SoFar {
-        buffers: unopened,
-        room,
-        mixed: None,
-    });
-    for store in stores {
-        starting = starting.next(rt, alloc, register, store, stop);
+    let mut mixed = None;
+    let mut left = stores.into_iter();
+    while let Some(store) = left.next() {
+        let number = buffers.len() as u8;
+        match NumberedBuffer::start(rt, alloc, register, store, number, 0) {
+            Ok((unopened, found)) => {
+                mixed = first_other(mixed, found, stop, number);
+                buffers.push_reserved(unopened);
+            }
+            Err(refused) => {
+                let mut stores = give_back(buffers.into_iter(), room);
+                stores.push_reserved(refused.store);
+                return Err(Unstarted {
+                    stores: with_rest(stores, left),
+                    buffer: blamed(refused.error, number),
+                    error: fault_of(refused.error),
+                });
+            }
+        }
     }
-    match starting {
-        Starting::Refused(unstarted) => Err(unstarted),
-        Starting::Started(so_far) => match so_far.mixed {
-            Some(number) => Err(Unstarted {
-                stores: give_back(so_far.buffers, so_far.room),
-                buffer: Some(number),
-                error: StopFault::Mixed,
-            }),
-            None => Ok(StartedBuffers {
-                buffers: so_far.buffers,
-                opened,
-                stores: so_far.room,
-            }),
-        },
+    match mixed {
+        Some(number) => Err(Unstarted {
+            stores: give_back(buffers.into_iter(), room),
+            buffer: Some(number),
+            error: StopFault::Mixed,
+        }),
+        None => Ok(StartedBuffers {
+            buffers,
+            opened,
+            stores: room,
+        }),
     }
 }
 
@@ -140,27 +115,26 @@ impl<S: BlockStore + Drop, J: StorePremises> StartedBuffers<S, J> {
     {
         let StartedBuffers {
             buffers,
-            opened,
+            mut opened,
             stores,
         } = self;
-        let mut opening = Opening::Opened {
-            buffers: opened,
-            room: stores,
-        };
-        for unopened in buffers {
-            opening = opening.next(unopened);
+        let mut left = buffers.into_iter();
+        while let Some(unopened) = left.next() {
+            match unopened.open() {
+                Ok(buffer) => opened.push_reserved(buffer),
+                Err(unopened) => {
+                    let place = opened.len();
+                    let mut stores = give_up(opened, stores);
+                    stores.push_reserved(unopened.into_store());
+                    return Err(Unstarted {
+                        stores: give_back(left, stores),
+                        buffer: Some(number_of(place)),
+                        error: StopFault::Device,
+                    });
+                }
+            }
         }
-        match opening {
-            Opening::Opened {
-                buffers,
-                room: _room,
-            } => Ok(buffers),
-            Opening::Failed { stores, place } => Err(Unstarted {
-                stores,
-                buffer: Some(number_of(place)),
-                error: StopFault::Device,
-            }),
-        }
+        Ok(opened)
     }
 
     /// The stores, in the order of the buffers, unwritten. Takes no memory.
@@ -172,131 +146,34 @@ impl<S: BlockStore + Drop, J: StorePremises> StartedBuffers<S, J> {
             opened: _opened,
             stores,
         } = self;
-        give_back(buffers, stores)
-    }
-}
-
-impl<S: BlockStore + Drop, J: StorePremises> Starting<S, J> {
-    /// Starts the buffer of the next store, where none before it was refused.
-    fn next<R: Wait>(
-        self,
-        rt: &R,
-        alloc: Global,
-        register: &ArticleLog,
-        store: S,
-        stop: u64,
-    ) -> Starting<S, J>
-        requires register { register.now ≡ J.register }
-        requires honest { J.trusted ≡ true → S.honest store }
-        requires stopped { IsNextStopped store self }
-        requires few { tried_count self < 256 }
-        requires room { tried_count self < tried_room self }
-        ensures tries { TriesNext stop store self result }
-        ensures count { tried_count result ≡ tried_count self + 1 }
-        ensures room { tried_room self ≤ tried_room result }
-    {
-        match self {
-            Starting::Refused(mut unstarted) => {
-                unstarted.stores.push_reserved(store);
-                Starting::Refused(unstarted)
-            }
-            Starting::Started(so_far) => next_started(rt, alloc, register, store, stop, so_far),
-        }
-    }
-}
-
-/// Starts the buffer of the next store behind those that are started.
-fn next_started<S: BlockStore + Drop, J: StorePremises, R: Wait>(
-    rt: &R,
-    alloc: Global,
-    register: &ArticleLog,
-    store: S,
-    stop: u64,
-    so_far: SoFar<S, J>,
-) -> Starting<S, J>
-    requires register { register.now ≡ J.register }
-    requires honest { J.trusted ≡ true → S.honest store }
-    requires stopped { J.trusted ≡ true → ∥ WasStopped (S.heads store) (S.blocks store)
-        (buffer_over S.BlockStore (vec_len so_far.buffers) store) ∥₁ }
-    requires few { vec_len so_far.buffers < 256 }
-    requires buffers_room { vec_len so_far.buffers < vec_capacity so_far.buffers }
-    requires stores_room { vec_len so_far.buffers + vec_len so_far.room
-        < vec_capacity so_far.room }
-    ensures tries { StartsNext stop store so_far result }
-    ensures count { tried_count result
-        ≡ vec_len so_far.buffers + vec_len so_far.room + 1 }
-    ensures room { min (vec_capacity so_far.buffers) (vec_capacity so_far.room)
-        ≤ tried_room result }
-{
-    let SoFar {
-        mut buffers,
-        room,
-        mixed,
-    } = so_far;
-    let number = buffers.len() as u8;
-    match NumberedBuffer::start(rt, alloc, register, store, number, 0) {
-        Ok((unopened, found)) => {
-            let mixed = first_other(mixed, found, stop, number);
-            buffers.push_reserved(unopened);
-            Starting::Started(SoFar {
-                buffers,
-                room,
-                mixed,
-            })
-        }
-        Err(refused) => {
-            let mut stores = give_back(buffers, room);
-            stores.push_reserved(refused.store);
-            Starting::Refused(Unstarted {
-                stores,
-                buffer: blamed(refused.error, number),
-                error: fault_of(refused.error),
-            })
-        }
-    }
-}
-
-impl<S: BlockStore + Drop, J: StorePremises> Opening<S, J> {
-    /// Opens the head of the next buffer, where none before it has failed.
-    fn next(self, unopened: UnopenedNumbered<S, J>) -> Opening<S, J>
-        requires { opening_count self < opening_room self }
-        ensures opens { OpensNext unopened self result }
-        ensures count { opening_count result ≡ opening_count self + 1 }
-        ensures room { opening_room self ≤ opening_room result }
-    {
-        match self {
-            Opening::Failed { mut stores, place } => {
-                stores.push_reserved(unopened.into_store());
-                Opening::Failed { stores, place }
-            }
-            Opening::Opened { mut buffers, room } => match unopened.open() {
-                Ok(buffer) => {
-                    buffers.push_reserved(buffer);
-                    Opening::Opened { buffers, room }
-                }
-                Err(unopened) => {
-                    let place = buffers.len();
-                    let mut stores = give_up(buffers, room);
-                    stores.push_reserved(unopened.into_store());
-                    Opening::Failed { stores, place }
-                }
-            },
-        }
+        give_back(buffers.into_iter(), stores)
     }
 }
 
 /// The stores of started buffers, put where there is room for them.
 fn give_back<S: BlockStore + Drop, J: StorePremises>(
-    buffers: Vec<UnopenedNumbered<S, J>>,
+    buffers: IntoIter<UnopenedNumbered<S, J>>,
     room: Vec<S>,
 ) -> Vec<S>
-    requires { vec_len buffers + vec_len room ≤ vec_capacity room }
-    ensures items { result.items ≡ room.items ++ stores_of buffers.items }
+    requires { length (into_iter_items buffers) + vec_len room ≤ vec_capacity room }
+    ensures items { result.items ≡ room.items ++ stores_of (into_iter_items buffers) }
     ensures capacity { vec_capacity result ≡ vec_capacity room }
 {
     let mut stores = room;
     for unopened in buffers {
         stores.push_reserved(unopened.into_store());
+    }
+    stores
+}
+
+/// These stores, with those that are left behind them, put where there is room for them.
+fn with_rest<S: Drop>(stores: Vec<S>, left: IntoIter<S>) -> Vec<S>
+    requires { length (into_iter_items left) + vec_len stores ≤ vec_capacity stores }
+    ensures { result.items ≡ stores.items ++ into_iter_items left }
+{
+    let mut stores = stores;
+    for store in left {
+        stores.push_reserved(store);
     }
     stores
 }

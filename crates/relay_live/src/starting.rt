@@ -8,10 +8,9 @@ use block_shelf::{StopFault, Unstarted};
 use cyc_block::BlockStore;
 use live_store::{ArticleLog, StorePremises};
 use relay_conf::Config;
-use relay_core::{NotStarted, Stopped, is_ahead, read_history, refused, unread};
+use relay_core::{Stopped, is_ahead, read_history, refused, unread};
 use std::alloc::Global;
 use std::hash::RandomState;
-use std::random::RandomSource;
 use std::sync::Wait;
 use std::sync::ledger::{Book, Ledger};
 
@@ -19,46 +18,15 @@ impl<S: BlockStore + Drop, J: StorePremises, L: Ledger> Alone<S, J, L> {
     ghost use Rattle.std.specs.Prelude.{◌≡◌, ◌≤◌, true, IfErr, IfOk, All, length, map};
     ghost use Rattle.block_shelf.specs.Each.{AreEach};
     ghost use Rattle.live_store.specs.Started.{unopened_in};
-    ghost use Rattle.relay_live.specs.Starting.{IsHeadFailed, IsNotStarted, IsOpenedFrom};
+    ghost use Rattle.relay_live.specs.Starting.{IsHeadFailed, IsOpenedFrom};
     ghost use Rattle.relay_live.specs.Starting.{IsRefusedRightly, StartsOver, WereStopped};
 
     /// The relay over the stores of one that was stopped, the i-th for buffer i, from the text of
-    /// its history, with the register's record for each live article. It is refused in the order of
-    /// StopFault, but that a text that can't be read comes before a store is called; want of memory
-    /// may come in place of each. All stores come back then, in their order, unwritten but for a
-    /// Device of the last: their heads are opened once all else is done.
-    pub(crate) fn start<R: RandomSource + Wait>(
-        rt: &R,
-        alloc: Global,
-        config: &Config,
-        register: &ArticleLog,
-        stopped: Stopped<S>,
-        book: Book<L>,
-    ) -> Result<Alone<S, J, L>, NotStarted<S>>
-        requires register { register.now ≡ J.register }
-        requires stores { map (λ store. length (S.blocks store)) stopped.stores.items
-            ≡ map (λ buffer. buffer.blocks) config.now.buffers.buffers.items }
-        requires honest { J.trusted ≡ true → All S.honest stopped.stores.items }
-        requires stopped { J.trusted ≡ true → WereStopped S.BlockStore stopped.stores.items }
-        requires book { book.total ≡ 0 }
-        ensures started { IfOk result (StartsOver config.now stopped.stores.items
-            stopped.history.items) }
-        ensures refused { IfErr result
-            (IsNotStarted S.BlockStore config.now
-            stopped.stores.items stopped.history.items) }
-    {
-        let hasher = match RandomState::new(rt) {
-            Ok(hasher) => hasher,
-            Err(why) => return Err(NotStarted::Host(why, stopped.stores)),
-        };
-        match Alone::start_with(rt, alloc, hasher, config, register, stopped, book) {
-            Ok(alone) => Ok(alone),
-            Err(unstarted) => Err(NotStarted::Refused(unstarted)),
-        }
-    }
-
-    /// The same with a seed.
-    fn start_with<R: Wait>(
+    /// its history, with the register's record for each live article and this seed. It is refused
+    /// in the order of StopFault, but that a text that can't be read comes before a store is
+    /// called; want of memory may come in place of each. All stores come back then, in their order,
+    /// unwritten but for a Device of the last: their heads are opened once all else is done.
+    pub(crate) fn start_with<R: Wait>(
         rt: &R,
         alloc: Global,
         hasher: RandomState,

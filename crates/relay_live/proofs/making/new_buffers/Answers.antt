@@ -6,6 +6,7 @@ use Rattle.std.proofs.lemmas.List.{nil_from_length}
 use Rattle.block_shelf.proofs.EachLemmas.{all_through, none_each, one_more_each}
 use Rattle.block_shelf.specs.Each.{AreEach}
 use Rattle.relay_live.proofs.Blamed.{blamed_at, memory_refuses}
+use Rattle.std.proofs.lemmas.Result.{IfOk-from_err}
 use Rattle.relay_live.specs.Beginning.{IsNewOver}
 use Rattle.relay_live.proofs.making.new_buffers.Goals as goal
 
@@ -89,29 +90,37 @@ loop-store-preserved g c =
     }
 
 -- all stores were gone through
-pub returns-clause-over : goal.returns-clause-over
-returns-clause-over g c =
-    subst (λ stores. AreEach IsNewOver stores c.loop-store.buffers.items)
-    (all_through c.loop-store.yielded c.loop-store.store-iterator.rest.items c.args.stores.items
-    c.loop-store.invariant.all
-    (nil_from_length c.loop-store.store-iterator.rest.items
-    (omega (arith, c.in-None.ensures.steps.0, c.loop-store.store-iterator.rest.ok))))
-    c.loop-store.invariant.over
+pub returns : goal.returns
+returns g c =
+    record {
+      over = subst (λ stores. AreEach IsNewOver stores c.loop-store.buffers.items)
+          (all_through c.loop-store.yielded c.loop-store.store-iterator.rest.items
+          c.args.stores.items
+          c.loop-store.invariant.all
+          (nil_from_length c.loop-store.store-iterator.rest.items
+          (omega (arith, c.in-None.ensures.steps.0, c.loop-store.store-iterator.rest.ok))))
+          c.loop-store.invariant.over;
+      refusal = tt;
+    }
 
 -- the store that is blamed stands behind those so far
-pub returns-in-Err-clause-refusal : goal.returns-in-Err-clause-refusal
-returns-in-Err-clause-refusal g c =
-    blamed_at g.S.BlockStore c.loop-store.yielded c.in-Some.store
-    (into_iter_items c.next.new.self) c.args.stores.items c.len-number.result c.unformatted.result
-    (ap (λ rest. c.loop-store.yielded ++ rest) (sym c.in-Some.ensures.steps.0)
-    ∙ c.loop-store.invariant.all)
-    (omega (
-      arith,
-      c.len-number.ensures,
-      c.loop-store.buffers.ok,
-      c.loop-store.invariant.over.count,
-    ))
-    (c.unformatted.ensures c.in-Some.store c.in-Err.ensures.refusal)
+pub returns-in-Err : goal.returns-in-Err
+returns-in-Err g c =
+    record {
+      over = tt;
+      refusal = blamed_at g.S.BlockStore c.loop-store.yielded c.in-Some.store
+          (into_iter_items c.next.new.self) c.args.stores.items c.len-number.result
+          c.unformatted.result
+          (ap (λ rest. c.loop-store.yielded ++ rest) (sym c.in-Some.ensures.steps.0)
+          ∙ c.loop-store.invariant.all)
+          (omega (
+            arith,
+            c.len-number.ensures,
+            c.loop-store.buffers.ok,
+            c.loop-store.invariant.over.count,
+          ))
+          (c.unformatted.ensures c.in-Some.store c.in-Err.ensures.refusal);
+    }
 
 -- the next store is one of those
 pub format-requires : goal.format-requires
@@ -120,7 +129,10 @@ format-requires g c trusted =
     (subst (All g.S.BlockStore.honest) c.in-Some.ensures.steps.0
     (c.loop-store.invariant.honest trusted))
 
-pub returns-in_err-buffers-clause-refusal : goal.returns-in_err-buffers-clause-refusal
-returns-in_err-buffers-clause-refusal g c =
-    memory_refuses g.S.BlockStore c.args.stores.items c.from_residual.result
-    c.from_residual.ensures.1
+pub returns-in_err-buffers : goal.returns-in_err-buffers
+returns-in_err-buffers g c =
+    record {
+      over = IfOk-from_err c.from_residual.result _ c.from_residual.ensures.0;
+      refusal = memory_refuses g.S.BlockStore c.args.stores.items c.from_residual.result
+          c.from_residual.ensures.1;
+    }

@@ -4,6 +4,7 @@ use Rattle.std.specs.Vec.Iter.{into_iter_items}
 use Rattle.article_verdict.specs.Config.{terms_of}
 use Rattle.relay_live.specs.PeerServers.{kept_of, peer_of, terms_at}
 use Rattle.relay_live.proofs.Accounts.{all_read, map_next}
+use Rattle.std.proofs.lemmas.Result.{IfOk-from_err}
 use Rattle.relay_live.proofs.running.ends_of.Goals as goal
 
 pub loop-peer_source-init : goal.loop-peer_source-init
@@ -46,27 +47,28 @@ loop-peer_source-preserved g c =
           (map (λ d. []) sources) left next inv.new pushed.items steps.0 c.new.ensures.none;
     }
 
-pub returns-clause-peers : goal.returns-clause-peers
-returns-clause-peers g c =
+pub returns : goal.returns
+returns g c =
+    let inv = c.loop-peer_source.invariant in
+    let ends = c.loop-peer_source.ends.items in
+    let sources = c.args.peer_sources.items in
     let rest = c.loop-peer_source.peer_source-iterator in
-    let none : into_iter_items rest ≡ [] = nil_from_length rest.rest.items
+    let left = into_iter_items rest in
+    let none : left ≡ [] = nil_from_length rest.rest.items
     (omega (arith, c.in-None.ensures.steps.0, rest.rest.ok)) in
-    all_read (λ d. d.peer) peer_of c.loop-peer_source.ends.items (into_iter_items rest)
-    (map (λ d. d.peer) c.args.peer_sources.items) c.loop-peer_source.invariant.peers none
+    record {
+      peers = all_read (λ d. d.peer) peer_of ends left (map (λ d. d.peer) sources) inv.peers none;
+      terms = all_read (λ d. terms_of c.args.config.now) terms_at ends left
+          (map (λ d. terms_of c.args.config.now) sources) inv.terms none;
+      new = all_read (λ d. []) kept_of ends left (map (λ d. []) sources) inv.new none;
+    }
 
-pub returns-clause-terms : goal.returns-clause-terms
-returns-clause-terms g c =
-    let rest = c.loop-peer_source.peer_source-iterator in
-    let none : into_iter_items rest ≡ [] = nil_from_length rest.rest.items
-    (omega (arith, c.in-None.ensures.steps.0, rest.rest.ok)) in
-    all_read (λ d. terms_of c.args.config.now) terms_at c.loop-peer_source.ends.items
-    (into_iter_items rest) (map (λ d. terms_of c.args.config.now) c.args.peer_sources.items)
-    c.loop-peer_source.invariant.terms none
-
-pub returns-clause-new : goal.returns-clause-new
-returns-clause-new g c =
-    let rest = c.loop-peer_source.peer_source-iterator in
-    let none : into_iter_items rest ≡ [] = nil_from_length rest.rest.items
-    (omega (arith, c.in-None.ensures.steps.0, rest.rest.ok)) in
-    all_read (λ d. []) kept_of c.loop-peer_source.ends.items (into_iter_items rest)
-    (map (λ d. []) c.args.peer_sources.items) c.loop-peer_source.invariant.new none
+-- where memory is refused there is none
+pub returns-in_err-ends : goal.returns-in_err-ends
+returns-in_err-ends g c =
+    let told = c.from_residual in
+    record {
+      peers = IfOk-from_err told.result _ told.ensures.0;
+      terms = IfOk-from_err told.result _ told.ensures.0;
+      new = IfOk-from_err told.result _ told.ensures.0;
+    }

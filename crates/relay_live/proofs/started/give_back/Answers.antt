@@ -8,7 +8,7 @@ use Rattle.relay_live.proofs.started.give_back.Goals as goal
 
 pub loop-unopened-init : goal.loop-unopened-init
 loop-unopened-init g c = record {
-  all = c.into_iter-unopened-iterator.ensures.into_iter_gives.0;
+  all = ap (λ it. it.rest.items) c.into_iter-unopened-iterator.ensures.into_iter_gives;
   items = sym (append-nil c.args.room.items);
   capacity = refl;
 }
@@ -19,7 +19,6 @@ push_reserved-requires g c =
       arith,
       c.requires,
       c.loop-unopened.stores.ok,
-      c.args.buffers.ok,
       c.args.room.ok,
       c.loop-unopened.invariant.capacity,
       ap length c.loop-unopened.invariant.items,
@@ -27,7 +26,7 @@ push_reserved-requires g c =
           (map (λ one. store_of (inside (unopened_in one))) c.loop-unopened.yielded),
       length-map c.loop-unopened.yielded (λ one. store_of (inside (unopened_in one))),
       count_through c.loop-unopened.yielded c.loop-unopened.unopened-iterator.rest.items
-          c.args.buffers.items c.in-Some.unopened c.next.new.self.rest.items
+          c.args.buffers.rest.items c.in-Some.unopened c.next.new.self.rest.items
           c.loop-unopened.invariant.all
           c.in-Some.ensures.steps.0,
     )
@@ -35,7 +34,7 @@ push_reserved-requires g c =
 pub loop-unopened-preserved : goal.loop-unopened-preserved
 loop-unopened-preserved g c = record {
   all = one_through c.loop-unopened.yielded c.loop-unopened.unopened-iterator.rest.items
-      c.args.buffers.items c.in-Some.unopened c.next.new.self.rest.items
+      c.args.buffers.rest.items c.in-Some.unopened c.next.new.self.rest.items
       c.loop-unopened.invariant.all
       c.in-Some.ensures.steps.0;
   items = made_more (λ one. store_of (inside (unopened_in one))) c.args.room.items
@@ -45,12 +44,16 @@ loop-unopened-preserved g c = record {
   capacity = c.push_reserved.ensures.capacity ∙ c.loop-unopened.invariant.capacity;
 }
 
-pub returns-clause-items : goal.returns-clause-items
-returns-clause-items g c =
-    c.loop-unopened.invariant.items
-    ∙ ap (λ through. c.args.room.items ++ map (λ one. store_of (inside (unopened_in one))) through)
-    (all_through c.loop-unopened.yielded c.loop-unopened.unopened-iterator.rest.items
-    c.args.buffers.items
-    c.loop-unopened.invariant.all
-    (nil_from_length c.loop-unopened.unopened-iterator.rest.items
-    (omega (arith, c.in-None.ensures.steps.0, c.loop-unopened.unopened-iterator.rest.ok))))
+pub returns : goal.returns
+returns g c =
+    record {
+      items = c.loop-unopened.invariant.items
+          ∙ ap (λ through. c.args.room.items ++ map (λ one. store_of (inside (unopened_in one)))
+          through)
+          (all_through c.loop-unopened.yielded c.loop-unopened.unopened-iterator.rest.items
+          c.args.buffers.rest.items
+          c.loop-unopened.invariant.all
+          (nil_from_length c.loop-unopened.unopened-iterator.rest.items
+          (omega (arith, c.in-None.ensures.steps.0, c.loop-unopened.unopened-iterator.rest.ok))));
+      capacity = c.loop-unopened.invariant.capacity;
+    }

@@ -42,11 +42,15 @@ loop-buffer-preserved g c = record {
   capacity = c.push_reserved.ensures.capacity ∙ c.loop-buffer.invariant.capacity;
 }
 
-pub returns-clause-items : goal.returns-clause-items
-returns-clause-items g c =
-    c.loop-buffer.invariant.items
-    ∙ ap (λ through. c.args.room.items ++ map (λ one. store_of (buffer_of one)) through)
-    (all_through c.loop-buffer.yielded c.loop-buffer.buffer-iterator.rest.items c.args.buffers.items
-    c.loop-buffer.invariant.all
-    (nil_from_length c.loop-buffer.buffer-iterator.rest.items
-    (omega (arith, c.in-None.ensures.steps.0, c.loop-buffer.buffer-iterator.rest.ok))))
+pub returns : goal.returns
+returns g c =
+    record {
+      items = c.loop-buffer.invariant.items
+          ∙ ap (λ through. c.args.room.items ++ map (λ one. store_of (buffer_of one)) through)
+          (all_through c.loop-buffer.yielded c.loop-buffer.buffer-iterator.rest.items
+          c.args.buffers.items
+          c.loop-buffer.invariant.all
+          (nil_from_length c.loop-buffer.buffer-iterator.rest.items
+          (omega (arith, c.in-None.ensures.steps.0, c.loop-buffer.buffer-iterator.rest.ok))));
+      capacity = c.loop-buffer.invariant.capacity;
+    }

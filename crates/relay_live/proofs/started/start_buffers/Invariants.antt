@@ -1,12 +1,15 @@
-use Rattle.std.proofs.Common.{◌≡◌, ◌≤◌, ◌++◌, length}
-use Rattle.relay_live.specs.Starting.{HasTried, tried_count, tried_room}
+use Rattle.std.proofs.Common.{◌≤◌, length}
+use Rattle.std.specs.Prelude.{vec_capacity}
+use Rattle.std.specs.Vec.Iter.{into_iter_len}
+use Rattle.relay_live.proofs.StartedBuffers.{StartedSoFar}
 use Rattle.relay_live.proofs.started.start_buffers.Given as goal
 
--- the buffers so far are started, or one was refused
+-- the buffers so far are started
 abbrev pub invariant-loop-store : goal.invariant-loop-store
 invariant-loop-store g l = record {
-  all : l.yielded ++ l.store-iterator.rest.items ≡ l.fn.stores.items;
-  tried : HasTried l.fn.stop l.yielded l.starting;
-  count : tried_count l.starting ≡ length l.yielded;
-  room : length l.fn.stores.items ≤ tried_room l.starting;
+  so_far : StartedSoFar l.fn.stop l.fn.stores.items l.left.rest.items l.buffers.items l.mixed;
+  room : length l.fn.stores.items ≤ vec_capacity l.buffers;
 }
+
+abbrev pub decreases-loop-store : goal.decreases-loop-store
+decreases-loop-store g l = into_iter_len l.left

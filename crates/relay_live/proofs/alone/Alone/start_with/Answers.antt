@@ -14,16 +14,21 @@ use Rattle.relay_live.specs.Starting.{IsRefusedRightly, StartsOver}
 use Rattle.relay_live.proofs.alone.Alone.start_with.Goals as goal
 
 -- the text isn't read
-pub returns-in-Err-clause-refused : goal.returns-in-Err-clause-refused
-returns-in-Err-clause-refused g c =
-    subst (λ text. IsRefusedRightly g.S.BlockStore c.args.config.now c.args.stopped.stores.items
-    text c.refused.result)
-    c.deref.ensures.value
-    (unread_or_room g.S.BlockStore c.args.config.now c.args.stopped.stores.items
-    c.deref.result.now c.refused.result c.in-Err.error
-    (ap (λ (u : Unstarted g.row.S.Denot). u.error) c.refused.ensures ∙ c.unread.ensures)
-    (ap (λ (u : Unstarted g.row.S.Denot). u.buffer) c.refused.ensures)
-    (ap (λ (u : Unstarted g.row.S.Denot). u.stores.items) c.refused.ensures) c.in-Err.ensures.none)
+pub returns-in-Err : goal.returns-in-Err
+returns-in-Err g c =
+    record {
+      started = tt;
+      refused = subst (λ text. IsRefusedRightly g.S.BlockStore c.args.config.now
+          c.args.stopped.stores.items
+          text c.refused.result)
+          c.deref.ensures.value
+          (unread_or_room g.S.BlockStore c.args.config.now c.args.stopped.stores.items
+          c.deref.result.now c.refused.result c.in-Err.error
+          (ap (λ (u : Unstarted g.row.S.Denot). u.error) c.refused.ensures ∙ c.unread.ensures)
+          (ap (λ (u : Unstarted g.row.S.Denot). u.buffer) c.refused.ensures)
+          (ap (λ (u : Unstarted g.row.S.Denot). u.stores.items) c.refused.ensures)
+          c.in-Err.ensures.none);
+    }
 
 pub start_buffers-requires-clause-few : goal.start_buffers-requires-clause-few
 start_buffers-requires-clause-few g c =
@@ -35,113 +40,135 @@ start_buffers-requires-clause-few g c =
     )
 
 -- a buffer isn't started
-pub returns-in-Err-start_buffers-clause-refused : goal.returns-in-Err-start_buffers-clause-refused
-returns-in-Err-start_buffers-clause-refused g c =
-    subst (λ text. IsRefusedRightly g.S.BlockStore c.args.config.now c.args.stopped.stores.items
-    text c.in-Err-start_buffers.unstarted)
-    c.deref.ensures.value
-    (not_started g.S.BlockStore c.args.config.now c.args.stopped.stores.items c.requires.stores
-    c.deref.result.now (history_view c.in-Ok.history) c.in-Ok.ensures.reads
-    c.in-Ok.ensures.only c.one_head.ensures.one c.in-Err-start_buffers.unstarted
-    c.in-Err-start_buffers.ensures.refusal)
+pub returns-in-Err-start_buffers : goal.returns-in-Err-start_buffers
+returns-in-Err-start_buffers g c =
+    record {
+      started = tt;
+      refused = subst (λ text. IsRefusedRightly g.S.BlockStore c.args.config.now
+          c.args.stopped.stores.items
+          text c.in-Err-start_buffers.unstarted)
+          c.deref.ensures.value
+          (not_started g.S.BlockStore c.args.config.now c.args.stopped.stores.items
+          c.requires.stores
+          c.deref.result.now (history_view c.in-Ok.history) c.in-Ok.ensures.reads
+          c.in-Ok.ensures.only c.one_head.ensures.one c.in-Err-start_buffers.unstarted
+          c.in-Err-start_buffers.ensures.refusal);
+    }
 
 -- there is no memory to see how far they are filled
-pub returns-in-Err-all_filled-clause-refused : goal.returns-in-Err-all_filled-clause-refused
-returns-in-Err-all_filled-clause-refused g c =
-    no_room g.S.BlockStore c.args.config.now c.args.stopped.stores.items
-    c.args.stopped.history.items c.refused-in-Err-all_filled.result
-    (ap (λ (u : Unstarted g.row.S.Denot). u.error) c.refused-in-Err-all_filled.ensures)
-    (ap (λ (u : Unstarted g.row.S.Denot). u.buffer) c.refused-in-Err-all_filled.ensures)
-    (subst (AreEach (IsUnwritten g.S.BlockStore None) c.args.stopped.stores.items)
-    (sym (ap (λ (u : Unstarted g.row.S.Denot). u.stores.items) c.refused-in-Err-all_filled.ensures
-    ∙ c.into_stores.ensures))
-    (started_stores c.args.stopped.stores.items c.in-Ok-start_buffers.started.buffers.items
-    c.in-Ok-start_buffers.ensures.started.over))
+pub returns-in-Err-all_filled : goal.returns-in-Err-all_filled
+returns-in-Err-all_filled g c =
+    record {
+      started = tt;
+      refused = no_room g.S.BlockStore c.args.config.now c.args.stopped.stores.items
+          c.args.stopped.history.items c.refused-in-Err-all_filled.result
+          (ap (λ (u : Unstarted g.row.S.Denot). u.error) c.refused-in-Err-all_filled.ensures)
+          (ap (λ (u : Unstarted g.row.S.Denot). u.buffer) c.refused-in-Err-all_filled.ensures)
+          (subst (AreEach (IsUnwritten g.S.BlockStore None) c.args.stopped.stores.items)
+          (sym (ap (λ (u : Unstarted g.row.S.Denot). u.stores.items)
+          c.refused-in-Err-all_filled.ensures
+          ∙ c.into_stores.ensures))
+          (started_stores c.args.stopped.stores.items c.in-Ok-start_buffers.started.buffers.items
+          c.in-Ok-start_buffers.ensures.started.over));
+    }
 
 -- the history is ahead
-pub returns-then-is_ahead-clause-refused : goal.returns-then-is_ahead-clause-refused
-returns-then-is_ahead-clause-refused g c =
-    let config = c.args.config.now in
-    let kept = history_view c.in-Ok.history in
-    let buffers = c.in-Ok-start_buffers.started.buffers.items in
-    let are = c.in-Ok-start_buffers.ensures.started in
-    subst (λ text. IsRefusedRightly g.S.BlockStore config c.args.stopped.stores.items text
-    c.refused-then-is_ahead.result)
-    c.deref.ensures.value
-    (ahead_of g.S.BlockStore config c.args.stopped.stores.items c.requires.stores
-    c.deref.result.now kept c.in-Ok.ensures.reads c.in-Ok.ensures.only c.one_head.ensures.one
-    c.refused-then-is_ahead.result buffers are
-    (ahead_as config c.args.stopped.stores.items c.requires.stores c.deref.result.now kept
-    c.in-Ok.ensures.reads c.in-Ok.ensures.only buffers are c.in-Ok-all_filled.filled.items _
-    c.in-Ok-all_filled.ensures
-    (sym c.if-is_ahead.true ∙ c.is_ahead.ensures
-    ∙ ap (λ (fs : List code.Filled). is_ahead (map filled_view fs) kept)
-    c.deref-2.ensures.value))
-    (ap (λ (u : Unstarted g.row.S.Denot). u.error) c.refused-then-is_ahead.ensures)
-    (ap (λ (u : Unstarted g.row.S.Denot). u.buffer) c.refused-then-is_ahead.ensures)
-    (subst (AreEach (IsUnwritten g.S.BlockStore None) c.args.stopped.stores.items)
-    (sym (ap (λ (u : Unstarted g.row.S.Denot). u.stores.items) c.refused-then-is_ahead.ensures
-    ∙ c.into_stores-then-is_ahead.ensures))
-    (started_stores c.args.stopped.stores.items buffers are.over)))
+pub returns-then-is_ahead : goal.returns-then-is_ahead
+returns-then-is_ahead g c =
+    record {
+      started = tt;
+      refused = let config = c.args.config.now in
+          let kept = history_view c.in-Ok.history in
+          let buffers = c.in-Ok-start_buffers.started.buffers.items in
+          let are = c.in-Ok-start_buffers.ensures.started in
+          subst (λ text. IsRefusedRightly g.S.BlockStore config c.args.stopped.stores.items text
+          c.refused-then-is_ahead.result)
+          c.deref.ensures.value
+          (ahead_of g.S.BlockStore config c.args.stopped.stores.items c.requires.stores
+          c.deref.result.now kept c.in-Ok.ensures.reads c.in-Ok.ensures.only c.one_head.ensures.one
+          c.refused-then-is_ahead.result buffers are
+          (ahead_as config c.args.stopped.stores.items c.requires.stores c.deref.result.now kept
+          c.in-Ok.ensures.reads c.in-Ok.ensures.only buffers are c.in-Ok-all_filled.filled.items _
+          c.in-Ok-all_filled.ensures
+          (sym c.if-is_ahead.true ∙ c.is_ahead.ensures
+          ∙ ap (λ (fs : List code.Filled). is_ahead (map filled_view fs) kept)
+          c.deref-2.ensures.value))
+          (ap (λ (u : Unstarted g.row.S.Denot). u.error) c.refused-then-is_ahead.ensures)
+          (ap (λ (u : Unstarted g.row.S.Denot). u.buffer) c.refused-then-is_ahead.ensures)
+          (subst (AreEach (IsUnwritten g.S.BlockStore None) c.args.stopped.stores.items)
+          (sym (ap (λ (u : Unstarted g.row.S.Denot). u.stores.items) c.refused-then-is_ahead.ensures
+          ∙ c.into_stores-then-is_ahead.ensures))
+          (started_stores c.args.stopped.stores.items buffers are.over)));
+    }
 
 pub resume-requires-clause-holds : goal.resume-requires-clause-holds
 resume-requires-clause-holds g c = c.in-Ok.ensures.reads.holds
 
 -- there is no memory for what is made of it
-pub returns-in-Err-resume-clause-refused : goal.returns-in-Err-resume-clause-refused
-returns-in-Err-resume-clause-refused g c =
-    no_room g.S.BlockStore c.args.config.now c.args.stopped.stores.items
-    c.args.stopped.history.items c.refused-in-Err-resume.result
-    (ap (λ (u : Unstarted g.row.S.Denot). u.error) c.refused-in-Err-resume.ensures)
-    (ap (λ (u : Unstarted g.row.S.Denot). u.buffer) c.refused-in-Err-resume.ensures)
-    (subst (AreEach (IsUnwritten g.S.BlockStore None) c.args.stopped.stores.items)
-    (sym (ap (λ (u : Unstarted g.row.S.Denot). u.stores.items) c.refused-in-Err-resume.ensures
-    ∙ c.into_stores-in-Err-resume.ensures))
-    (started_stores c.args.stopped.stores.items c.in-Ok-start_buffers.started.buffers.items
-    c.in-Ok-start_buffers.ensures.started.over))
+pub returns-in-Err-resume : goal.returns-in-Err-resume
+returns-in-Err-resume g c =
+    record {
+      started = tt;
+      refused = no_room g.S.BlockStore c.args.config.now c.args.stopped.stores.items
+          c.args.stopped.history.items c.refused-in-Err-resume.result
+          (ap (λ (u : Unstarted g.row.S.Denot). u.error) c.refused-in-Err-resume.ensures)
+          (ap (λ (u : Unstarted g.row.S.Denot). u.buffer) c.refused-in-Err-resume.ensures)
+          (subst (AreEach (IsUnwritten g.S.BlockStore None) c.args.stopped.stores.items)
+          (sym (ap (λ (u : Unstarted g.row.S.Denot). u.stores.items) c.refused-in-Err-resume.ensures
+          ∙ c.into_stores-in-Err-resume.ensures))
+          (started_stores c.args.stopped.stores.items c.in-Ok-start_buffers.started.buffers.items
+          c.in-Ok-start_buffers.ensures.started.over));
+    }
 
 -- a head isn't opened
-pub returns-clause-refused : goal.returns-clause-refused
-returns-clause-refused g c =
-    let config = c.args.config.now in
-    let kept = history_view c.in-Ok.history in
-    let buffers = c.in-Ok-start_buffers.started.buffers.items in
-    let are = c.in-Ok-start_buffers.ensures.started in
-    subst (λ text. IsRefusedRightly g.S.BlockStore config c.args.stopped.stores.items text
-    c.in-Err-over.unstarted)
-    c.deref.ensures.value
-    (no_head g.S.BlockStore config c.args.stopped.stores.items c.requires.stores
-    c.deref.result.now kept c.in-Ok.ensures.reads c.in-Ok.ensures.only c.one_head.ensures.one
-    c.in-Err-over.unstarted buffers are
-    (ahead_as config c.args.stopped.stores.items c.requires.stores c.deref.result.now kept
-    c.in-Ok.ensures.reads c.in-Ok.ensures.only buffers are c.in-Ok-all_filled.filled.items _
-    c.in-Ok-all_filled.ensures
-    (sym c.if-is_ahead.false ∙ c.is_ahead.ensures
-    ∙ ap (λ (fs : List code.Filled). is_ahead (map filled_view fs) kept)
-    c.deref-2.ensures.value))
-    (not_opened c.args.stopped.stores.items kept.stop buffers c.in-Err-over.unstarted are
-    c.in-Err-over.ensures.refusal))
+pub returns : goal.returns
+returns g c =
+    record {
+      started = tt;
+      refused = let config = c.args.config.now in
+          let kept = history_view c.in-Ok.history in
+          let buffers = c.in-Ok-start_buffers.started.buffers.items in
+          let are = c.in-Ok-start_buffers.ensures.started in
+          subst (λ text. IsRefusedRightly g.S.BlockStore config c.args.stopped.stores.items text
+          c.in-Err-over.unstarted)
+          c.deref.ensures.value
+          (no_head g.S.BlockStore config c.args.stopped.stores.items c.requires.stores
+          c.deref.result.now kept c.in-Ok.ensures.reads c.in-Ok.ensures.only c.one_head.ensures.one
+          c.in-Err-over.unstarted buffers are
+          (ahead_as config c.args.stopped.stores.items c.requires.stores c.deref.result.now kept
+          c.in-Ok.ensures.reads c.in-Ok.ensures.only buffers are c.in-Ok-all_filled.filled.items _
+          c.in-Ok-all_filled.ensures
+          (sym c.if-is_ahead.false ∙ c.is_ahead.ensures
+          ∙ ap (λ (fs : List code.Filled). is_ahead (map filled_view fs) kept)
+          c.deref-2.ensures.value))
+          (not_opened c.args.stopped.stores.items kept.stop buffers c.in-Err-over.unstarted are
+          c.in-Err-over.ensures.refusal));
+    }
 
 -- the parts start
-pub returns-in-Ok-over-clause-started : goal.returns-in-Ok-over-clause-started
-returns-in-Ok-over-clause-started g c =
-    let config = c.args.config.now in
-    let kept = history_view c.in-Ok.history in
-    let buffers = c.in-Ok-start_buffers.started.buffers.items in
-    let are = c.in-Ok-start_buffers.ensures.started in
-    let is = c.in-Ok-over.ensures in
-    subst (λ text. StartsOver config c.args.stopped.stores.items text c.in-Ok-over.alone)
-    c.deref.ensures.value
-    (starts config c.args.stopped.stores.items c.requires.stores c.deref.result.now kept
-    c.in-Ok.ensures.reads c.in-Ok.ensures.only buffers are c.in-Ok-over.alone c.in-Ok-resume.desks
-    (ahead_as config c.args.stopped.stores.items c.requires.stores c.deref.result.now kept
-    c.in-Ok.ensures.reads c.in-Ok.ensures.only buffers are c.in-Ok-all_filled.filled.items _
-    c.in-Ok-all_filled.ensures
-    (sym c.if-is_ahead.false ∙ c.is_ahead.ensures
-    ∙ ap (λ (fs : List code.Filled). is_ahead (map filled_view fs) kept)
-    c.deref-2.ensures.value))
-    c.in-Ok-resume.ensures is.opened is.desks.0 is.desks.1 is.desks.2 is.desks.3 is.stop
-    is.settings.0 is.settings.1)
+pub returns-in-Ok-over : goal.returns-in-Ok-over
+returns-in-Ok-over g c =
+    record {
+      started = let config = c.args.config.now in
+          let kept = history_view c.in-Ok.history in
+          let buffers = c.in-Ok-start_buffers.started.buffers.items in
+          let are = c.in-Ok-start_buffers.ensures.started in
+          let is = c.in-Ok-over.ensures in
+          subst (λ text. StartsOver config c.args.stopped.stores.items text c.in-Ok-over.alone)
+          c.deref.ensures.value
+          (starts config c.args.stopped.stores.items c.requires.stores c.deref.result.now kept
+          c.in-Ok.ensures.reads c.in-Ok.ensures.only buffers are c.in-Ok-over.alone
+          c.in-Ok-resume.desks
+          (ahead_as config c.args.stopped.stores.items c.requires.stores c.deref.result.now kept
+          c.in-Ok.ensures.reads c.in-Ok.ensures.only buffers are c.in-Ok-all_filled.filled.items _
+          c.in-Ok-all_filled.ensures
+          (sym c.if-is_ahead.false ∙ c.is_ahead.ensures
+          ∙ ap (λ (fs : List code.Filled). is_ahead (map filled_view fs) kept)
+          c.deref-2.ensures.value))
+          c.in-Ok-resume.ensures is.opened is.desks.0 is.desks.1 is.desks.2 is.desks.3 is.stop
+          is.settings.0 is.settings.1);
+      refused = tt;
+    }
 
 pub over-requires : goal.over-requires
 over-requires g c = record {

@@ -1,32 +1,75 @@
-use Rattle.std.proofs.Common.{◌≡◌, ◌∙◌, refl, subst, true}
+use Rattle.std.proofs.Common.{◌≡◌, ◌∙◌, refl, subst, sym, true}
 use Rattle.std.proofs.lemmas.List.{length-map}
 use Rattle.live_store.specs.Steps.{buffer_of}
 use Rattle.relay_core.specs.Stopping.{next_stop}
-use Rattle.relay_live.specs.Stopping.{AreShutWith}
+use Rattle.relay_live.specs.Stopping.{AreShutWith, ComesBack}
+use Rattle.relay_live.proofs.Parts.{as_many, room_again}
 use Rattle.relay_live.proofs.shared.Shared.shut.Goals as goal
 
--- the parts were stopped at the stop after the relay's last
-pub returns-in-Ok-shut-clause-known : goal.returns-in-Ok-shut-clause-known
-returns-in-Ok-shut-clause-known g c =
-    subst
-    (λ n. g.J.StorePremises.trusted ≡ true
-    → AreShutWith g.S.BlockStore g.J.StorePremises.register (next_stop n)
-    c.in-Ok-shut.stopped.stores.items)
-    c.into_alone-alone.ensures.stop c.in-Ok-shut.ensures.shut.known
-
--- a store of each buffer
-pub returns-in-Ok-shut-clause-stores : goal.returns-in-Ok-shut-clause-stores
-returns-in-Ok-shut-clause-stores g c =
-    c.in-Ok-shut.ensures.shut.each.count
-    ∙ length-map c.into_alone-alone.result.0.buffers.items buffer_of
-    ∙ c.into_alone-alone.ensures.buffers
-
 -- there is no room for its parts
-pub returns-in_default-clause-refused : goal.returns-in_default-clause-refused
-returns-in_default-clause-refused g c = record {
-  buffers = refl;
-  groups = refl;
-  feeds = refl;
-  ends = refl;
-  remembers = refl;
+pub returns-in_default : goal.returns-in_default
+returns-in_default g c = record {
+  stores = tt;
+  known = tt;
+  refused = record { buffers = refl; groups = refl; feeds = refl; ends = refl; remembers = refl };
 }
+
+-- a store of each buffer, and the parts were stopped at the stop after the relay's last
+pub returns-in-Ok-shut : goal.returns-in-Ok-shut
+returns-in-Ok-shut g c =
+    let parts = c.into_alone-alone.ensures.parts in
+    let shut = c.in-Ok-shut.ensures.shut in
+    record {
+      stores = shut.each.count
+          ∙ length-map c.into_alone-alone.result.0.buffers.items buffer_of
+          ∙ sym parts.buffers;
+      known = subst
+          (λ n. g.J.StorePremises.trusted ≡ true
+          → AreShutWith g.S.BlockStore g.J.StorePremises.register (next_stop n)
+          c.in-Ok-shut.stopped.stores.items)
+          (sym parts.stop_is) shut.known;
+      refused = tt;
+    }
+
+-- parts that came back as they were go behind locks again
+pub over-requires : goal.over-requires
+over-requires g c =
+    let parts = c.into_alone-alone in
+    let back = subst (ComesBack parts.result.0) c.in-Err-NotIdle.field-0-is
+    c.in-Err-NotIdle.ensures.back in
+    room_again c.args.self parts.result.0 c.in-Err-NotIdle.alone _ parts.ensures.parts back.0
+    c.in-Ok.rooms parts.result.1.rooms parts.ensures.rooms c.in-Ok.ensures.locks
+
+pub over-requires-in-Err-Memory : goal.over-requires-in-Err-Memory
+over-requires-in-Err-Memory g c =
+    let parts = c.into_alone-alone in
+    let back = subst (ComesBack parts.result.0) c.in-Err-Memory.field-0-is
+    c.in-Err-Memory.ensures.back in
+    room_again c.args.self parts.result.0 c.in-Err-Memory.alone _ parts.ensures.parts back.0
+    c.in-Ok.rooms parts.result.1.rooms parts.ensures.rooms c.in-Ok.ensures.locks
+
+pub returns-in-Err-NotIdle : goal.returns-in-Err-NotIdle
+returns-in-Err-NotIdle g c =
+    let parts = c.into_alone-alone in
+    let back = subst (ComesBack parts.result.0) c.in-Err-NotIdle.field-0-is
+    c.in-Err-NotIdle.ensures.back in
+    record {
+      stores = tt;
+      known = tt;
+      refused = as_many c.args.self parts.result.0 c.in-Err-NotIdle.alone _ parts.ensures.parts
+          back.0
+          c.over.result c.over.ensures;
+    }
+
+pub returns-in-Err-Memory : goal.returns-in-Err-Memory
+returns-in-Err-Memory g c =
+    let parts = c.into_alone-alone in
+    let back = subst (ComesBack parts.result.0) c.in-Err-Memory.field-0-is
+    c.in-Err-Memory.ensures.back in
+    record {
+      stores = tt;
+      known = tt;
+      refused = as_many c.args.self parts.result.0 c.in-Err-Memory.alone _ parts.ensures.parts
+          back.0
+          c.over-in-Err-Memory.result c.over-in-Err-Memory.ensures;
+    }

@@ -1,32 +1,32 @@
-use Rattle.std.proofs.Common.{◌∙◌, ap, arith}
+use Rattle.std.proofs.Common.{◌∙◌, ap, arith, refl}
 use Rattle.block_shelf.proofs.NewBufferSet.{same_count}
 use Rattle.block_shelf.specs.declared.starting.Unstarted.{Unstarted}
 use Rattle.relay_live.proofs.StartedRelay.{no_room_before}
 use Rattle.relay_live.proofs.shared.Shared.start.Goals as goal
 
 -- there is no room for locks
-pub returns-in_default-clause-refused : goal.returns-in_default-clause-refused
-returns-in_default-clause-refused g c =
-    no_room_before g.S.BlockStore c.args.config.now c.args.stopped.stores.items
-    c.args.stopped.history.items c.refused.result
-    (ap (λ (u : Unstarted g.row.S.Denot). u.error) c.refused.ensures)
-    (ap (λ (u : Unstarted g.row.S.Denot). u.buffer) c.refused.ensures)
-    (ap (λ (u : Unstarted g.row.S.Denot). u.stores.items) c.refused.ensures)
-
--- there is no room for slots and rounds
-pub returns-in_default-new-clause-refused : goal.returns-in_default-new-clause-refused
-returns-in_default-new-clause-refused g c =
-    no_room_before g.S.BlockStore c.args.config.now c.args.stopped.stores.items
-    c.args.stopped.history.items c.refused-in_default-new.result
-    (ap (λ (u : Unstarted g.row.S.Denot). u.error) c.refused-in_default-new.ensures)
-    (ap (λ (u : Unstarted g.row.S.Denot). u.buffer) c.refused-in_default-new.ensures)
-    (ap (λ (u : Unstarted g.row.S.Denot). u.stores.items) c.refused-in_default-new.ensures)
+pub returns-in_default : goal.returns-in_default
+returns-in_default g c =
+    let told = c.refused in
+    record {
+      buffers = tt;
+      groups = tt;
+      feeds = tt;
+      ends = tt;
+      remember = tt;
+      history = tt;
+      refused = no_room_before g.S.BlockStore c.args.config.now c.args.stopped.stores.items
+          c.args.stopped.history.items told.result
+          (ap (λ (u : Unstarted g.row.S.Denot). u.error) told.ensures)
+          (ap (λ (u : Unstarted g.row.S.Denot). u.buffer) told.ensures)
+          (ap (λ (u : Unstarted g.row.S.Denot). u.stores.items) told.ensures);
+    }
 
 -- there is room for as many locks
 pub over-requires : goal.over-requires
 over-requires g c =
-    let room = c.in-Ok.ensures in
-    let started = c.in-Ok-start.ensures.started in
+    let room = c.in-Ok.ensures.rooms in
+    let started = c.in-Ok-start_with.ensures.started in
     record {
       no_shards = room.no_shards;
       no_buffers = room.no_buffers;
@@ -44,40 +44,54 @@ over-requires g c =
         arith,
         room.placed_groups_room,
         started.placed_group_count,
-        c.len-2.ensures,
+        c.len-groups.ensures,
         c.args.config.now.buffers.groups.ok,
       );
     }
 
--- a buffer for each store, and so for each of the configuration
-pub returns-in-Ok-start-clause-buffers : goal.returns-in-Ok-start-clause-buffers
-returns-in-Ok-start-clause-buffers g c =
-    let started = c.in-Ok-start.ensures.started in
-    c.over.ensures.buffers ∙ started.opened.count ∙ started.from_stores.over.count
-    ∙ same_count g.S.BlockStore c.args.config.now.buffers c.args.stopped.stores.items
-    c.requires.stores
-
-pub returns-in-Ok-start-clause-groups : goal.returns-in-Ok-start-clause-groups
-returns-in-Ok-start-clause-groups g c =
-    c.over.ensures.groups ∙ c.in-Ok-start.ensures.started.placed_group_count
-
-pub returns-in-Ok-start-clause-feeds : goal.returns-in-Ok-start-clause-feeds
-returns-in-Ok-start-clause-feeds g c =
-    c.over.ensures.feeds ∙ c.in-Ok-start.ensures.started.feed_count
-
-pub returns-in-Ok-start-clause-remember : goal.returns-in-Ok-start-clause-remember
-returns-in-Ok-start-clause-remember g c =
-    c.over.ensures.remember ∙ c.in-Ok-start.ensures.started.remembers
-
--- it goes on from the stop of its history
-pub returns-in-Ok-start-clause-history : goal.returns-in-Ok-start-clause-history
-returns-in-Ok-start-clause-history g c =
-    let started = c.in-Ok-start.ensures.started in
+-- a buffer for each store, and so for each of the configuration; it goes on from the stop of its
+-- history
+pub returns-in-Ok-start_with : goal.returns-in-Ok-start_with
+returns-in-Ok-start_with g c =
+    let is = c.over.ensures in
+    let started = c.in-Ok-start_with.ensures.started in
     record {
-      history = started.history;
-      reads = started.reads;
-      stop_is = c.over.ensures.stop ∙ started.stop_is;
+      buffers = is.buffers ∙ started.opened.count ∙ started.from_stores.over.count
+          ∙ same_count g.S.BlockStore c.args.config.now.buffers c.args.stopped.stores.items
+          c.requires.stores;
+      groups = is.groups ∙ started.placed_group_count;
+      feeds = is.feeds ∙ started.feed_count;
+      ends = is.ends ∙ c.in-Ok.ensures.ends_is;
+      remember = is.remembers ∙ started.remembers;
+      history = record {
+        history = started.history;
+        reads = started.reads;
+        stop_is = is.stop_is ∙ started.stop_is;
+      };
+      refused = tt;
     }
 
-pub returns-in-Err-clause-refused : goal.returns-in-Err-clause-refused
-returns-in-Err-clause-refused g c = c.in-Err.ensures.refused
+-- the host has no seed, and the stores come back
+pub returns-in-Err : goal.returns-in-Err
+returns-in-Err g c =
+    record {
+      buffers = tt;
+      groups = tt;
+      feeds = tt;
+      ends = tt;
+      remember = tt;
+      history = tt;
+      refused = refl;
+    }
+
+pub returns-in-Err-start_with : goal.returns-in-Err-start_with
+returns-in-Err-start_with g c =
+    record {
+      buffers = tt;
+      groups = tt;
+      feeds = tt;
+      ends = tt;
+      remember = tt;
+      history = tt;
+      refused = c.in-Err-start_with.ensures.refused;
+    }

@@ -6,7 +6,8 @@ use Rattle.relay_live.proofs.started.StartedBuffers.into_stores.Goals as goal
 pub returns : goal.returns
 returns g c =
     c.give_back.ensures.items
-    ∙ ap (λ room. room ++ stores_of c.args.self.buffers.items) c.args.self.none_back
+    ∙ ap (λ room. room ++ stores_of c.into_iter.result.rest.items) c.args.self.none_back
+    ∙ ap stores_of c.into_iter.ensures.rest
 
 pub give_back-requires : goal.give_back-requires
 give_back-requires g c =
@@ -15,4 +16,6 @@ give_back-requires g c =
       c.args.self.stores_room,
       ap length c.args.self.none_back,
       c.args.self.stores.ok,
+      ap length c.into_iter.ensures.rest,
+      c.args.self.buffers.ok,
     )

@@ -1,87 +1,152 @@
-use Rattle.std.proofs.Common.{◌∙◌, ◌+◌, ◌∷◌, [], Some, ap, arith, length, map, refl, subst, sym}
-use Rattle.std.proofs.lemmas.List.{length-append, length-map, nil_from_length}
-use Rattle.block_shelf.proofs.EachLemmas.{all_through, count_through, none_each, one_through}
+use Rattle.std.proofs.Common.{◌∙◌, ◌++◌, ◌∷◌, [], Some, ap, arith, length, map, refl, subst, sym}
+use Rattle.std.proofs.lemmas.List.{length-append, length-map}
+use Rattle.cyc_buffer.specs.Agreement.{store_of}
+use Rattle.cyc_buffer.specs.Head.{inside}
+use Rattle.block_shelf.proofs.EachLemmas.{count_through, none_each}
 use Rattle.block_shelf.specs.Each.{AreEach}
-use Rattle.block_shelf.specs.Heads.{IsLeftUnopened}
 use Rattle.live_store.specs.Started.{unopened_in}
-use Rattle.relay_live.specs.Starting.{HasOpened, IsOpenedFrom}
+use Rattle.live_store.specs.Steps.{buffer_of}
+use Rattle.relay_live.proofs.OpenedBuffers.{OpenSoFar, failed_here, opened_all, opened_more}
+use Rattle.relay_live.specs.Starting.{IsOpenedFrom, stores_of}
 use Rattle.relay_live.proofs.started.StartedBuffers.open.Goals as goal
 
 pub loop-unopened-init : goal.loop-unopened-init
 loop-unopened-init g c = record {
-  all = c.into_iter-unopened-iterator.ensures.into_iter_gives.0;
-  opened = (
-    subst (AreEach IsOpenedFrom []) (sym c.args.self.none_opened) (none_each IsOpenedFrom),
-    c.args.self.none_back,
-  );
-  count = omega (
-    arith,
-    c.args.self.opened.ok,
-    c.args.self.stores.ok,
-    ap length c.args.self.none_opened,
-    ap length c.args.self.none_back,
-  );
-  room = omega (
-    arith,
-    c.args.self.opened_room,
-    c.args.self.stores_room,
-    c.args.self.buffers.ok,
-  );
+  so_far = record {
+    gone = [];
+    all_is = c.into_iter-left.ensures.rest;
+    are = subst (λ opened. AreEach IsOpenedFrom [] opened) (sym c.args.self.none_opened)
+        (none_each IsOpenedFrom);
+  };
+  room = omega (arith, c.args.self.opened_room, c.args.self.buffers.ok);
 }
 
-pub next-opening-requires : goal.next-opening-requires
-next-opening-requires g c =
+pub push_reserved-requires : goal.push_reserved-requires
+push_reserved-requires g c =
+    let so_far = c.loop-unopened.invariant.so_far in
     omega (
       arith,
-      c.loop-unopened.invariant.count,
       c.loop-unopened.invariant.room,
-      count_through c.loop-unopened.yielded c.loop-unopened.unopened-iterator.rest.items
-          c.args.self.buffers.items c.in-Some.unopened c.next.new.self.rest.items
-          c.loop-unopened.invariant.all c.in-Some.ensures.steps.0,
+      c.loop-unopened.opened.ok,
+      so_far.are.count,
+      count_through so_far.gone c.loop-unopened.left.rest.items c.args.self.buffers.items
+          c.in-Some.unopened c.next.new.self.rest.items so_far.all_is c.in-Some.ensures.cases.0,
     )
 
 pub loop-unopened-preserved : goal.loop-unopened-preserved
-loop-unopened-preserved g c = record {
-  all = one_through c.loop-unopened.yielded c.loop-unopened.unopened-iterator.rest.items
-      c.args.self.buffers.items c.in-Some.unopened c.next.new.self.rest.items
-      c.loop-unopened.invariant.all c.in-Some.ensures.steps.0;
-  opened = c.next-opening.ensures.opens c.loop-unopened.yielded c.loop-unopened.invariant.opened;
-  count = c.next-opening.ensures.count ∙ ap (λ n. n + 1) c.loop-unopened.invariant.count
-      ∙ sym (length-append c.loop-unopened.yielded (c.in-Some.unopened ∷ []));
-  room = omega (arith, c.next-opening.ensures.room, c.loop-unopened.invariant.room);
-}
-
-pub returns-in-Opened-clause-opened : goal.returns-in-Opened-clause-opened
-returns-in-Opened-clause-opened g c =
-    subst (λ us. AreEach IsOpenedFrom us c.in-Opened.buffers.items)
-    (all_through c.loop-unopened.yielded c.loop-unopened.unopened-iterator.rest.items
-    c.args.self.buffers.items c.loop-unopened.invariant.all
-    (nil_from_length c.loop-unopened.unopened-iterator.rest.items
-    (omega (arith, c.in-None.ensures.steps.0, c.loop-unopened.unopened-iterator.rest.ok))))
-    (subst (HasOpened c.loop-unopened.yielded) c.in-Opened.is c.loop-unopened.invariant.opened).0
-
-pub returns-in-Failed-clause-refusal : goal.returns-in-Failed-clause-refusal
-returns-in-Failed-clause-refusal g c =
-    let through = all_through c.loop-unopened.yielded c.loop-unopened.unopened-iterator.rest.items
-    c.args.self.buffers.items c.loop-unopened.invariant.all
-    (nil_from_length c.loop-unopened.unopened-iterator.rest.items
-    (omega (arith, c.in-None.ensures.steps.0, c.loop-unopened.unopened-iterator.rest.ok))) in
-    let was =
-    subst (HasOpened c.loop-unopened.yielded) c.in-Failed.is c.loop-unopened.invariant.opened in
+loop-unopened-preserved g c =
+    let is = c.in-Ok.ensures in
     record {
-      device = refl;
-      place = c.in-Failed.place;
-      within = omega (
-        arith,
-        was.0,
-        ap length through,
-        length-map c.args.self.buffers.items unopened_in,
-      );
-      told = ap Some
-          (c.number_of.ensures
-          (omega (arith, was.0, ap length through, c.args.self.few, c.args.self.buffers.ok)));
-      left = subst
-          (λ us. AreEach (IsLeftUnopened c.in-Failed.place) (map unopened_in us)
-          c.in-Failed.stores.items)
-          through was.1;
+      so_far = subst
+          (OpenSoFar c.args.self.buffers.items c.next.new.self.rest.items)
+          (sym c.push_reserved.ensures.items)
+          (opened_more c.args.self.buffers.items c.loop-unopened.left.rest.items
+          c.loop-unopened.opened.items c.loop-unopened.invariant.so_far c.in-Some.unopened
+          c.next.new.self.rest.items c.in-Some.ensures.cases.0 c.in-Ok.buffer
+          (λ b. record {
+            buffer = record {
+              opened = is.opened;
+              written = is.written;
+              same = is.same;
+              calls = is.calls;
+              no_failure = is.no_failure;
+              count = is.count;
+            };
+            free = is.free;
+            numbers = is.numbers;
+          }));
+      room = omega (arith, c.push_reserved.ensures.capacity, c.loop-unopened.invariant.room);
+    }
+
+pub returns : goal.returns
+returns g c =
+    record {
+      opened = opened_all c.args.self.buffers.items c.loop-unopened.left.rest.items
+          c.loop-unopened.opened.items c.loop-unopened.invariant.so_far
+          (omega (arith, c.in_default.ensures.cases.0, c.loop-unopened.left.rest.ok));
+      refusal = tt;
+    }
+
+-- there is room for all stores
+pub give_up-stores-requires : goal.give_up-stores-requires
+give_up-stores-requires g c =
+    let so_far = c.loop-unopened.invariant.so_far in
+    omega (
+      arith,
+      c.args.self.stores_room,
+      c.args.self.buffers.ok,
+      ap length c.args.self.none_back,
+      c.args.self.stores.ok,
+      c.loop-unopened.opened.ok,
+      so_far.are.count,
+      count_through so_far.gone c.loop-unopened.left.rest.items c.args.self.buffers.items
+          c.in-Some.unopened c.next.new.self.rest.items so_far.all_is c.in-Some.ensures.cases.0,
+    )
+
+pub push_reserved-requires-in-Err : goal.push_reserved-requires-in-Err
+push_reserved-requires-in-Err g c =
+    let so_far = c.loop-unopened.invariant.so_far in
+    omega (
+      arith,
+      c.args.self.stores_room,
+      c.args.self.buffers.ok,
+      ap length c.args.self.none_back,
+      c.give_up-stores.ensures.capacity,
+      c.give_up-stores.result.ok,
+      ap length c.give_up-stores.ensures.items,
+      length-append c.args.self.stores.items
+          (map (λ buffer. store_of (buffer_of buffer)) c.loop-unopened.opened.items),
+      length-map c.loop-unopened.opened.items (λ buffer. store_of (buffer_of buffer)),
+      so_far.are.count,
+      count_through so_far.gone c.loop-unopened.left.rest.items c.args.self.buffers.items
+          c.in-Some.unopened c.next.new.self.rest.items so_far.all_is c.in-Some.ensures.cases.0,
+    )
+
+pub give_back-requires : goal.give_back-requires
+give_back-requires g c =
+    let so_far = c.loop-unopened.invariant.so_far in
+    omega (
+      arith,
+      c.args.self.stores_room,
+      c.args.self.buffers.ok,
+      ap length c.args.self.none_back,
+      c.push_reserved-in-Err.ensures.capacity,
+      c.push_reserved-in-Err.ensures.len,
+      c.give_up-stores.ensures.capacity,
+      c.give_up-stores.result.ok,
+      ap length c.give_up-stores.ensures.items,
+      length-append c.args.self.stores.items
+          (map (λ buffer. store_of (buffer_of buffer)) c.loop-unopened.opened.items),
+      length-map c.loop-unopened.opened.items (λ buffer. store_of (buffer_of buffer)),
+      so_far.are.count,
+      count_through so_far.gone c.loop-unopened.left.rest.items c.args.self.buffers.items
+          c.in-Some.unopened c.next.new.self.rest.items so_far.all_is c.in-Some.ensures.cases.0,
+    )
+
+-- the device of one fails, and all stores come back
+pub returns-in-Err : goal.returns-in-Err
+returns-in-Err g c =
+    let codes = map (λ buffer. store_of (buffer_of buffer)) c.loop-unopened.opened.items in
+    let store = store_of (inside (unopened_in c.in-Err.unopened)) in
+    let more = c.next.new.self.rest.items in
+    let stores = c.push_reserved-in-Err.ensures.items
+    ∙ ap (λ items. items ++ c.into_store.result ∷ [])
+    (c.give_up-stores.ensures.items ∙ ap (λ room. room ++ codes) c.args.self.none_back)
+    ∙ ap (λ one. codes ++ one ∷ []) c.into_store.ensures in
+    let was = failed_here c.args.self.buffers.items c.loop-unopened.left.rest.items
+    c.loop-unopened.opened.items c.loop-unopened.invariant.so_far c.in-Some.unopened more
+    c.in-Some.ensures.cases.0 c.len-place.result c.in-Err.unopened c.give_back.result.items
+    (omega (arith, c.len-place.ensures, c.loop-unopened.opened.ok)) c.in-Err.ensures.failed
+    (c.give_back.ensures.items ∙ ap (λ items. items ++ stores_of more) stores) in
+    record {
+      opened = tt;
+      refusal = record {
+        device = refl;
+        place = c.len-place.result;
+        within = omega (arith, was.0, length-map c.args.self.buffers.items unopened_in);
+        told = ap Some
+            (c.number_of.ensures
+            (omega (arith, was.0, c.args.self.few, c.args.self.buffers.ok)));
+        left = was.1;
+      };
     }

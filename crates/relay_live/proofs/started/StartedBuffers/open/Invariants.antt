@@ -1,12 +1,15 @@
-use Rattle.std.proofs.Common.{◌≡◌, ◌≤◌, ◌++◌, length}
-use Rattle.relay_live.specs.Starting.{HasOpened, opening_count, opening_room}
+use Rattle.std.proofs.Common.{◌≤◌, length}
+use Rattle.std.specs.Prelude.{vec_capacity}
+use Rattle.std.specs.Vec.Iter.{into_iter_len}
+use Rattle.relay_live.proofs.OpenedBuffers.{OpenSoFar}
 use Rattle.relay_live.proofs.started.StartedBuffers.open.Given as goal
 
--- the buffers so far are open, or one has failed
+-- the buffers so far are open
 abbrev pub invariant-loop-unopened : goal.invariant-loop-unopened
 invariant-loop-unopened g l = record {
-  all : l.yielded ++ l.unopened-iterator.rest.items ≡ l.fn.self.buffers.items;
-  opened : HasOpened l.yielded l.opening;
-  count : opening_count l.opening ≡ length l.yielded;
-  room : length l.fn.self.buffers.items ≤ opening_room l.opening;
+  so_far : OpenSoFar l.fn.self.buffers.items l.left.rest.items l.opened.items;
+  room : length l.fn.self.buffers.items ≤ vec_capacity l.opened;
 }
+
+abbrev pub decreases-loop-unopened : goal.decreases-loop-unopened
+decreases-loop-unopened g l = into_iter_len l.left

@@ -1,10 +1,10 @@
-use Rattle.std.proofs.Common.{◌∙◌, ◌+◌, ◌++◌, ◌∷◌, [], ap, ap₂, arith, length, map, sym}
+use Rattle.std.proofs.Common.{◌∙◌, ◌+◌, ◌++◌, ◌∷◌, [], ap, ap₂, arith, length, map, refl, sym}
 use Rattle.std.proofs.Common.{length-append, take}
 use Rattle.std.proofs.lemmas.List.{map-append, take_all, take_more}
-use Rattle.std.proofs.lemmas.Result.{IfOk-weaker}
 use Rattle.live_jobs.specs.Mismatches.{mismatched_receipts_in}
+use Rattle.live_jobs.specs.StoredAgain.{ids_stored_again_in}
 use Rattle.relay_live.specs.PeerServers.{kept_of}
-use Rattle.relay_live.proofs.running.mismatched_receipts_of.Goals as goal
+use Rattle.relay_live.proofs.running.counted_of.Goals as goal
 
 pub loop-end-init : goal.loop-end-init
 loop-end-init g c =
@@ -59,6 +59,11 @@ returns g c =
     let kept = ap (map (λ a. a.now)) c.as_slice.ensures.value ∙ c.loop-end.invariant.finished
     ∙ ap (map kept_of) (take_all c.loop-end.end-index all c.loop-end-test.false
     ∙ c.as_slice-ends.ensures.value) in
-    let told = ap (map (λ w. w.finished.items)) c.as_slice-2.ensures.value in
-    IfOk-weaker c.mismatched_receipts.result _ _
-    (λ n is. is ∙ ap₂ mismatched_receipts_in kept told) c.mismatched_receipts.ensures.count
+    let told = ap (map (λ w. w.finished.items)) c.as_slice-writers.ensures.value in
+    record {
+      accepted = refl;
+      posted = refl;
+      mismatched_receipts = c.in_ok-mismatched_receipts.ensures.count
+          ∙ ap₂ mismatched_receipts_in kept told;
+      ids_stored_again = c.in_ok-ids_stored_again.ensures.count ∙ ap ids_stored_again_in told;
+    }

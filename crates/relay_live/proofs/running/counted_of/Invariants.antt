@@ -1,7 +1,7 @@
 use Rattle.std.proofs.Common.{◌≡◌, ◌≤◌, length, map, take}
 use Rattle.std.specs.Prelude.{vec_capacity}
 use Rattle.relay_live.specs.PeerServers.{kept_of}
-use Rattle.relay_live.proofs.running.mismatched_receipts_of.Given as goal
+use Rattle.relay_live.proofs.running.counted_of.Given as goal
 
 -- the lists of the ends so far
 abbrev pub invariant-loop-end : goal.invariant-loop-end

@@ -1,0 +1,39 @@
+-- The parts of a relay go out of their locks and behind them again.
+use Rattle.std.proofs.Common.{◌≡◌, ◌∙◌, ℕ, length, subst, sym}
+use Rattle.cyc_block.specs.declared.store.BlockStore as blocks
+use Rattle.live_store.specs.declared.record.StorePremises as store_premises
+use Rattle.relay_live.specs.Locking.{HasLockRoom}
+use Rattle.relay_live.specs.Making.{HasParts, buffers_in, groups_in}
+use Rattle.relay_live.specs.Stopping.{HasAsMany}
+use Rattle.relay_live.specs.declared.alone.Alone.{Alone}
+use Rattle.relay_live.specs.declared.locking.LockRooms.{LockRooms}
+use Rattle.relay_live.specs.declared.shared.Shared.{Shared}
+
+module _ {S J L : Type 0} {s : blocks.Ghosts S} {j : store_premises.Ghosts J}
+    (old : Shared S J L s j) (alone back : Alone S J L s j) (slots : ℕ)
+    (was : HasParts old alone slots)
+    (same : back ≡ alone)
+  where
+    -- parts that came back as they were are as many behind their locks as before
+    pub as_many : (new : Shared S J L s j) → HasParts new back slots → HasAsMany old new
+    as_many new now =
+        let is = subst (λ parts. HasParts new parts slots) same now in
+        record {
+          buffers = is.buffers ∙ sym was.buffers;
+          groups = is.groups ∙ sym was.groups;
+          feeds = is.feeds ∙ sym was.feeds;
+          ends = is.ends ∙ sym was.ends;
+          remembers = is.remembers ∙ sym was.remembers;
+        }
+
+    -- and there is room for them in what had room for the locks
+    pub room_again : (rooms kept : LockRooms S J s j) → kept ≡ rooms
+        → HasLockRoom (buffers_in old) (groups_in old) rooms
+        → HasLockRoom (length back.buffers.items) (length back.placed_groups.items) kept
+    room_again rooms kept is room =
+        subst (λ (parts : Alone S J L s j).
+        HasLockRoom (length parts.buffers.items) (length parts.placed_groups.items) kept) (sym same)
+        (subst (HasLockRoom (length alone.buffers.items) (length alone.placed_groups.items))
+        (sym is)
+        (subst (λ (n : ℕ × ℕ). HasLockRoom n.0 n.1 rooms)
+        (λ i. (was.buffers i, was.groups i)) room))
