@@ -11,8 +11,10 @@ use std::os::unix::net::UnixStream;
 /// when it has ended.
 pub fn ask<N: Net>(net: &N, alloc: Global, folder: &str, word: Word) -> io::Result<Vec<u8>> {
     let stream = connect(net, alloc, folder)?;
-    tell(&stream, word)?;
-    told_by(alloc, &stream, word)
+    match tell(&stream, word) {
+        Ok(()) => told_by(alloc, &stream, word),
+        Err(error) => Err(error),
+    }
 }
 
 /// A connection to the relay of a folder.
@@ -30,12 +32,21 @@ fn tell(mut stream: &UnixStream, word: Word) -> io::Result<()> {
 fn told_by(alloc: Global, mut stream: &UnixStream, word: Word) -> io::Result<Vec<u8>> {
     let mut told = Vec::new(alloc);
     match stream.read_to_end(&mut told) {
-        Err(error) if !is_end(&error, word) => Err(error),
-        _ => Ok(told),
+        Ok(_) => Ok(told),
+        Err(error) => {
+            if is_end(&error, word) {
+                Ok(told)
+            } else {
+                Err(error)
+            }
+        }
     }
 }
 
 /// Whether it ended before it had heard the word.
 fn is_end(error: &io::Error, word: Word) -> bool {
-    word == Word::Stop && error.kind() == ErrorKind::ConnectionReset
+    match word {
+        Word::Stop => matches!(error.kind(), ErrorKind::ConnectionReset),
+        Word::Report => false,
+    }
 }

@@ -26,8 +26,9 @@ const PAUSE: u64 = 10;
 
 /// The socket, while the relay is served.
 pub struct Control {
-    listener: UnixListener,
-    identity: Identity,
+    pub(crate) listener: UnixListener,
+    /// Which file it is.
+    pub(crate) identity: Identity,
 }
 
 // Written out, so that no crate above proves anew how each part is let go.
@@ -44,9 +45,11 @@ impl Control {
     /// Listens in a folder. A socket that another relay left there is taken away; where another
     /// relay is served in the folder, or what stands there is no socket, it can't be had.
     pub fn listen<R: Files + Net>(rt: &R, alloc: Global, folder: &str) -> io::Result<Control> {
-        let (listener, identity) = listen_in(rt, alloc, folder)?;
-        wait_in_parts(&listener, PART)?;
-        Ok(Control { listener, identity })
+        let control = listen_in(rt, alloc, folder)?;
+        match wait_in_parts(&control.listener, PART) {
+            Ok(()) => Ok(control),
+            Err(error) => Err(error),
+        }
     }
 
     /// What is asked for next, and by whom: none where nobody has asked for a part of a second, or
@@ -61,15 +64,15 @@ impl Control {
                 return None;
             }
         };
-        let word = hear(&stream).ok()?;
+        let word = hear(&stream);
         let teller = Teller::new(stream);
         match word {
-            Some(word) => Some((word, teller)),
-            None => {
-                teller.tell(clock, b"?\n");
-                None
-            }
+            Ok(Some(word)) => return Some((word, teller)),
+            Ok(None) => teller.tell(clock, b"?\n"),
+            Err(_) => {}
         }
+        drop(teller);
+        None
     }
 
     /// Takes the socket away from its folder, where it is this one. Who has asked meanwhile can
@@ -98,8 +101,11 @@ fn hear(stream: &UnixStream) -> io::Result<Option<Word>> {
         match from.read(&mut room[heard..]) {
             Ok(0) => return Ok(None),
             Ok(n) => heard += n,
-            Err(error) if is_wait(&error) => {}
-            Err(error) => return Err(error),
+            Err(error) => {
+                if !is_wait(&error) {
+                    return Err(error);
+                }
+            }
         }
         if let Some(word) = word_of(&room[..heard]) {
             return Ok(Some(word));

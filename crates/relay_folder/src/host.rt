@@ -5,10 +5,10 @@ ghost use Rattle.relay_folder.specs.Place.{Nothing};
 use crate::history_place::HistoryPlace;
 use crate::socket_place::path_in;
 use std::alloc::{AllocError, Global};
-use std::fs::{File, Files, metadata, remove_file, rename};
-use std::io;
-use std::io::{ErrorKind, Read, Write};
+use std::fs::{File, Files};
+use std::io::{ErrorKind, Write};
 use std::path::PathBuf;
+use std::{fs, io};
 
 /// The name of the file in the relay's folder.
 const NAME: &str = "relay.hist";
@@ -96,7 +96,7 @@ impl<R: Files<File = File>> HistoryPlace for HostHistory<'_, R> {
 
     fn put_in_place(&mut self) -> io::Result<()> {
         self.written = None;
-        rename(self.rt, self.beside.as_str(), self.path.as_str())?;
+        self.rt.rename(self.beside.as_str(), self.path.as_str())?;
         flush_folder(self.rt, self.folder);
         Ok(())
     }
@@ -112,27 +112,34 @@ fn text_at<R: Files<File = File>>(
     if !is_file_at(rt, path)? {
         return Ok(None);
     }
-    let mut file = File::open(rt, path)?;
-    let mut text = Vec::new(alloc);
-    file.read_to_end(&mut text)?;
-    Ok(Some(text))
+    Ok(Some(fs::read(&(rt, alloc), path)?))
 }
 
 /// Whether a file stands at a path, or nothing does. Anything else is the error.
 fn is_file_at<R: Files>(rt: &R, path: &str) -> io::Result<bool> {
-    match metadata(rt, path) {
-        Ok(found) if found.is_file() => Ok(true),
-        Ok(_) => Err(io::Error::from(ErrorKind::InvalidInput)),
-        Err(error) if error.kind() == ErrorKind::NotFound => Ok(false),
-        Err(error) => Err(error),
+    match rt.metadata(path) {
+        Ok(found) => {
+            if found.is_file() {
+                Ok(true)
+            } else {
+                Err(io::Error::from(ErrorKind::InvalidInput))
+            }
+        }
+        Err(error) => match error.kind() {
+            ErrorKind::NotFound => Ok(false),
+            _ => Err(error),
+        },
     }
 }
 
 /// Takes away the file at a path, where one is there.
 fn take_away<R: Files>(rt: &R, path: &str) -> io::Result<()> {
-    match remove_file(rt, path) {
-        Err(error) if error.kind() == ErrorKind::NotFound => Ok(()),
-        answer => answer,
+    match rt.remove_file(path) {
+        Err(error) => match error.kind() {
+            ErrorKind::NotFound => Ok(()),
+            _ => Err(error),
+        },
+        Ok(()) => Ok(()),
     }
 }
 

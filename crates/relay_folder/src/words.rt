@@ -4,7 +4,7 @@ ghost use Rattle.relay_folder.specs.Words.{line_of};
 ghost use Rattle.relay_folder.specs.declared.words.Word.{Word};
 
 /// What a relay is asked for.
-#[derive(Clone, Copy, PartialEq, Eq)]
+#[derive(Clone, Copy)]
 pub enum Word {
     /// To end, as soon as each port has ended.
     Stop,
