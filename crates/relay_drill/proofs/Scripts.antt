@@ -1,10 +1,16 @@
 -- Reading a script line by line: what was read so far stands before what is left.
-use Rattle.std.proofs.Common.{◌≡◌, ℕ, List, ◌∷◌, ◌++◌, Some, Result, Ok, Err, None, Option}
-use Rattle.std.proofs.Common.{refl, sym, ◌∙◌}
+use Rattle.std.proofs.Common.{◌≡◌, ◌+◌, ◌<◌, ℕ, List, [], ◌∷◌, ◌++◌, Some, Result, Ok, Err, None}
+use Rattle.std.proofs.Common.{Option, ap, drop, false, get_or, length, map, refl, sym, ◌∙◌}
+use Rattle.std.proofs.lemmas.List.{append_assoc, map_push}
+use Rattle.std.specs.List.{position_or_len}
+use Rattle.std.specs.Str.{bytes_eq}
+use Rattle.line_words.specs.Comments.{is_skipped}
+use Rattle.relay_conf.proofs.FirstFaults.{drop_one}
 use Rattle.std.specs.Option.{option_map}
 use Rattle.relay_drill.specs.Fault.{LineGives, line_view}
 use Rattle.relay_drill.specs.declared.line.Line as code
-use Rattle.relay_drill.specs.Script.{Keyword, Line, Names, keyword_of, line_of, line_with}
+use Rattle.relay_drill.specs.Script.{Keyword, Line, Names, keyword_of, line_before, line_of}
+use Rattle.relay_drill.specs.Script.{line_with, script_from}
 use Rattle.line_words.specs.Parts.{parts}
 
 -- what is read of a script whose first lines are these
@@ -25,3 +31,30 @@ pub keyword_gives : (names : Names) (line word : List ℕ) (after : List (List �
     → LineGives (Ok result) (line_of names line)
 keyword_gives names line word after keyword result words is says =
     line_gives result _ (says ∙ rw (words, is) refl)
+
+-- a line joins those that were read
+joins_front : (number : ℕ) (lines : List Line) (one : Line) (rest : Result (List Line) ℕ)
+    → after_lines lines (line_before number (Some one) rest)
+    ≡ after_lines (lines ++ one ∷ []) rest
+joins_front number lines one (Ok more) = ap Ok (sym (append_assoc lines (one ∷ []) more))
+joins_front number lines one (Err bad) = refl
+
+-- A line that isn't skipped joins those that were read.
+pub line_joins : (names : Names) (number : ℕ) (lines more : List code.Line) (line : List ℕ)
+    (after : List (List ℕ)) (one : code.Line) → is_skipped line ≡ false
+    → line_of names line ≡ Some (line_view one) → more ≡ lines ++ one ∷ []
+    → after_lines (map line_view lines) (script_from names number (line ∷ after))
+    ≡ after_lines (map line_view more) (script_from names (number + 1) after)
+line_joins names number lines more line after one kept is joined =
+    let rest = script_from names (number + 1) after in
+    rw (kept, is) (joins_front number (map line_view lines) (line_view one) rest)
+    ∙ ap (λ front. after_lines front rest)
+    (sym (ap (map line_view) joined ∙ map_push line_view lines one))
+
+-- Where an element hasn't the name, the first that has it stands behind it.
+pub named_behind : {X : Type 0} (name : List ℕ) (f : X → List ℕ) (xs : List X) (k : ℕ) (x : X)
+    → k < length xs → x ≡ get_or xs k x → bytes_eq name (f x) ≡ false
+    → position_or_len (bytes_eq name) (map f (drop k xs))
+    ≡ 1 + position_or_len (bytes_eq name) (map f (drop (k + 1) xs))
+named_behind name f xs k x within is other =
+    rw (drop_one xs k x within, sym is, other) refl

@@ -14,7 +14,7 @@ use crate::fault::DrillError;
 use crate::line::{Line, PieceSize};
 use crate::print::{print, print_restart};
 use crate::report::report;
-use cyc_block::{FailAt, MemoryBlocks};
+use cyc_block::{BlockStore, FailAt, MemoryBlocks};
 use line_words::Octets;
 use relay_core::{Event, Output, System};
 use relay_report::put;
@@ -50,15 +50,36 @@ pub fn play<W: Write>(
         piece: None,
     };
     for line in lines {
-        play_line(alloc, relay, groups, &mut stand, line, writer)?;
+        play_one(alloc, relay, groups, &mut stand, line, writer)?;
     }
     Ok(())
 }
 
-/// Does what a line of a script asks.
-fn play_line<W: Write>(
+/// Does what a line of a script asks: `fail` over devices that are armed, all else over any.
+fn play_one<W: Write>(
     alloc: Global,
     relay: &mut Relay,
+    groups: usize,
+    stand: &mut Stand,
+    line: &Line,
+    writer: &mut W,
+) -> Result<(), DrillError>
+    ensures { (next : todo.Stand → Todo) → Performs result
+        (line_asks groups (line_view line.now) (stand_view stand.old) next)
+        (next (stand_view stand.new))
+        relay.old relay.new (W.contents writer.old) (W.contents writer.new) }
+{
+    if let Line::Fail(buffer, call) = line {
+        relay.arm(*buffer, *call);
+        return Ok(());
+    }
+    play_line(alloc, relay, groups, stand, line, writer)
+}
+
+/// Does what a line of a script asks. What `fail` asks is no event, and was done before.
+fn play_line<S: BlockStore, W: Write>(
+    alloc: Global,
+    relay: &mut System<S>,
     groups: usize,
     stand: &mut Stand,
     line: &Line,
@@ -84,17 +105,18 @@ fn play_line<W: Write>(
         Line::Rounds(count, now) => rounds(relay, groups, &stand.sessions, *count, *now, writer),
         Line::Break(session) => perform(relay, break_off(*session), writer),
         Line::Expire(shard, now) => perform(relay, expire(*shard, *now), writer),
-        Line::Fail(buffer, call) => {
-            relay.arm(*buffer, *call);
-            Ok(())
-        }
+        Line::Fail(_, _) => Ok(()),
         Line::Restart => restart(relay, writer),
         Line::Report => print_report(alloc, relay, writer),
     }
 }
 
 /// Prints the report of the relay as it is (docs/FORMATS.md, Report).
-fn print_report<W: Write>(alloc: Global, relay: &Relay, writer: &mut W) -> Result<(), DrillError>
+fn print_report<S: BlockStore, W: Write>(
+    alloc: Global,
+    relay: &System<S>,
+    writer: &mut W,
+) -> Result<(), DrillError>
     ensures { (more : Todo) → Performs result (todo.Report more) more
         relay.now relay.now (W.contents writer.old) (W.contents writer.new) }
 {
@@ -116,8 +138,8 @@ fn piece_size(stand: &Stand, octets: &[u8]) -> usize
 }
 
 /// A session opens, and is one of those that are open unless that is refused.
-fn open<W: Write>(
-    relay: &mut Relay,
+fn open<S: BlockStore, W: Write>(
+    relay: &mut System<S>,
     stand: &mut Stand,
     session: u64,
     peer: usize,
@@ -151,9 +173,9 @@ fn is_refused(output: &Output) -> bool
 }
 
 /// The octets of a session come, in pieces of this size.
-fn bring<W: Write>(
+fn bring<S: BlockStore, W: Write>(
     alloc: Global,
-    relay: &mut Relay,
+    relay: &mut System<S>,
     session: u64,
     octets: &[u8],
     size: usize,
@@ -176,8 +198,8 @@ fn bring<W: Write>(
 
 /// So many times each of the sessions that isn't closed has its Turn, then the writer of each group
 /// its Write.
-fn rounds<W: Write>(
-    relay: &mut Relay,
+fn rounds<S: BlockStore, W: Write>(
+    relay: &mut System<S>,
     groups: usize,
     sessions: &[u64],
     count: u64,
@@ -197,8 +219,8 @@ fn rounds<W: Write>(
 }
 
 /// Each of the sessions has its Turn, where it isn't closed.
-fn turn_all<W: Write>(
-    relay: &mut Relay,
+fn turn_all<S: BlockStore, W: Write>(
+    relay: &mut System<S>,
     sessions: &[u64],
     now: u64,
     writer: &mut W,
@@ -213,8 +235,8 @@ fn turn_all<W: Write>(
 }
 
 /// The session has its Turn, where it isn't closed.
-fn turn_open<W: Write>(
-    relay: &mut Relay,
+fn turn_open<S: BlockStore, W: Write>(
+    relay: &mut System<S>,
     session: u64,
     now: u64,
     writer: &mut W,
@@ -229,8 +251,8 @@ fn turn_open<W: Write>(
 }
 
 /// The writer of each of so many groups has its Write.
-fn write_all<W: Write>(
-    relay: &mut Relay,
+fn write_all<S: BlockStore, W: Write>(
+    relay: &mut System<S>,
     groups: usize,
     now: u64,
     writer: &mut W,
@@ -273,7 +295,7 @@ fn expire(shard: usize, now: u64) -> Event
 }
 
 /// The relay is closed and started again, and it is printed whether it was.
-fn restart<W: Write>(relay: &mut Relay, writer: &mut W) -> Result<(), DrillError>
+fn restart<S: BlockStore, W: Write>(relay: &mut System<S>, writer: &mut W) -> Result<(), DrillError>
     ensures { (more : Todo) → Performs result (todo.Restarting more) more
         relay.old relay.new (W.contents writer.old) (W.contents writer.new) }
 {
@@ -287,7 +309,11 @@ fn restart<W: Write>(relay: &mut Relay, writer: &mut W) -> Result<(), DrillError
 }
 
 /// Does one event, and prints what it is answered.
-fn perform<W: Write>(relay: &mut Relay, event: Event, writer: &mut W) -> Result<(), DrillError>
+fn perform<S: BlockStore, W: Write>(
+    relay: &mut System<S>,
+    event: Event,
+    writer: &mut W,
+) -> Result<(), DrillError>
     ensures { (more : Todo) → Performs result (todo.Next (event_view event) more) more
         relay.old relay.new (W.contents writer.old) (W.contents writer.new) }
 {

@@ -1,20 +1,21 @@
 //! Reading a drill script (docs/FORMATS.md, Drill scripts): all of it, before anything runs.
-ghost use Rattle.std.specs.Prelude.{◌≡◌, ◌++◌, map, option_map, vec_items, IfOk};
+ghost use Rattle.std.specs.Prelude.{◌≡◌, ◌++◌, ℕ, map, option_map, vec_items, IfOk};
 ghost use Rattle.std.specs.List.{join_with_byte};
 ghost use Rattle.std.specs.Option.{option_and_then};
 ghost use Rattle.news_terms.specs.Lines.{crlf};
 ghost use Rattle.line_words.specs.Parts.{one_of, parts_after, two_of};
 ghost use Rattle.relay_drill.specs.Drill.{names_of};
 ghost use Rattle.relay_drill.specs.Script.{break_line, expire_line, fail_line, line_alone, line_of};
-ghost use Rattle.relay_drill.specs.Script.{open_line, raw_line};
+ghost use Rattle.relay_drill.specs.Script.{both, open_line, raw_line};
 ghost use Rattle.relay_drill.specs.Script.{rounds_line, script_of, send_line, split_line};
 ghost use Rattle.relay_drill.specs.Script.{turn_line, write_line};
 ghost use Rattle.relay_drill.specs.Script as terms;
+ghost use Rattle.relay_drill.specs.Words as words;
 ghost use Rattle.relay_drill.specs.Fault.{LineGives, ScriptGives, keyword_view, line_view};
 
 use crate::fault::DrillError;
 use crate::line::{Line, PieceSize};
-use crate::words::{buffer_of, number, number_within, octets_of, peer_of};
+use crate::words::{LAST_NUMBER, buffer_of, number, number_within, octets_of, peer_of};
 use line_words::{cut, is, is_skipped, one_part, two_parts};
 use relay_conf::{BufferConf, Config, Peer};
 use std::alloc::{AllocError, Global};
@@ -180,13 +181,23 @@ fn split(rest: Option<&[u8]>) -> Option<Line>
     Some(Line::Split(PieceSize { octets }))
 }
 
+/// Two numbers, the first of them in this range, by what follows the keyword.
+fn two_numbers(least: u64, most: u64, rest: Option<&[u8]>) -> Option<(u64, u64)>
+    ensures { (line : ℕ → ℕ → terms.Line) → option_map (λ two. line two.0 two.1) result
+        ≡ option_and_then (λ two. both line (words.number_within least most two.0)
+        (words.number two.1)) (two_of (parts_after 32 rest.entry)) }
+{
+    let (first, second) = two_parts(rest, b' ')?;
+    Some((number_within(least, most, first)?, number(second)?))
+}
+
 /// `turn S MOMENT`, by what follows the keyword.
 fn turn(rest: Option<&[u8]>) -> Option<Line>
     ensures { option_map line_view result
         ≡ option_and_then turn_line (two_of (parts_after 32 rest.entry)) }
 {
-    let (session, moment) = two_parts(rest, b' ')?;
-    Some(Line::Turn(number(session)?, number(moment)?))
+    let (session, moment) = two_numbers(0, LAST_NUMBER, rest)?;
+    Some(Line::Turn(session, moment))
 }
 
 /// `write G MOMENT`, by what follows the keyword.
@@ -194,8 +205,8 @@ fn write(rest: Option<&[u8]>) -> Option<Line>
     ensures { option_map line_view result
         ≡ option_and_then write_line (two_of (parts_after 32 rest.entry)) }
 {
-    let (group, moment) = two_parts(rest, b' ')?;
-    Some(Line::Write(number(group)? as usize, number(moment)?))
+    let (group, moment) = two_numbers(0, LAST_NUMBER, rest)?;
+    Some(Line::Write(group as usize, moment))
 }
 
 /// `rounds N MOMENT`, by what follows the keyword.
@@ -203,8 +214,8 @@ fn rounds(rest: Option<&[u8]>) -> Option<Line>
     ensures { option_map line_view result
         ≡ option_and_then rounds_line (two_of (parts_after 32 rest.entry)) }
 {
-    let (count, moment) = two_parts(rest, b' ')?;
-    Some(Line::Rounds(number_within(1, 100_000, count)?, number(moment)?))
+    let (count, moment) = two_numbers(1, 100_000, rest)?;
+    Some(Line::Rounds(count, moment))
 }
 
 /// `break S`, by what follows the keyword.
@@ -220,8 +231,8 @@ fn expire(rest: Option<&[u8]>) -> Option<Line>
     ensures { option_map line_view result
         ≡ option_and_then expire_line (two_of (parts_after 32 rest.entry)) }
 {
-    let (shard, moment) = two_parts(rest, b' ')?;
-    Some(Line::Expire(number(shard)? as usize, number(moment)?))
+    let (shard, moment) = two_numbers(0, LAST_NUMBER, rest)?;
+    Some(Line::Expire(shard as usize, moment))
 }
 
 /// `fail BUFFER K`, by what follows the keyword.

@@ -9,7 +9,7 @@ use relay_conf::{BufferConf, Peer};
 use std::alloc::{AllocError, Global};
 
 /// The last number that a script may name.
-const LAST_NUMBER: u64 = 9_223_372_036_854_775_807;
+pub const LAST_NUMBER: u64 = 9_223_372_036_854_775_807;
 
 /// The number that the word is.
 pub fn number(word: &[u8]) -> Option<u64>

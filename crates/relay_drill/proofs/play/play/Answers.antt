@@ -12,7 +12,7 @@ loop-line-preserved g c =
     goes_next _ _ _ _ _ _ _ _ _ _
     (line_next c.args.groups c.loop-line.line-index c.args.lines.now c.line-item.result
     (stand_view c.loop-line.stand) c.loop-line-test.true c.line-item.is)
-    c.loop-line.invariant (c.in_ok-play_line.ensures _)
+    c.loop-line.invariant (c.in_ok-play_one.ensures _)
 
 pub returns : goal.returns
 returns g c =
@@ -21,10 +21,10 @@ returns g c =
     (stand_view c.loop-line.stand) c.loop-line-test.false)
     c.loop-line.invariant
 
-pub returns-in_err-play_line : goal.returns-in_err-play_line
-returns-in_err-play_line g c =
+pub returns-in_err-play_one : goal.returns-in_err-play_one
+returns-in_err-play_one g c =
     fails_next _ c.from_residual.result _ _ _ Done _ _ _ _ _ _ c.from_residual.ensures.0
     c.from_residual.ensures.1
     (line_next c.args.groups c.loop-line.line-index c.args.lines.now c.line-item.result
     (stand_view c.loop-line.stand) c.loop-line-test.true c.line-item.is)
-    c.loop-line.invariant (c.in_err-play_line.ensures _)
+    c.loop-line.invariant (c.in_err-play_one.ensures _)

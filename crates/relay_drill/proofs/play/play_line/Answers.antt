@@ -1,7 +1,7 @@
 use Rattle.std.proofs.Common.{◌<◌, ◌∙◌, length, sym, subst, List, ℕ}
 use Rattle.relay_drill.specs.Progress.{Performs, stand_view}
 use Rattle.relay_drill.specs.Todo.{bring_each}
-use Rattle.relay_drill.proofs.Courses.{goes_none, goes_still}
+use Rattle.relay_drill.proofs.Courses.{goes_none}
 use Rattle.relay_drill.proofs.play.play_line.Goals as goal
 
 -- octets that are lent twice are as many both times
@@ -56,8 +56,7 @@ returns-in-Expire g c = λ next.
 
 pub returns-in-Fail : goal.returns-in-Fail
 returns-in-Fail g c = λ next.
-    rw c.in-Fail.is (goes_still (next (stand_view c.args.stand.now)) c.args.relay.now
-    c.arm.new.self _ c.arm.ensures.agrees c.arm.ensures.frame)
+    rw c.in-Fail.is (goes_none _ c.args.relay.now _)
 
 pub returns-in-Restart : goal.returns-in-Restart
 returns-in-Restart g c = λ next.
