@@ -1,5 +1,6 @@
 mod EntryLines
 mod Joined
+mod LineWhere
 mod Places
 mod Puts
 mod SaidEntries

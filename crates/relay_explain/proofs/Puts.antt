@@ -1,9 +1,8 @@
 -- Texts that are put one behind the other.
-use Rattle.std.proofs.Common.{◌≡◌, ◌∙◌, ap, sym, List, ℕ, [], ◌∷◌, ◌++◌, append_assoc, append-nil}
-use Rattle.std.proofs.Common.{fold, refl, subst, is_ok, Option, None, Some, Result, Ok, Err, IfOk}
+use Rattle.std.proofs.Common.{◌≡◌, ◌∙◌, ap, sym, List, ℕ, [], ◌++◌, append_assoc, append-nil}
+use Rattle.std.proofs.Common.{is_ok, Option, None, Some, Result, Ok, Err, IfOk}
 use Rattle.std.specs.Global.{Vec}
 use Rattle.std.specs.Prelude.{if◌then◌else◌}
-use Rattle.relay_explain.specs.Lines.{joined}
 use Rattle.relay_explain.specs.Text.{Adds}
 
 -- Nothing is put.
@@ -32,25 +31,9 @@ pub added : {E : Type 0} (r : Result (Unit {0}) E) (old now more : List ℕ)
 added (Ok done) old now more is = record { adds = is }
 added (Err error) old now more is = record { adds = tt }
 
--- Texts that are put behind a first one.
-behind : (first some : List ℕ) (parts : List (List ℕ)) → first ++ fold ◌++◌ some parts
-    ≡ fold ◌++◌ (first ++ some) parts
-behind first some [] = refl
-behind first some (part ∷ parts) =
-    behind first (some ++ part) parts
-    ∙ ap (λ text. fold ◌++◌ text parts) (sym (append_assoc first some part))
-
-pub and_parts : {old mid last : Option (List ℕ)} {first : List ℕ} (parts : List (List ℕ))
-    → Adds old mid first → Adds mid last (joined parts) → Adds old last (fold ◌++◌ first parts)
-and_parts {old} {mid} {last} {first} parts one next =
-    subst (λ text. Adds old last text)
-    (behind first [] parts ∙ ap (λ text. fold ◌++◌ text parts) (append-nil first)) (two one next)
-
--- A text that was put, and two behind it, are three.
-pub and_two : {old first last : Option (List ℕ)} {a : List ℕ} (b c : List ℕ) → Adds old first a
-    → Adds first last (b ++ c) → Adds old last (a ++ b ++ c)
-and_two {old} {first} {last} {a} b c one next =
-    subst (λ text. Adds old last text) (sym (append_assoc a b c)) (two one next)
+-- Where memory ran out, whatever it was that was to be put.
+pub failed : (old : Option (List ℕ)) (more : List ℕ) → Adds old None more
+failed old more = record { adds = tt }
 
 -- What is there at the end is all that was put.
 pub all : {E : Type 0} (r : Result (Vec ℕ) E) (new text : Option (List ℕ)) (told : List ℕ)

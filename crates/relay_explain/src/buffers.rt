@@ -9,9 +9,8 @@ ghost use Rattle.relay_explain.specs.Buffers as terms;
 use crate::found::{CYCBUFF, Found, put_found};
 use crate::lines::named_line;
 use crate::rows::first_ones;
-use crate::text::{Text, begin_line, put, put_odd, put_shared};
+use crate::text::{Text, begin_line, put, put_odd, put_odd_number, put_shared};
 use cyc_block::head_count;
-use itoa::Buffer;
 use line_words::is;
 use relay_conf::{BufferConf, Config, GroupConf};
 
@@ -85,7 +84,8 @@ fn put_buffer(
 fn put_buffer_line(text: &mut Text, line: usize, buffer: &BufferConf)
     ensures { Adds text.old text.new (told_line cycbuff line (terms.buffer_told buffer.now)) }
 {
-    let (name, file) = (buffer.name.as_slice(), buffer.file.as_slice());
+    let name = buffer.name.as_slice();
+    let file = buffer.file.as_slice();
     begin_line(text, CYCBUFF, line);
     put(text, &[b"buffer ", name, b", file ", file, b": "]);
     put_sizes(text, buffer.blocks);
@@ -97,18 +97,12 @@ fn put_buffer_line(text: &mut Text, line: usize, buffer: &BufferConf)
 fn put_sizes(text: &mut Text, blocks: u32)
     ensures { Adds text.old text.new (terms.sizes_text blocks) }
 {
-    let (mut count, mut room, mut octets) = (Buffer::new(), Buffer::new(), Buffer::new());
-    put(
-        text,
-        &[
-            count.format(blocks).as_bytes(),
-            b" blocks, ",
-            room.format(room_of(blocks)).as_bytes(),
-            b" octets of articles, ",
-            octets.format(file_octets(blocks)).as_bytes(),
-            b" octets of disk",
-        ],
-    );
+    text.add_number(blocks as u128);
+    text.add(b" blocks, ");
+    text.add_number(room_of(blocks) as u128);
+    text.add(b" octets of articles, ");
+    text.add_number(file_octets(blocks) as u128);
+    text.add(b" octets of disk");
 }
 
 /// Puts what is odd in a buffer of this number.
@@ -118,27 +112,26 @@ fn put_odds(text: &mut Text, config: &Config, line: usize, number: usize, buffer
 {
     let file = buffer.file.as_slice();
     let first = first_with(first_ones(&config.buffers.buffers, number), file);
-    let largest = largest_stored(config);
-    let mut octets = Buffer::new();
     put_odd(
         text,
         !is_in_group(&config.buffers.groups, number),
         CYCBUFF,
         line,
-        &[b"the buffer is in no group: it takes no article"],
+        b"the buffer is in no group: it takes no article",
     );
     put_shared(text, CYCBUFF, line, b"the file is that of buffer ", first);
-    put_odd(
-        text,
-        room_of(buffer.blocks) < largest,
-        CYCBUFF,
-        line,
-        &[
-            b"the buffer has no room for the largest article, of ",
-            octets.format(largest).as_bytes(),
-            b" octets",
-        ],
-    );
+    put_room_odd(text, line, buffer.blocks, largest_stored(config));
+}
+
+/// Puts what is odd in a buffer of so many blocks: the largest article finds no room.
+#[tactic(auto, unfolding(crate::specs::Buffers::room_odd))]
+fn put_room_odd(text: &mut Text, line: usize, blocks: u32, largest: u64)
+    ensures { Adds text.old text.new (terms.room_odd line blocks largest) }
+{
+    if room_of(blocks) < largest {
+        let told = b"the buffer has no room for the largest article, of ";
+        put_odd_number(text, CYCBUFF, line, told, largest as u128, b" octets");
+    }
 }
 
 /// Whether a group has the buffer of this number.

@@ -9,8 +9,7 @@ ghost use Rattle.relay_explain.specs.Choice as terms;
 ghost use Rattle.relay_explain.specs.Text.{Adds};
 
 use crate::groups::put_group_told;
-use crate::text::{Text, put};
-use itoa::Buffer;
+use crate::text::Text;
 use line_words::cut;
 use relay_conf::{BufferConf, Config, GroupConf, choose};
 use std::alloc::{AllocError, Global};
@@ -53,16 +52,10 @@ fn put_article(text: &mut Text, newsgroups: &[u8], size: u64)
     ensures { Adds text.old text.new
         (newsgroups.now ++ codes ", " ++ decimal size ++ codes " octets: ") }
 {
-    let mut number = Buffer::new();
-    put(
-        text,
-        &[
-            newsgroups,
-            b", ",
-            number.format(size).as_bytes(),
-            b" octets: ",
-        ],
-    );
+    text.add(newsgroups);
+    text.add(b", ");
+    text.add_number(size as u128);
+    text.add(b" octets: ");
 }
 
 /// The parts of a text between commas.
@@ -96,8 +89,8 @@ fn put_class(text: &mut Text, config: &Config, class: u8, group: u16)
         (codes "class " ++ decimal class ++ terms.group_end config.now.buffers.buffers.items
         (slice_get config.now.buffers.groups.items group)) }
 {
-    let mut number = Buffer::new();
-    put(text, &[b"class ", number.format(class).as_bytes()]);
+    text.add(b"class ");
+    text.add_number(class as u128);
     put_group_end(text, &config.buffers.buffers, group_at(config, group));
 }
 

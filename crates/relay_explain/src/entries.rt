@@ -1,5 +1,5 @@
 //! What is told of the entries of storage.conf, in the order in which they are tried.
-ghost use Rattle.std.specs.Prelude.{◌≡◌, find, flat_map, map, slice_get, OnOk};
+ghost use Rattle.std.specs.Prelude.{◌≡◌, find, flat_map, map, slice_get};
 ghost use Rattle.std.specs.Option.{option_copied};
 ghost use Rattle.relay_explain.specs.Entries as terms;
 ghost use Rattle.relay_explain.specs.Lines.{told_line};
@@ -9,30 +9,27 @@ use crate::buffers::largest_stored;
 use crate::choice::group_at;
 use crate::patterns::put_pattern_odds;
 use crate::rows::{Row, rows_of};
-use crate::text::{Text, begin_line, put, put_odd};
-use itoa::Buffer;
+use crate::text::{Text, begin_line, put_odd, put_odd_number};
 use line_words::is;
 use relay_conf::{Config, StorageEntry};
-use std::alloc::{AllocError, Global};
+use std::alloc::Global;
 
 /// The file in which entries are said.
 const STORAGE: &[u8] = b"storage.conf";
 
 /// Puts what is told of all entries.
 #[tactic(auto, unfolding(crate::specs::Entries::entries_text))]
-pub(crate) fn put_entries(
-    alloc: Global,
-    text: &mut Text,
-    config: &Config,
-    lines: &[&[u8]],
-) -> Result<(), AllocError>
-    ensures { OnOk result (Adds text.old text.new
-        (terms.entries_text config.now (map (λ line. line.now) lines.now))) }
+pub(crate) fn put_entries(alloc: Global, text: &mut Text, config: &Config, lines: &[&[u8]])
+    ensures { Adds text.old text.new
+        (terms.entries_text config.now (map (λ line. line.now) lines.now)) }
 {
-    let rows = rows_of(alloc, &config.storage_entries, lines)?;
-    put_rows(text, config, &rows);
-    put_no_entries(text, &rows);
-    Ok(())
+    match rows_of(alloc, &config.storage_entries, lines) {
+        Ok(rows) => {
+            put_rows(text, config, &rows);
+            put_no_entries(text, &rows);
+        }
+        Err(error) => text.fail(error),
+    }
 }
 
 /// Puts what is told of each entry.
@@ -65,7 +62,7 @@ fn put_entry(text: &mut Text, config: &Config, rows: &[Row<'_>], row: &Row<'_>)
         takes_no_size(largest_stored(config), row.entry),
         STORAGE,
         row.line,
-        &[b"no article has such a size"],
+        b"no article has such a size",
     );
     put_shadow_odd(text, row.line, shadow_of(rows, row));
 }
@@ -76,20 +73,15 @@ fn put_entry_line(text: &mut Text, config: &Config, row: &Row<'_>)
     ensures { Adds text.old text.new
         (told_line terms.storage row.now.line (terms.entry_told config.now row.now)) }
 {
-    let (mut number, mut class) = (Buffer::new(), Buffer::new());
-    let number = number.format(row.number).as_bytes();
     begin_line(text, STORAGE, row.line);
-    put(text, &[b"entry ", number, b" takes articles of "]);
+    text.add(b"entry ");
+    text.add_number(row.number as u128);
+    text.add(b" takes articles of ");
     put_taken(text, row);
-    put(
-        text,
-        &[
-            b": class ",
-            class.format(row.entry.class).as_bytes(),
-            b", group ",
-            group_name(config, row.entry.group),
-        ],
-    );
+    text.add(b": class ");
+    text.add_number(row.entry.class as u128);
+    text.add(b", group ");
+    text.add(group_name(config, row.entry.group));
     text.add(b"\n");
 }
 
@@ -107,16 +99,12 @@ fn put_taken(text: &mut Text, row: &Row<'_>)
 fn put_newsgroups(text: &mut Text, row: &Row<'_>)
     ensures { Adds text.old text.new (terms.newsgroups_text row.now) }
 {
+    text.add(b" in newsgroups ");
+    text.add(row.newsgroups);
     if row.entry.exactmatch {
-        return put(
-            text,
-            &[b" in newsgroups ", row.newsgroups, b" (all of them)"],
-        );
+        return text.add(b" (all of them)");
     }
-    put(
-        text,
-        &[b" in newsgroups ", row.newsgroups, b" (one of them)"],
-    );
+    text.add(b" (one of them)");
 }
 
 /// Puts the sizes that an entry takes.
@@ -124,14 +112,14 @@ fn put_newsgroups(text: &mut Text, row: &Row<'_>)
 fn put_sizes(text: &mut Text, smallest: u64, largest: Option<u64>)
     ensures { Adds text.old text.new (terms.sizes_text smallest largest) }
 {
-    let (mut least, mut most) = (Buffer::new(), Buffer::new());
-    let least = least.format(smallest).as_bytes();
+    text.add_number(smallest as u128);
     match largest {
-        None => put(text, &[least, b" octets and more"]),
-        Some(largest) => put(
-            text,
-            &[least, b" to ", most.format(largest).as_bytes(), b" octets"],
-        ),
+        None => text.add(b" octets and more"),
+        Some(largest) => {
+            text.add(b" to ");
+            text.add_number(largest as u128);
+            text.add(b" octets");
+        }
     }
 }
 
@@ -162,17 +150,8 @@ fn put_shadow_odd(text: &mut Text, line: usize, first: Option<&Row<'_>>)
     match first {
         None => {}
         Some(first) => {
-            let mut number = Buffer::new();
-            put_odd(
-                text,
-                true,
-                STORAGE,
-                line,
-                &[
-                    b"the entry takes nothing: all of it is taken by entry ",
-                    number.format(first.number).as_bytes(),
-                ],
-            );
+            let told = b"the entry takes nothing: all of it is taken by entry ";
+            put_odd_number(text, STORAGE, line, told, first.number as u128, b"");
         }
     }
 }

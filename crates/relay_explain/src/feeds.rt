@@ -11,8 +11,7 @@ ghost use Rattle.relay_explain.specs.Text.{Adds};
 use crate::lines::{line_at, peer_line};
 use crate::patterns::put_pattern_odds;
 use crate::settings::RELAY;
-use crate::text::{Text, put_line, put_odd};
-use itoa::Buffer;
+use crate::text::{Text, begin_line, put, put_odd};
 use line_words::{Between, first_word, trim};
 use relay_conf::{Feed, Peer, Relay};
 
@@ -66,37 +65,31 @@ fn put_told_on(text: &mut Text, line: usize, newsgroups: &[u8], peer: Option<&Pe
         port_of(peer) == 0,
         RELAY,
         line,
-        &[b"the peer has no port, so nobody takes the feed"],
+        b"the peer has no port, so nobody takes the feed",
     );
     put_odd(
         text,
         feed.ring == 1,
         RELAY,
         line,
-        &[b"of a ring of 1 only the newest token is ever there"],
+        b"of a ring of 1 only the newest token is ever there",
     );
 }
 
 /// Puts the line of a feed of the peer of this name.
-#[tactic(auto, unfolding(crate::specs::Peers::feed_told))]
+#[tactic(auto, unfolding(crate::specs::Peers::feed_told, crate::specs::Lines::told_line))]
 fn put_feed_line(text: &mut Text, line: usize, newsgroups: &[u8], name: &[u8], ring: u32)
     ensures { Adds text.old text.new
         (told_line relay_conf line (terms.feed_told name.now newsgroups.now ring)) }
 {
-    let mut digits = Buffer::new();
-    put_line(
+    begin_line(text, RELAY, line);
+    let most: &[u8] = b", tokens that wait at most: ";
+    put(
         text,
-        RELAY,
-        line,
-        &[
-            b"feed of ",
-            name,
-            b": newsgroups ",
-            newsgroups,
-            b", tokens that wait at most: ",
-            digits.format(ring).as_bytes(),
-        ],
+        &[b"feed of ", name, b": newsgroups ", newsgroups, most],
     );
+    text.add_number(ring as u128);
+    text.add(b"\n");
 }
 
 /// The name of a peer; one that isn't there has none.

@@ -6,7 +6,7 @@ ghost use Rattle.relay_explain.specs.Found.{found_text, odd_file};
 ghost use Rattle.relay_explain.specs.Found as terms;
 ghost use Rattle.relay_explain.specs.Text.{Adds};
 
-use crate::text::{Text, put_line, put_odd};
+use crate::text::{Text, put_line};
 
 /// The file in which buffers and groups are said.
 pub(crate) const CYCBUFF: &[u8] = b"cycbuff.conf";
@@ -101,5 +101,5 @@ fn put_lying(text: &mut Text, line: usize, file: &[u8], found: Found)
 fn put_odd_file(text: &mut Text, line: usize, file: &[u8], told: &[u8])
     ensures { Adds text.old text.new (odd_file line file.now told.now) }
 {
-    put_odd(text, true, CYCBUFF, line, &[b"file ", file, told]);
+    put_line(text, CYCBUFF, line, &[b"odd: file ", file, told]);
 }

@@ -5,7 +5,7 @@ ghost use Rattle.relay_explain.specs.Text.{Adds};
 
 use crate::found::CYCBUFF;
 use crate::lines::named_line;
-use crate::text::{Text, begin_line, put};
+use crate::text::{Text, begin_line};
 use relay_conf::{BufferConf, Config, GroupConf, Mode};
 
 /// Puts what is told of all groups.
@@ -45,13 +45,11 @@ fn put_mode(text: &mut Text, group: &GroupConf)
     ensures { Adds text.old text.new
         (codes "group " ++ group.now.name ++ terms.mode_text group.now.mode) }
 {
-    let name = group.name.as_slice();
+    text.add(b"group ");
+    text.add(group.name.as_slice());
     match group.mode {
-        Mode::Interleave => put(text, &[b"group ", name, b", article by article in turn:"]),
-        Mode::Sequential => put(
-            text,
-            &[b"group ", name, b", one to its end before the next:"],
-        ),
+        Mode::Interleave => text.add(b", article by article in turn:"),
+        Mode::Sequential => text.add(b", one to its end before the next:"),
     }
 }
 
@@ -60,7 +58,8 @@ fn put_members(text: &mut Text, buffers: &[BufferConf], numbers: &[usize])
     ensures { Adds text.old text.new (flat_map (terms.member_text buffers.now) numbers.now) }
 {
     for number in numbers {
-        put(text, &[b" ", buffer_name(buffers, *number)]);
+        text.add(b" ");
+        text.add(buffer_name(buffers, *number));
     }
 }
 

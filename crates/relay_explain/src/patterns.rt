@@ -4,8 +4,7 @@ ghost use Rattle.std.specs.Option.{option_copied};
 ghost use Rattle.relay_explain.specs.Patterns as terms;
 ghost use Rattle.relay_explain.specs.Text.{Adds};
 
-use crate::text::{Text, put_odd};
-use itoa::Buffer;
+use crate::text::{Text, put_odd, put_odd_number};
 
 /// The octets of a name that are no letters and no digits.
 const NAME_MARKS: &[u8] = b"+-_.";
@@ -37,7 +36,7 @@ pub(crate) fn put_pattern_odds(text: &mut Text, file: &[u8], line: usize, expres
         !has_taking(expression),
         file,
         line,
-        &[b"no newsgroup matches"],
+        b"no newsgroup matches",
     );
 }
 
@@ -49,17 +48,14 @@ fn put_octet(text: &mut Text, file: &[u8], line: usize, octet: Option<&u8>)
     let Some(octet) = octet else {
         return;
     };
-    let mut number = Buffer::new();
-    put_odd(
+    let after = b", which no newsgroup has: it matches none by it";
+    put_odd_number(
         text,
-        true,
         file,
         line,
-        &[
-            b"a pattern has the octet ",
-            number.format(*octet).as_bytes(),
-            b", which no newsgroup has: it matches none by it",
-        ],
+        b"a pattern has the octet ",
+        *octet as u128,
+        after,
     );
 }
 

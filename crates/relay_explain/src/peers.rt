@@ -9,8 +9,7 @@ ghost use Rattle.relay_explain.specs.Text.{Adds};
 use crate::lines::peer_line;
 use crate::rows::first_ones;
 use crate::settings::RELAY;
-use crate::text::{Text, put_line, put_odd, put_shared};
-use itoa::Buffer;
+use crate::text::{Text, begin_line, put, put_odd, put_shared};
 use line_words::is;
 use relay_conf::{Peer, Relay};
 
@@ -36,37 +35,30 @@ fn put_peer(text: &mut Text, relay: &Relay, lines: &[&[u8]], number: usize, peer
 }
 
 /// Puts the line of a peer.
-#[tactic(auto, unfolding(crate::specs::Peers::peer_told, crate::specs::Peers::port_text))]
+#[tactic(auto, unfolding(crate::specs::Peers::peer_told, crate::specs::Lines::told_line))]
 fn put_peer_line(text: &mut Text, line: usize, peer: &Peer)
     ensures { Adds text.old text.new (told_line relay_conf line (terms.peer_told peer.now)) }
 {
-    let (name, identity) = (peer.name.as_slice(), peer.identity.as_slice());
+    let name = peer.name.as_slice();
+    let identity = peer.identity.as_slice();
+    begin_line(text, RELAY, line);
+    put(text, &[b"peer ", name, b", identity ", identity, b", "]);
+    put_port(text, peer);
+    text.add(b"\n");
+}
+
+/// Puts where a peer is served, and how many of its connections at once.
+#[tactic(auto, unfolding(crate::specs::Peers::port_text))]
+fn put_port(text: &mut Text, peer: &Peer)
+    ensures { Adds text.old text.new (terms.port_text peer.now) }
+{
     if peer.port == 0 {
-        let told = b"no port: it isn't served".as_slice();
-        return put_line(
-            text,
-            RELAY,
-            line,
-            &[b"peer ", name, b", identity ", identity, b", ", told],
-        );
+        return text.add(b"no port: it isn't served");
     }
-    let (mut port, mut connections) = (Buffer::new(), Buffer::new());
-    put_line(
-        text,
-        RELAY,
-        line,
-        &[
-            b"peer ",
-            name,
-            b", identity ",
-            identity,
-            b", ",
-            b"port ",
-            port.format(peer.port).as_bytes(),
-            b", connections at once: ",
-            connections.format(peer.connections).as_bytes(),
-        ],
-    );
+    text.add(b"port ");
+    text.add_number(peer.port as u128);
+    text.add(b", connections at once: ");
+    text.add_number(peer.connections as u128);
 }
 
 /// Puts what is odd in a peer of this number.
@@ -94,7 +86,7 @@ fn put_odds(text: &mut Text, relay: &Relay, line: usize, number: usize, peer: &P
         is(identity, relay.own.as_slice()),
         RELAY,
         line,
-        &[b"the identity is the relay's own"],
+        b"the identity is the relay's own",
     );
 }
 

@@ -1,5 +1,5 @@
 //! What is told of the settings of relay.conf that are of the relay itself.
-ghost use Rattle.std.specs.Prelude.{◌≡◌, ◌++◌, codes, decimal, map, string_bytes, IfOk, OnOk};
+ghost use Rattle.std.specs.Prelude.{◌≡◌, codes, decimal, map, string_bytes, IfOk};
 ghost use Rattle.std.specs.Net.Addr.{ipv4_octets};
 ghost use Rattle.std.specs.Net.Text.{ipv4_text};
 ghost use Rattle.relay_explain.specs.Settings as terms;
@@ -18,25 +18,23 @@ pub(crate) const RELAY: &[u8] = b"relay.conf";
 /// The seconds that the date of an article may lie ahead.
 const DAY: u128 = 86_400;
 
+/// What is told where an id may be forgotten while its article would still be taken.
+const SOON_FORGOTTEN: &[u8] = b"an article of a message-id that is forgotten may come again: \
+    remember isn't above cutoff by more than 86400";
+
 /// Puts what is told of the relay itself.
 #[tactic(auto, unfolding(crate::specs::Settings::settings_text))]
-pub(crate) fn put_settings(
-    alloc: Global,
-    text: &mut Text,
-    relay: &Relay,
-    lines: &[&[u8]],
-) -> Result<(), AllocError>
-    ensures { OnOk result (Adds text.old text.new
-        (terms.settings_text relay.now (map (λ line. line.now) lines.now))) }
+pub(crate) fn put_settings(alloc: Global, text: &mut Text, relay: &Relay, lines: &[&[u8]])
+    ensures { Adds text.old text.new
+        (terms.settings_text relay.now (map (λ line. line.now) lines.now)) }
 {
-    let address = address_text(alloc, &relay.bind)?;
     let own = relay.own.as_slice();
     put_setting(text, lines, b"own", own, b"the relay's identity");
     put_number(
         text,
         lines,
         b"maxart",
-        u64::from(relay.max_article),
+        relay.max_article as u64,
         b"octets of the largest article that is received",
     );
     put_number(
@@ -47,27 +45,28 @@ pub(crate) fn put_settings(
         b"seconds past which an article is too old",
     );
     put_remember(text, lines, relay.cutoff, relay.remember);
-    put_ports(text, lines, relay.patience, address.as_bytes());
-    Ok(())
-}
-
-/// Puts what is told of how its ports listen, at this address.
-fn put_ports(text: &mut Text, lines: &[&[u8]], patience: u32, address: &[u8])
-    ensures { Adds text.old text.new
-        (terms.setting_text (map (λ line. line.now) lines.now) (codes "patience")
-        (decimal patience) (codes "seconds for which a silent peer is waited for")
-        ++ terms.setting_text (map (λ line. line.now) lines.now) (codes "bind") address.now
-        (codes "the address on which ports listen, 0.0.0.0 for all")) }
-{
     put_number(
         text,
         lines,
         b"patience",
-        u64::from(patience),
+        relay.patience as u64,
         b"seconds for which a silent peer is waited for",
     );
+    put_address(alloc, text, lines, &relay.bind);
+}
+
+/// Puts what is told of the address on which its ports listen.
+fn put_address(alloc: Global, text: &mut Text, lines: &[&[u8]], address: &Ipv4Addr)
+    ensures { Adds text.old text.new
+        (terms.setting_text (map (λ line. line.now) lines.now) (codes "bind")
+        (ipv4_text (ipv4_octets address.now))
+        (codes "the address on which ports listen, 0.0.0.0 for all")) }
+{
     let told = b"the address on which ports listen, 0.0.0.0 for all";
-    put_setting(text, lines, b"bind", address, told);
+    match address_text(alloc, address) {
+        Ok(address) => put_setting(text, lines, b"bind", address.as_bytes(), told),
+        Err(error) => text.fail(error),
+    }
 }
 
 /// An address as it is written.
@@ -93,10 +92,7 @@ fn put_remember(text: &mut Text, lines: &[&[u8]], cutoff: u64, remember: Option<
                 is_soon_forgotten(cutoff, seconds),
                 RELAY,
                 key_line(lines, b"remember"),
-                &[
-                    b"an article of a message-id that is forgotten may come again: ",
-                    b"remember isn't above cutoff by more than 86400",
-                ],
+                SOON_FORGOTTEN,
             );
         }
     }

@@ -4,8 +4,7 @@ ghost use Rattle.relay_explain.specs.Sums as terms;
 ghost use Rattle.relay_explain.specs.Text.{Adds};
 
 use crate::buffers::file_octets;
-use crate::text::{Text, put};
-use itoa::Buffer;
+use crate::text::Text;
 use relay_conf::{BufferConf, Config, Feed, Peer};
 
 /// Puts what a configuration takes of the machine.
@@ -13,24 +12,15 @@ use relay_conf::{BufferConf, Config, Feed, Peer};
 pub(crate) fn put_wants(text: &mut Text, config: &Config)
     ensures { Adds text.old text.new (terms.wants_text config.now) }
 {
-    let (mut disk, mut memory) = (Buffer::new(), Buffer::new());
-    let (mut connections, mut descriptors) = (Buffer::new(), Buffer::new());
-    put(
-        text,
-        &[
-            b"disk: ",
-            disk.format(disk_of(&config.buffers.buffers)).as_bytes(),
-            b" octets in the files of buffers\nmemory: ",
-            memory.format(memory_of(config)).as_bytes(),
-            b" octets from the start, at most 700000 more for each of ",
-            connections
-                .format(connections_of(&config.relay.peers))
-                .as_bytes(),
-            b" connections, and what ids and articles take\ndescriptors: ",
-            descriptors.format(descriptors_of(config)).as_bytes(),
-            b"\n",
-        ],
-    );
+    text.add(b"disk: ");
+    text.add_number(disk_of(&config.buffers.buffers));
+    text.add(b" octets in the files of buffers\nmemory: ");
+    text.add_number(memory_of(config));
+    text.add(b" octets from the start, at most 700000 more for each of ");
+    text.add_number(connections_of(&config.relay.peers));
+    text.add(b" connections, and what ids and articles take\ndescriptors: ");
+    text.add_number(descriptors_of(config));
+    text.add(b"\n");
 }
 
 /// The octets that all files of buffers have.

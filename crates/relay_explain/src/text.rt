@@ -1,5 +1,5 @@
 //! The text that is told, and its lines.
-ghost use Rattle.std.specs.Prelude.{◌≡◌, [], map, IfOk, Some};
+ghost use Rattle.std.specs.Prelude.{◌≡◌, ◌++◌, ℕ, List, [], decimal, map, true, IfOk, Some};
 ghost use Rattle.std.specs.Option.{option_copied};
 ghost use Rattle.relay_explain.specs.Lines.{joined, line_head, odd_line, shared_line, told_line};
 ghost use Rattle.relay_explain.specs.Text.{Adds};
@@ -46,6 +46,21 @@ impl Text {
         }
     }
 
+    /// Puts a number behind what is there.
+    pub(crate) fn add_number(&mut self, number: u128)
+        ensures { Adds self.old self.new (decimal number) }
+    {
+        let mut digits = Buffer::new();
+        self.add(digits.format(number).as_bytes());
+    }
+
+    /// Notes that memory ran out before something could be put.
+    pub(crate) fn fail(&mut self, error: AllocError)
+        ensures { (more : List ℕ) → Adds self.old self.new more }
+    {
+        self.done = Err(error);
+    }
+
     /// What is there, where memory didn't run out.
     pub(crate) fn whole(self) -> Result<Vec<u8>, AllocError>
         ensures { IfOk result (λ whole. self ≡ Some whole.items) }
@@ -68,8 +83,10 @@ pub(crate) fn put(text: &mut Text, parts: &[&[u8]])
 pub(crate) fn begin_line(text: &mut Text, file: &[u8], line: usize)
     ensures { Adds text.old text.new (line_head file.now line) }
 {
-    let mut number = Buffer::new();
-    put(text, &[file, b":", number.format(line).as_bytes(), b": "]);
+    text.add(file);
+    text.add(b":");
+    text.add_number(line as u128);
+    text.add(b": ");
 }
 
 /// Puts what is told of what a line of a file says.
@@ -84,22 +101,39 @@ pub(crate) fn put_line(text: &mut Text, file: &[u8], line: usize, told: &[&[u8]]
 }
 
 /// Puts what is odd in what a line of a file says, where that is so.
-#[tactic(auto, unfolding(crate::specs::Lines::odd_line, crate::specs::Lines::told_line))]
-pub(crate) fn put_odd(text: &mut Text, is_odd: bool, file: &[u8], line: usize, told: &[&[u8]])
-    ensures { Adds text.old text.new
-        (odd_line is_odd file.now line (joined (map (λ part. part.now) told.now))) }
+#[tactic(auto, unfolding(crate::specs::Lines::odd_line))]
+pub(crate) fn put_odd(text: &mut Text, is_odd: bool, file: &[u8], line: usize, told: &[u8])
+    ensures { Adds text.old text.new (odd_line is_odd file.now line told.now) }
 {
     if !is_odd {
         return;
     }
+    put_line(text, file, line, &[b"odd: ", told]);
+}
+
+/// Puts what is odd in what a line of a file says, with a number in it.
+#[tactic(auto, unfolding(crate::specs::Lines::odd_line, crate::specs::Lines::told_line))]
+pub(crate) fn put_odd_number(
+    text: &mut Text,
+    file: &[u8],
+    line: usize,
+    before: &[u8],
+    number: u128,
+    after: &[u8],
+)
+    ensures { Adds text.old text.new
+        (odd_line true file.now line (before.now ++ decimal number ++ after.now)) }
+{
     begin_line(text, file, line);
     text.add(b"odd: ");
-    put(text, told);
+    text.add(before);
+    text.add_number(number);
+    text.add(after);
     text.add(b"\n");
 }
 
 /// Puts what is odd where an earlier one, of this name, has the same.
-#[tactic(auto, unfolding(crate::specs::Lines::odd_line, crate::specs::Lines::shared_line))]
+#[tactic(auto, unfolding(crate::specs::Lines::shared_line))]
 pub(crate) fn put_shared(
     text: &mut Text,
     file: &[u8],
@@ -112,6 +146,6 @@ pub(crate) fn put_shared(
 {
     match name {
         None => {}
-        Some(name) => put_odd(text, true, file, line, &[shared, name]),
+        Some(name) => put_line(text, file, line, &[b"odd: ", shared, name]),
     }
 }

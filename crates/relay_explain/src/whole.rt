@@ -1,5 +1,5 @@
 //! What is told of a whole configuration.
-ghost use Rattle.std.specs.Prelude.{◌≡◌, IfOk, OnOk};
+ghost use Rattle.std.specs.Prelude.{◌≡◌, IfOk};
 ghost use Rattle.relay_conf.specs.Lines.{lines_of};
 ghost use Rattle.relay_explain.specs.Entries.{entries_text};
 ghost use Rattle.relay_explain.specs.Explained as terms;
@@ -38,60 +38,49 @@ pub fn explain(
         ≡ terms.explained config.now sources.now found.now) }
 {
     let mut text = Text::new(alloc);
-    put_cycbuff(alloc, &mut text, config, &sources.cycbuff, found)?;
-    put_storage(alloc, &mut text, config, &sources.storage)?;
-    put_relay(alloc, &mut text, config, &sources.relay)?;
+    put_cycbuff(alloc, &mut text, config, &sources.cycbuff, found);
+    put_storage(alloc, &mut text, config, &sources.storage);
+    put_relay(alloc, &mut text, config, &sources.relay);
     put_wants(&mut text, config);
     text.whole()
 }
 
 /// Puts what is told of cycbuff.conf, of which this is the text.
-fn put_cycbuff(
-    alloc: Global,
-    text: &mut Text,
-    config: &Config,
-    source: &[u8],
-    found: &[Found],
-) -> Result<(), AllocError>
-    ensures { OnOk result (Adds text.old text.new
-        (terms.cycbuff_text config.now (lines_of source.now) found.now)) }
+fn put_cycbuff(alloc: Global, text: &mut Text, config: &Config, source: &[u8], found: &[Found])
+    ensures { Adds text.old text.new
+        (terms.cycbuff_text config.now (lines_of source.now) found.now) }
 {
-    let all = lines_of(alloc, source)?;
-    let lines = all.as_slice();
-    put_buffers(text, config, lines, found);
-    put_groups(text, config, lines);
-    Ok(())
+    match lines_of(alloc, source) {
+        Ok(all) => {
+            let lines = all.as_slice();
+            put_buffers(text, config, lines, found);
+            put_groups(text, config, lines);
+        }
+        Err(error) => text.fail(error),
+    }
 }
 
 /// Puts what is told of storage.conf, of which this is the text.
-fn put_storage(
-    alloc: Global,
-    text: &mut Text,
-    config: &Config,
-    source: &[u8],
-) -> Result<(), AllocError>
-    ensures { OnOk result (Adds text.old text.new
-        (entries_text config.now (lines_of source.now))) }
+fn put_storage(alloc: Global, text: &mut Text, config: &Config, source: &[u8])
+    ensures { Adds text.old text.new (entries_text config.now (lines_of source.now)) }
 {
-    let all = lines_of(alloc, source)?;
-    let lines = all.as_slice();
-    put_entries(alloc, text, config, lines)
+    match lines_of(alloc, source) {
+        Ok(all) => put_entries(alloc, text, config, all.as_slice()),
+        Err(error) => text.fail(error),
+    }
 }
 
 /// Puts what is told of relay.conf, of which this is the text.
-fn put_relay(
-    alloc: Global,
-    text: &mut Text,
-    config: &Config,
-    source: &[u8],
-) -> Result<(), AllocError>
-    ensures { OnOk result (Adds text.old text.new
-        (terms.relay_text config.now (lines_of source.now))) }
+fn put_relay(alloc: Global, text: &mut Text, config: &Config, source: &[u8])
+    ensures { Adds text.old text.new (terms.relay_text config.now (lines_of source.now)) }
 {
-    let all = lines_of(alloc, source)?;
-    let lines = all.as_slice();
-    put_settings(alloc, text, &config.relay, lines)?;
-    put_peers(text, &config.relay, lines);
-    put_feeds(text, &config.relay, lines);
-    Ok(())
+    match lines_of(alloc, source) {
+        Ok(all) => {
+            let lines = all.as_slice();
+            put_settings(alloc, text, &config.relay, lines);
+            put_peers(text, &config.relay, lines);
+            put_feeds(text, &config.relay, lines);
+        }
+        Err(error) => text.fail(error),
+    }
 }

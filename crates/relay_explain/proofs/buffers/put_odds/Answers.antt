@@ -1,10 +1,10 @@
 use Rattle.std.proofs.Common.{◌∙◌, ap, take}
-use Rattle.relay_explain.specs.Buffers.{buffer_odds, first_with, is_in_group, room_odd}
+use Rattle.relay_explain.specs.Buffers.{buffer_odds, first_with, is_in_group}
 use Rattle.relay_explain.proofs.Puts.{two}
 use Rattle.relay_explain.proofs.buffers.put_odds.Goals as goal
 
 pub returns : goal.returns
-unfolding buffer_odds room_odd
+unfolding buffer_odds
 returns c =
     let first = c.first_with-first.ensures
     ∙ ap (first_with c.as_slice-file.result.now) c.first_ones.ensures
@@ -14,12 +14,5 @@ returns c =
     c.as_slice-file.ensures in
     let grouped = c.is_in_group.ensures
     ∙ ap (λ groups. is_in_group c.args.number groups) c.deref-2.ensures.value in
-    let octets = c.as_bytes.ensures.value ∙ c.format.ensures.text in
-    rw (
-      ← grouped,
-      ← first,
-      ← c.largest_stored-largest.ensures,
-      ← c.room_of.ensures,
-      ← octets,
-    )
-    (two (two c.put_odd.ensures c.put_shared.ensures) c.put_odd-2.ensures)
+    rw (← grouped, ← first, ← c.largest_stored.ensures)
+    (two (two c.put_odd.ensures c.put_shared.ensures) c.put_room_odd.ensures)

@@ -1,4 +1,4 @@
-use Rattle.std.proofs.Common.{◌∙◌}
+use Rattle.std.proofs.Common.{append-nil}
 use Rattle.relay_explain.specs.Entries.{shadow_odd}
 use Rattle.relay_explain.proofs.Puts.{nothing}
 use Rattle.relay_explain.proofs.entries.put_shadow_odd.Goals as goal
@@ -10,5 +10,4 @@ returns-in-None c = rw c.in-None.is (nothing _)
 pub returns-in-Some : goal.returns-in-Some
 unfolding shadow_odd
 returns-in-Some c =
-    let number = c.as_bytes.ensures.value ∙ c.format.ensures.text in
-    rw (c.in-Some.is, ← c.first.view_is, ← number) c.put_odd.ensures
+    rw (c.in-Some.is, ← c.first.view_is) (rw append-nil at c.put_odd_number.ensures)

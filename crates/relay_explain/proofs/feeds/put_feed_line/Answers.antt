@@ -1,9 +1,9 @@
-use Rattle.std.proofs.Common.{◌∙◌}
+use Rattle.relay_explain.specs.Lines.{told_line}
 use Rattle.relay_explain.specs.Peers.{feed_told}
+use Rattle.relay_explain.proofs.Puts.{two}
 use Rattle.relay_explain.proofs.feeds.put_feed_line.Goals as goal
 
 pub returns : goal.returns
-unfolding feed_told
+unfolding feed_told told_line
 returns c =
-    let ring = c.as_bytes.ensures.value ∙ c.format.ensures.text in
-    rw (← ring) c.put_line.ensures
+    two (two c.begin_line.ensures (two c.put.ensures c.add_number.ensures)) c.add.ensures

@@ -1,11 +1,15 @@
 use Rattle.relay_explain.specs.Buffers.{mode_text}
+use Rattle.relay_explain.proofs.Puts.{two}
 use Rattle.relay_explain.proofs.groups.put_mode.Goals as goal
 
 pub returns-in-Interleave : goal.returns-in-Interleave
 unfolding mode_text
-returns-in-Interleave c = rw (c.in-Interleave.is, ← c.as_slice-name.ensures) c.put.ensures
+returns-in-Interleave c =
+    rw (c.in-Interleave.is, ← c.as_slice.ensures)
+    (two (two c.add.ensures c.add-2.ensures) c.add-in-Interleave.ensures)
 
 pub returns-in-Sequential : goal.returns-in-Sequential
 unfolding mode_text
 returns-in-Sequential c =
-    rw (c.in-Sequential.is, ← c.as_slice-name.ensures) c.put-in-Sequential.ensures
+    rw (c.in-Sequential.is, ← c.as_slice.ensures)
+    (two (two c.add.ensures c.add-2.ensures) c.add-in-Sequential.ensures)

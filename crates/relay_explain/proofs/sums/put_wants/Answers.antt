@@ -1,16 +1,15 @@
-use Rattle.std.proofs.Common.{◌∙◌, ap, decimal}
+use Rattle.std.proofs.Common.{◌∙◌, ap}
 use Rattle.relay_explain.specs.Sums.{connections_of, disk_of, wants_text}
+use Rattle.relay_explain.proofs.Puts.{two}
 use Rattle.relay_explain.proofs.sums.put_wants.Goals as goal
 
 pub returns : goal.returns
 unfolding wants_text
 returns c =
-    let disk = c.as_bytes.ensures.value ∙ c.format.ensures.text
-    ∙ ap decimal (c.disk_of.ensures ∙ ap disk_of c.deref.ensures.value) in
-    let memory = c.as_bytes-2.ensures.value ∙ c.format-2.ensures.text
-    ∙ ap decimal c.memory_of.ensures in
-    let connections = c.as_bytes-3.ensures.value ∙ c.format-3.ensures.text
-    ∙ ap decimal (c.connections_of.ensures.value ∙ ap connections_of c.deref-2.ensures.value) in
-    let descriptors = c.as_bytes-4.ensures.value ∙ c.format-4.ensures.text
-    ∙ ap decimal c.descriptors_of.ensures in
-    rw (← disk, ← memory, ← connections, ← descriptors) c.put.ensures
+    let disk = c.disk_of.ensures ∙ ap disk_of c.deref.ensures.value in
+    let connections =
+    c.connections_of.ensures.value ∙ ap connections_of c.deref-2.ensures.value in
+    rw (← disk, ← c.memory_of.ensures, ← connections, ← c.descriptors_of.ensures)
+    (two (two (two (two (two (two (two (two c.add.ensures c.add_number.ensures) c.add-2.ensures)
+    c.add_number-2.ensures) c.add-3.ensures) c.add_number-3.ensures) c.add-4.ensures)
+    c.add_number-4.ensures) c.add-5.ensures)

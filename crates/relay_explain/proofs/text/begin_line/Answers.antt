@@ -1,7 +1,6 @@
-use Rattle.std.proofs.Common.{◌∙◌}
+use Rattle.relay_explain.proofs.Puts.{two}
 use Rattle.relay_explain.proofs.text.begin_line.Goals as goal
 
 pub returns : goal.returns
 returns c =
-    let number = c.as_bytes.ensures.value ∙ c.format.ensures.text in
-    rw (← number) c.put.ensures
+    two (two (two c.add.ensures c.add-2.ensures) c.add_number.ensures) c.add-3.ensures

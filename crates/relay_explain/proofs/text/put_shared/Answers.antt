@@ -1,4 +1,4 @@
-use Rattle.relay_explain.specs.Lines.{odd_line, shared_line}
+use Rattle.relay_explain.specs.Lines.{shared_line}
 use Rattle.relay_explain.proofs.Puts.{nothing}
 use Rattle.relay_explain.proofs.text.put_shared.Goals as goal
 
@@ -7,5 +7,5 @@ unfolding shared_line
 returns-in-None c = rw c.in-None.is (nothing _)
 
 pub returns-in-Some : goal.returns-in-Some
-unfolding odd_line shared_line
-returns-in-Some c = rw c.in-Some.is c.put_odd.ensures
+unfolding shared_line
+returns-in-Some c = rw c.in-Some.is c.put_line.ensures

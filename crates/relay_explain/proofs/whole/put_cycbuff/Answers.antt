@@ -4,11 +4,14 @@ use Rattle.relay_explain.specs.Text.{Adds}
 use Rattle.relay_explain.proofs.Puts.{two}
 use Rattle.relay_explain.proofs.whole.put_cycbuff.Goals as goal
 
-pub returns : goal.returns
-returns c =
+pub returns-in-Ok : goal.returns-in-Ok
+returns-in-Ok c =
     let all : List (Bor (List ℕ)) → List (List ℕ) = map (λ line. line.now) in
     subst
     (λ (lines : List (List ℕ)). Adds c.args.text.now c.put_groups.new.text
     (cycbuff_text c.args.config.now lines c.args.found.now))
-    (ap all c.as_slice-lines.ensures.value ∙ c.in_ok-all.ensures)
+    (ap all c.as_slice-lines.ensures.value ∙ c.in-Ok.ensures)
     (two c.put_buffers.ensures c.put_groups.ensures)
+
+pub returns-in-Err : goal.returns-in-Err
+returns-in-Err c = c.fail.ensures _

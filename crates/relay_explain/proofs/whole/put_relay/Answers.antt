@@ -4,11 +4,14 @@ use Rattle.relay_explain.specs.Text.{Adds}
 use Rattle.relay_explain.proofs.Puts.{two}
 use Rattle.relay_explain.proofs.whole.put_relay.Goals as goal
 
-pub returns : goal.returns
-returns c =
+pub returns-in-Ok : goal.returns-in-Ok
+returns-in-Ok c =
     let all : List (Bor (List ℕ)) → List (List ℕ) = map (λ line. line.now) in
     subst
     (λ (lines : List (List ℕ)). Adds c.args.text.now c.put_feeds.new.text
     (relay_text c.args.config.now lines))
-    (ap all c.as_slice-lines.ensures.value ∙ c.in_ok-all.ensures)
-    (two (two c.in_ok-put_settings.ensures c.put_peers.ensures) c.put_feeds.ensures)
+    (ap all c.as_slice-lines.ensures.value ∙ c.in-Ok.ensures)
+    (two (two c.put_settings.ensures c.put_peers.ensures) c.put_feeds.ensures)
+
+pub returns-in-Err : goal.returns-in-Err
+returns-in-Err c = c.fail.ensures _

@@ -1,0 +1,10 @@
+use Rattle.relay_explain.specs.Lines.{told_line}
+use Rattle.relay_explain.specs.Peers.{peer_told, port_text}
+use Rattle.relay_explain.proofs.Puts.{two}
+use Rattle.relay_explain.proofs.peers.put_peer_line.Goals as goal
+
+pub returns : goal.returns
+unfolding peer_told port_text told_line
+returns c =
+    rw (← c.as_slice-name.ensures, ← c.as_slice-identity.ensures)
+    (two (two c.begin_line.ensures (two c.put.ensures c.put_port.ensures)) c.add.ensures)
