@@ -7,4 +7,5 @@ pub mod Numbers
 pub mod Questions
 pub mod Scripts
 pub mod Servings
+pub mod TextsRead
 pub mod Tokens

@@ -54,6 +54,11 @@ IsTextOf folder file text = folder ≡ codes "K1" → text ≡ k1_text file
 abbrev pub IsUnread : (folder : List ℕ) → ConfFile → CheckError → Type 0
 IsUnread folder file error = (error ≡ Memory) ⊎ ((error ≡ Unreadable file) × (folder ≢ codes "K1"))
 
+-- the answer is a text of a file of a folder, or why there is none
+abbrev pub TextGives : (folder : List ℕ) → ConfFile → Result (Vec ℕ) CheckError → Type 0
+TextGives folder file (Ok text) = IsTextOf folder file text.items
+TextGives folder file (Err error) = IsUnread folder file error
+
 -- why what a file has can't be had: memory ran out, or it can't be read (docs/PROTOCOL.md,
 -- Statuses)
 abbrev pub unread_as : ConfFile → DrillError → CheckError

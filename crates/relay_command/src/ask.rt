@@ -21,7 +21,7 @@ pub enum Request {
 }
 
 /// Why what a relay tells can't be had, or is not printed. Its text is what the program prints.
-#[derive(Debug, Drop)]
+#[derive(Drop)]
 pub enum AskError {
     /// No relay is served in this folder.
     Unserved(String),
@@ -43,6 +43,12 @@ impl Display for AskError {
             AskError::Memory => formatter.write_str("out of memory"),
             AskError::Unwritten => formatter.write_str("stdout: unwritten"),
         }
+    }
+}
+
+impl fmt::Debug for AskError {
+    fn fmt<W: fmt::Write>(&self, formatter: &mut Formatter<W>) -> fmt::Result {
+        Display::fmt(self, formatter)
     }
 }
 

@@ -1,4 +1,5 @@
 //! Saying what a configuration has (docs/PROTOCOL.md, Program).
+ghost use Rattle.std.specs.Prelude.{◌≡◌, decimal};
 ghost use Rattle.relay_report.specs.Written.{Writes};
 ghost use Rattle.relay_command.specs.Check.{CheckGives, counted};
 
@@ -33,6 +34,13 @@ pub fn check<R: Files, W: Write>(
     }
 }
 
+/// The digits of a number.
+pub(crate) fn digits(buffer: &mut Buffer, number: u64) -> &[u8]
+    ensures { result.now ≡ decimal number }
+{
+    buffer.format(number).as_bytes()
+}
+
 /// Prints how much a configuration has.
 fn print_counts<W: Write>(writer: &mut W, config: &Config) -> Result<(), Unwritten>
     ensures { Writes result (counted config.now) (W.contents writer.old) (W.contents writer.new) }
@@ -46,15 +54,15 @@ fn print_counts<W: Write>(writer: &mut W, config: &Config) -> Result<(), Unwritt
         writer,
         &[
             b"ok: ",
-            buffers.format(config.buffers.buffers.len()).as_bytes(),
+            digits(&mut buffers, config.buffers.buffers.len() as u64),
             b" buffers, ",
-            groups.format(config.buffers.groups.len()).as_bytes(),
+            digits(&mut groups, config.buffers.groups.len() as u64),
             b" groups, ",
-            classes.format(config.storage_entries.len()).as_bytes(),
+            digits(&mut classes, config.storage_entries.len() as u64),
             b" classes, ",
-            peers.format(config.relay.peers.len()).as_bytes(),
+            digits(&mut peers, config.relay.peers.len() as u64),
             b" peers, ",
-            feeds.format(config.relay.feeds.len()).as_bytes(),
+            digits(&mut feeds, config.relay.feeds.len() as u64),
             b" feeds\n",
         ],
     )

@@ -25,7 +25,7 @@ use std::io::Write;
 
 /// Why a configuration is not explained. Its text is what the program prints: what `check` tells,
 /// and below it the fault in words.
-#[derive(Debug, Drop)]
+#[derive(Drop)]
 pub struct Unexplained {
     pub error: CheckError,
 }
@@ -46,6 +46,12 @@ impl Display for Unexplained {
             }
             CheckError::Memory | CheckError::Unwritten => Display::fmt(told, formatter),
         }
+    }
+}
+
+impl fmt::Debug for Unexplained {
+    fn fmt<W: fmt::Write>(&self, formatter: &mut Formatter<W>) -> fmt::Result {
+        Display::fmt(self, formatter)
     }
 }
 

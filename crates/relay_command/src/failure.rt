@@ -21,7 +21,7 @@ use std::{error, fmt, io};
 use thiserror::Error;
 
 /// Why the words could not be had.
-#[derive(Debug, Drop)]
+#[derive(Drop)]
 pub enum Unbegun {
     /// Memory ran out.
     Memory,
@@ -37,6 +37,12 @@ impl Display for Unbegun {
             Unbegun::Memory => "out of memory",
             Unbegun::NoText => "a word is no UTF-8",
         })
+    }
+}
+
+impl fmt::Debug for Unbegun {
+    fn fmt<W: fmt::Write>(&self, formatter: &mut Formatter<W>) -> fmt::Result {
+        Display::fmt(self, formatter)
     }
 }
 

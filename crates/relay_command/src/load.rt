@@ -1,6 +1,6 @@
 //! Reading a configuration (docs/PROTOCOL.md, Program; docs/FORMATS.md, Configuration).
-ghost use Rattle.std.specs.Prelude.{◌≡◌, ◌⊎◌, bytes_eq, codes, IfOk, IfErr, Some};
-ghost use Rattle.relay_command.specs.Check.{IsErrorIn, IsTextOf, IsUnread, LoadGives};
+ghost use Rattle.std.specs.Prelude.{◌≡◌, ◌⊎◌, bytes_eq, codes, IfErr, Some};
+ghost use Rattle.relay_command.specs.Check.{IsErrorIn, LoadGives, TextGives};
 ghost use Rattle.relay_command.specs.Check.{check_text, file_name, k1_text, unread_as};
 ghost use Rattle.relay_command.specs.declared.load.CheckError.TheVariants.{Memory, Unreadable};
 
@@ -131,8 +131,7 @@ pub(crate) fn text_of<R: Files>(
     folder: &str,
     file: ConfFile,
 ) -> Result<Vec<u8>, CheckError>
-    ensures text { IfOk result (λ text. IsTextOf folder.now file text.items) }
-    ensures error { IfErr result (IsUnread folder.now file) }
+    ensures { TextGives folder.now file result }
 {
     if is_built_in(folder) {
         let text = Vec::from_slice(alloc, k1_text(file))?;
@@ -169,7 +168,9 @@ fn text_in<R: Files>(
     ensures { IfErr result (λ error. (error ≡ Memory) ⊎ (error ≡ Unreadable file)) }
 {
     let path = Path::new(folder).join(alloc, file.name())?;
-    match read_file(rt, alloc, path.as_str()) {
+    let read = read_file(rt, alloc, path.as_str());
+    drop(path);
+    match read {
         Ok(text) => Ok(text),
         Err(error) => Err(unread(file, &error)),
     }

@@ -1,11 +1,13 @@
 //! Reading a configuration with the texts of its files (docs/FORMATS.md, Configuration).
 ghost use Rattle.relay_conf.specs.RelayViews.{RelayGives};
 ghost use Rattle.relay_command.specs.Check.{CycbuffReads, StorageReads};
-ghost use Rattle.relay_command.specs.Sources.{FileGivesBoth, LoadGivesBoth};
+ghost use Rattle.relay_command.specs.Sources.{FileGivesBoth, IsReadAs, LoadGivesBoth};
 ghost use Rattle.relay_command.specs.declared.load.ConfFile.TheVariants as files;
 
 use crate::load::{CheckError, ConfFile, text_of};
-use relay_conf::{Buffers, Config, Relay, StorageEntry, read_cycbuff, read_relay, read_storage};
+use relay_conf::{
+    Buffers, ConfError, Config, Relay, StorageEntry, read_cycbuff, read_relay, read_storage,
+};
 use relay_explain::Sources;
 use std::alloc::Global;
 use std::fs::Files;
@@ -55,10 +57,8 @@ fn cycbuff_in<R: Files>(
     ensures { FileGivesBoth folder.now files.Cycbuff CycbuffReads result }
 {
     let text = text_of(rt, alloc, folder, ConfFile::Cycbuff)?;
-    match read_cycbuff(alloc, &text) {
-        Ok(buffers) => Ok((buffers, text)),
-        Err(error) => Err(CheckError::of(ConfFile::Cycbuff, error)),
-    }
+    let read = read_cycbuff(alloc, &text);
+    both(ConfFile::Cycbuff, text, read)
 }
 
 /// Reads a folder's storage.conf.
@@ -71,10 +71,8 @@ fn storage_in<R: Files>(
     ensures { FileGivesBoth folder.now files.Storage (StorageReads buffers.now) result }
 {
     let text = text_of(rt, alloc, folder, ConfFile::Storage)?;
-    match read_storage(alloc, &text, buffers) {
-        Ok(storage_entries) => Ok((storage_entries, text)),
-        Err(error) => Err(CheckError::of(ConfFile::Storage, error)),
-    }
+    let read = read_storage(alloc, &text, buffers);
+    both(ConfFile::Storage, text, read)
 }
 
 /// Reads a folder's relay.conf.
@@ -82,8 +80,23 @@ fn relay_in<R: Files>(rt: &R, alloc: Global, folder: &str) -> Result<(Relay, Vec
     ensures { FileGivesBoth folder.now files.Relay RelayGives result }
 {
     let text = text_of(rt, alloc, folder, ConfFile::Relay)?;
-    match read_relay(alloc, &text) {
-        Ok(relay) => Ok((relay, text)),
-        Err(error) => Err(CheckError::of(ConfFile::Relay, error)),
+    let read = read_relay(alloc, &text);
+    both(ConfFile::Relay, text, read)
+}
+
+/// What was read of the text of a file, with that text.
+fn both<T>(
+    file: ConfFile,
+    text: Vec<u8>,
+    read: Result<T, ConfError>,
+) -> Result<(T, Vec<u8>), CheckError>
+    ensures { IsReadAs file text read result }
+{
+    match read {
+        Ok(settings) => Ok((settings, text)),
+        Err(error) => {
+            drop(text);
+            Err(CheckError::of(file, error))
+        }
     }
 }

@@ -5,6 +5,7 @@ ghost use Rattle.relay_report.specs.Written.{Writes};
 ghost use Rattle.relay_command.specs.Tell.{TellGives, fault_view};
 ghost use Rattle.relay_command.specs.Tell as terms;
 
+use crate::check::digits;
 use cyc_token::{Token, TokenError};
 use itoa::Buffer;
 use relay_report::{Unwritten, put_all};
@@ -14,7 +15,7 @@ use std::fmt::{Display, Formatter};
 use std::io::Write;
 
 /// Why a text is not told as a token. Its text is what the program prints.
-#[derive(Debug, Drop)]
+#[derive(Drop)]
 pub enum TokenFault {
     /// The text is not 30 octets.
     Length,
@@ -39,6 +40,12 @@ impl Display for TokenFault {
             TokenFault::LowerCase => "token: 4 LowerCase",
             TokenFault::Unwritten => "stdout: unwritten",
         })
+    }
+}
+
+impl fmt::Debug for TokenFault {
+    fn fmt<W: fmt::Write>(&self, formatter: &mut Formatter<W>) -> fmt::Result {
+        Display::fmt(self, formatter)
     }
 }
 
@@ -82,15 +89,15 @@ fn print_parts<W: Write>(writer: &mut W, token: &Token) -> Result<(), Unwritten>
         writer,
         &[
             b"class ",
-            class.format(token.class).as_bytes(),
+            digits(&mut class, token.class as u64),
             b" buffer ",
-            buffer.format(token.buffer).as_bytes(),
+            digits(&mut buffer, token.buffer as u64),
             b" cycle ",
-            cycle.format(token.cycle).as_bytes(),
+            digits(&mut cycle, token.cycle as u64),
             b" first ",
-            first.format(token.first).as_bytes(),
+            digits(&mut first, token.first as u64),
             b" length ",
-            length.format(token.length).as_bytes(),
+            digits(&mut length, token.length as u64),
             b"\n",
         ],
     )

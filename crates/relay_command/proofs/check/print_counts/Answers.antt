@@ -4,21 +4,15 @@ use Rattle.relay_command.proofs.check.print_counts.Goals as goal
 pub returns : goal.returns
 returns g c =
     simp append_assoc (simp (
-      c.as_bytes.ensures.value,
-      c.format.ensures.text,
+      c.digits.ensures,
       c.len.ensures,
-      c.as_bytes-2.ensures.value,
-      c.format-2.ensures.text,
+      c.digits-2.ensures,
       c.len-2.ensures,
-      c.as_bytes-3.ensures.value,
-      c.format-3.ensures.text,
+      c.digits-3.ensures,
       c.len-3.ensures,
-      c.as_bytes-4.ensures.value,
-      c.format-4.ensures.text,
+      c.digits-4.ensures,
       c.len-4.ensures,
-      c.as_bytes-5.ensures.value,
-      c.format-5.ensures.text,
+      c.digits-5.ensures,
       c.len-5.ensures,
       append-nil,
-    )
-    at c.put_all.ensures)
+    ) at c.put_all.ensures)

@@ -1,5 +1,4 @@
-use Rattle.std.proofs.Common.{◌≡◌, ◌∙◌, ap, sym, Bool, false, true, codes}
-use Rattle.std.specs.Prelude.{bytes_eq}
+use Rattle.std.proofs.Common.{◌∙◌, ap, sym}
 use Rattle.relay_command.specs.CommandLine.{Checks, Stops, Reports}
 use Rattle.relay_command.proofs.command_line.job_named.Goals as goal
 

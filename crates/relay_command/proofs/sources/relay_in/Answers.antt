@@ -1,11 +1,12 @@
-use Rattle.std.proofs.Common.{Ok, subst}
+use Rattle.std.proofs.Common.{subst}
 use Rattle.relay_conf.specs.Lines.{lines_of}
 use Rattle.relay_conf.specs.RelayViews.{RelayGives}
+use Rattle.relay_command.proofs.TextsRead.{gives_both}
 use Rattle.relay_command.proofs.sources.relay_in.Goals as goal
 
-pub returns-in-Ok : goal.returns-in-Ok
-returns-in-Ok g c = (
-  c.in_ok-text.ensures.text,
-  subst (λ text. RelayGives (Ok c.in-Ok.relay) (lines_of text)) c.deref.ensures.value
-      c.in-Ok.ensures,
-)
+pub returns : goal.returns
+returns g c =
+    gives_both c.args.folder.now _ RelayGives c.in_ok-text.text _ _ c.in_ok-text.ensures
+    (subst (λ text. RelayGives c.read_relay-read.result (lines_of text)) c.deref.ensures.value
+    c.read_relay-read.ensures)
+    c.both.ensures

@@ -4,15 +4,10 @@ use Rattle.relay_command.proofs.token.print_parts.Goals as goal
 pub returns : goal.returns
 returns g c =
     simp append_assoc (simp (
-      c.as_bytes.ensures.value,
-      c.format.ensures.text,
-      c.as_bytes-2.ensures.value,
-      c.format-2.ensures.text,
-      c.as_bytes-3.ensures.value,
-      c.format-3.ensures.text,
-      c.as_bytes-4.ensures.value,
-      c.format-4.ensures.text,
-      c.as_bytes-5.ensures.value,
-      c.format-5.ensures.text,
+      c.digits.ensures,
+      c.digits-2.ensures,
+      c.digits-3.ensures,
+      c.digits-4.ensures,
+      c.digits-5.ensures,
       append-nil,
     ) at c.put_all.ensures)
