@@ -8,7 +8,9 @@ use Rattle.cyc_block.specs.declared.store.BlockStore.{Ghosts}
 use Rattle.live_store.specs.declared.record.StorePremises as store_premises
 use Rattle.relay_conf.specs.declared.settings.Config.{Config}
 use Rattle.relay_live.specs.declared.running.Counted.{Counted}
+use Rattle.relay_serve.specs.Files.{IsFileFault}
 use Rattle.relay_serve.specs.History.{IsOriginFault}
+use Rattle.relay_serve.specs.Ports.{IsPortFault}
 use Rattle.relay_serve.specs.Running.{IsRelayFault, IsRunFault, IsServeFault, IsStopFault}
 use Rattle.relay_serve.specs.Running.{RunGives}
 use Rattle.relay_report.specs.Serve.{ServeGives}
@@ -106,3 +108,26 @@ served_none config error (Ok finished) held is e fault = absurd (cc is)
 served_none config error (Err same) held is e fault =
     let P : ServeError → Type 0 = λ it. ServeGives config (Err it) held held in
     subst P (sym e) (none_served config error held fault)
+
+-- where memory is refused, nor where a file can't be had or a port
+memory_serves : (config : Config) (error : ServeError) (held : Option (List ℕ))
+    → error ≡ faults.Memory → ServeGives config (Err error) held held
+memory_serves config error held e =
+    let P : ServeError → Type 0 = λ it. ServeGives config (Err it) held held in
+    subst P (sym e) (tt, kept held)
+
+file_serves : (config : Config) (error : ServeError) (held : Option (List ℕ))
+    → IsFileFault config.buffers error → ServeGives config (Err error) held held
+file_serves config (faults.File lost) held names = (names, kept held)
+file_serves config error held e = memory_serves config error held e
+
+port_serves : (config : Config) (error : ServeError) (held : Option (List ℕ))
+    → IsPortFault config.relay.peers.items error → ServeGives config (Err error) held held
+port_serves config (faults.Port lost) held names = (names, kept held)
+port_serves config error held e = memory_serves config error held e
+
+pub unopened_serves : (config : Config) (error : ServeError) (held : Option (List ℕ))
+    → IsFileFault config.buffers error ⊎ IsPortFault config.relay.peers.items error
+    → ServeGives config (Err error) held held
+unopened_serves config error held (inl file) = file_serves config error held file
+unopened_serves config error held (inr port) = port_serves config error held port

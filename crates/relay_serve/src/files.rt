@@ -1,5 +1,5 @@
 //! The files of the buffers (docs/FORMATS.md, cycbuff.conf).
-ghost use Rattle.std.specs.Prelude.{◌≡◌, length, map, All, Any, IfErr, IfNone, IfOk, IfSome};
+ghost use Rattle.std.specs.Prelude.{◌≡◌, length, map, All, Any, IfErr, IfOk, MatchBool};
 ghost use Rattle.file_blocks.specs.Store.{count_of as blocks_counted};
 ghost use Rattle.relay_serve.specs.Files.{HasReason, IsFaultAt, IsFaultOf, IsFileFault};
 ghost use Rattle.relay_serve.specs.Files.{SharesFile};
@@ -13,8 +13,8 @@ use run_blocks::RunBlocks;
 use std::alloc::{AllocError, Global};
 use std::fs::{File, Files};
 use std::os::unix::fs::MetadataExt;
-use std::path::Path;
-use std::{fs, str};
+use std::path::{Path, PathBuf};
+use std::str;
 
 /// The file of each buffer, held, in the order of the buffers. A file whose path is relative lies
 /// in the folder. Nothing is read of them or written to them. The error is want of memory, or the
@@ -69,15 +69,27 @@ fn hold_file<R: Files<File = File>>(
     folder: &str,
     others: &[HeldFile],
 ) -> Result<HeldFile, Option<Reason>> {
-    let Ok(file) = str::from_utf8(buffer.file.as_slice()) else {
-        return Err(Some(Reason::NoText));
-    };
-    let Ok(path) = Path::new(folder).join(alloc, file) else {
-        return Err(None);
-    };
+    let path = path_of(alloc, folder, buffer)?;
     match HeldFile::hold(rt, path.as_str()) {
-        Ok(file) => taken_by_none(file, others).ok_or(Some(Reason::Shared)),
+        Ok(file) => {
+            if is_one_of(&file, others) {
+                Err(Some(Reason::Shared))
+            } else {
+                Ok(file)
+            }
+        }
         Err(refused) => Err(reason_of(&refused)),
+    }
+}
+
+/// The path of the file of a buffer, or why it has none; no reason where memory was refused.
+fn path_of(alloc: Global, folder: &str, buffer: &BufferConf) -> Result<PathBuf, Option<Reason>> {
+    match str::from_utf8(buffer.file.as_slice()) {
+        Ok(file) => match Path::new(folder).join(alloc, file) {
+            Ok(path) => Ok(path),
+            Err(_) => Err(None),
+        },
+        Err(_) => Err(Some(Reason::NoText)),
     }
 }
 
@@ -116,7 +128,7 @@ fn is_of_earlier<R: Files>(
     let own = place_of(rt, alloc, folder, buffer)?;
     for earlier in settings.buffers.iter().take(count) {
         let place = place_of(rt, alloc, folder, earlier)?;
-        if own.is_some() && own == place {
+        if is_same(own, place) {
             return Ok(true);
         }
     }
@@ -130,28 +142,35 @@ fn place_of<R: Files>(
     folder: &str,
     buffer: &BufferConf,
 ) -> Result<Option<(u64, u64)>, AllocError> {
-    let Ok(file) = str::from_utf8(buffer.file.as_slice()) else {
-        return Ok(None);
-    };
-    let path = Path::new(folder).join(alloc, file)?;
-    match fs::metadata(rt, path.as_str()) {
-        Ok(found) => Ok(Some((found.dev(), found.ino()))),
-        Err(_) => Ok(None),
+    match path_of(alloc, folder, buffer) {
+        Ok(path) => match rt.metadata(path.as_str()) {
+            Ok(found) => Ok(Some((found.dev(), found.ino()))),
+            Err(_) => Ok(None),
+        },
+        Err(Some(_)) => Ok(None),
+        Err(None) => Err(AllocError),
     }
 }
 
-/// The file, unless it is one of the others.
-fn taken_by_none(file: HeldFile, others: &[HeldFile]) -> Option<HeldFile>
-    ensures none { IfNone result (Any (SharesFile file) others.now) }
-    ensures own { IfSome result (λ own. (own ≡ file)
-        × All (λ other. ¬ SharesFile file other) others.now) }
+/// Whether both are one place, and that is to be had.
+fn is_same(own: Option<(u64, u64)>, place: Option<(u64, u64)>) -> bool {
+    match (own, place) {
+        (Some(own), Some(place)) => own.0 == place.0 && own.1 == place.1,
+        _ => false,
+    }
+}
+
+/// Whether the file is one of the others.
+fn is_one_of(file: &HeldFile, others: &[HeldFile]) -> bool
+    ensures { MatchBool result (Any (SharesFile file.now) others.now)
+        (All (λ other. ¬ SharesFile file.now other) others.now) }
 {
     for other in others {
         if file.same_file(other) {
-            return None;
+            return true;
         }
     }
-    Some(file)
+    false
 }
 
 /// A store in the file of each buffer, of its blocks, in the order of the buffers, which writes and

@@ -9,7 +9,9 @@ use std::{fmt, str};
 
 /// What the sessions of a peer have said and read so far, and how many of them are open.
 #[derive(Drop)]
-struct PeerCounts {
+struct PeerCounts<'a> {
+    /// The peer's name, as relay.conf has it: ASCII letters, digits and a few marks.
+    name: &'a str,
     open: AtomicU64,
     accepted: AtomicU64,
     known: AtomicU64,
@@ -18,10 +20,11 @@ struct PeerCounts {
     octets: AtomicU64,
 }
 
-impl PeerCounts {
+impl<'a> PeerCounts<'a> {
     /// Of a peer without a session.
-    fn new() -> PeerCounts {
+    fn new(peer: &'a Peer) -> PeerCounts<'a> {
         PeerCounts {
+            name: str::from_utf8(peer.name.as_slice()).unwrap_or("?"),
             open: AtomicU64::new(0),
             accepted: AtomicU64::new(0),
             known: AtomicU64::new(0),
@@ -51,8 +54,9 @@ impl PeerCounts {
         })
     }
 
-    /// Puts the line of a peer of this name behind a text.
-    fn put(&self, alloc: Global, name: &str, text: &mut Vec<u8>) -> Result<(), AllocError> {
+    /// Puts the line of the peer behind a text.
+    fn put(&self, alloc: Global, text: &mut Vec<u8>) -> Result<(), AllocError> {
+        let name = self.name;
         let open = self.open.load(Ordering::SeqCst);
         let told = self.told();
         let line = format!(in alloc; "peer {name} open={open} {told}\n")?;
@@ -85,36 +89,26 @@ impl Display for Told {
 #[derive(Drop)]
 pub(crate) struct CountingGate<'a> {
     alloc: Global,
-    peers: &'a [Peer],
-    counts: Vec<PeerCounts>,
+    counts: Vec<PeerCounts<'a>>,
 }
 
 impl<'a> CountingGate<'a> {
     /// A gate for the sessions of these peers, before the first of them.
     pub(crate) fn new(alloc: Global, peers: &'a [Peer]) -> Result<CountingGate<'a>, AllocError> {
         let mut counts = Vec::new(alloc);
-        for _peer in peers {
-            counts.push(PeerCounts::new())?;
+        for peer in peers {
+            counts.push(PeerCounts::new(peer))?;
         }
-        Ok(CountingGate {
-            alloc,
-            peers,
-            counts,
-        })
+        Ok(CountingGate { alloc, counts })
     }
 
     /// Puts a line for each peer behind a text.
     pub(crate) fn put_peers(&self, text: &mut Vec<u8>) -> Result<(), AllocError> {
-        for (peer, counts) in self.peers.iter().zip(&self.counts) {
-            counts.put(self.alloc, name_of(peer), text)?;
+        for counts in &self.counts {
+            counts.put(self.alloc, text)?;
         }
         Ok(())
     }
-}
-
-/// The name of a peer, as relay.conf has it: ASCII letters, digits and a few marks.
-fn name_of(peer: &Peer) -> &str {
-    str::from_utf8(peer.name.as_slice()).unwrap_or("?")
 }
 
 /// How a session ended, in one word.
@@ -163,15 +157,13 @@ impl<R: Eprint> Gate<R> for CountingGate<'_> {
         tally: &Tally,
         seconds: u64,
     ) {
-        if let Some(counts) = self.counts.get(peer) {
-            counts.open.fetch_sub(1, Ordering::SeqCst);
-        }
-        let Some(peer) = self.peers.get(peer) else {
+        let Some(counts) = self.counts.get(peer) else {
             return;
         };
+        counts.open.fetch_sub(1, Ordering::SeqCst);
         let _lost = eprintln!(rt;
             "closed peer={} session={session} finish={} seconds={seconds} {}",
-            name_of(peer),
+            counts.name,
             word_of(finish),
             Told(*tally),
         );

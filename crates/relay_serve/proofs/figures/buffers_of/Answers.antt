@@ -1,4 +1,4 @@
-use Rattle.std.proofs.Common.{◌∙◌, ap, arith, length, map}
+use Rattle.std.proofs.Common.{◌∙◌, ◌+◌, ◌≤◌, ap, arith, length, map, subst, sym}
 use Rattle.std.proofs.lemmas.List.{take_all}
 use Rattle.relay_report.specs.declared.figures.NamedBuffer.{NamedBuffer}
 use Rattle.relay_serve.proofs.Rows.{longer, one_more_made}
@@ -40,12 +40,10 @@ loop-number-preserved g c =
     let before = c.loop-number.invariant in
     let pushed = c.push_reserved.ensures in
     record {
-      room = omega (arith, before.room, pushed.capacity);
-      count = omega (
-        arith,
-        longer (λ named. named.name) old new one pushed.items,
-        before.count,
-      );
+      room = subst (λ n. length c.args.config.now.buffers.buffers.items ≤ n)
+          (sym pushed.capacity) before.room;
+      count = longer (λ named. named.name) old new one pushed.items
+          ∙ ap (λ n. n + 1) before.count;
       names = one_more_made (λ named. named.name) old new one pushed.items
           (λ buffer. buffer.name) c.deref-buffer-items.result.now
           c.args.config.now.buffers.buffers.items c.loop-number.number c.buffer-item.result

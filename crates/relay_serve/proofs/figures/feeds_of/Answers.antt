@@ -1,4 +1,4 @@
-use Rattle.std.proofs.Common.{◌∙◌, ap, arith, length, map}
+use Rattle.std.proofs.Common.{◌∙◌, ◌+◌, ◌≤◌, ap, arith, length, map, subst, sym}
 use Rattle.std.proofs.lemmas.List.{take_all}
 use Rattle.std.specs.Prelude.{slice_get}
 use Rattle.article_verdict.proofs.FewFeeds.{few_feeds}
@@ -53,12 +53,10 @@ loop-number-preserved g c =
     let before = c.loop-number.invariant in
     let pushed = c.push_reserved.ensures in
     record {
-      room = omega (arith, before.room, pushed.capacity);
-      count = omega (
-        arith,
-        longer (λ named. named.peer) old new one pushed.items,
-        before.count,
-      );
+      room = subst (λ n. length c.args.config.now.relay.feeds.items ≤ n)
+          (sym pushed.capacity) before.room;
+      count = longer (λ named. named.peer) old new one pushed.items
+          ∙ ap (λ n. n + 1) before.count;
       names = one_more_made (λ named. named.peer) old new one pushed.items
           (λ feed. name_of (slice_get c.args.config.now.relay.peers.items feed.peer))
           c.deref-feed-items.result.now c.args.config.now.relay.feeds.items
