@@ -73,31 +73,19 @@ impl Runs {
         if count == 0 {
             return;
         }
+        if !sheet.octets().is_empty() {
+            sheet.put(if self.are_counted { b" " } else { b"; " });
+        }
         if self.are_counted {
-            put_between(b" ", sheet);
-            sheet.number(count);
-            sheet.put(b"*");
+            sheet.filled(b"#*", &[count]);
         } else {
-            put_between(b"; ", sheet);
-            self.put_places(count, sheet);
+            sheet.number(self.first);
+            if count > 1 {
+                sheet.numbered(b"-", self.next.saturating_sub(1));
+            }
+            sheet.put(b" ");
         }
         sheet.put(&self.said);
-    }
-
-    /// Writes the first and the last of so many places.
-    fn put_places(&self, count: u64, sheet: &mut Sheet) {
-        sheet.number(self.first);
-        if count > 1 {
-            sheet.numbered(b"-", self.next.saturating_sub(1));
-        }
-        sheet.put(b" ");
-    }
-}
-
-/// Writes what stands between two runs, where one was written.
-fn put_between(between: &[u8], sheet: &mut Sheet) {
-    if !sheet.octets().is_empty() {
-        sheet.put(between);
     }
 }
 

@@ -10,6 +10,7 @@ mod steps;
 
 use bench::Bench;
 use histories::Texts;
+pub(crate) use histories::put_kept;
 use std::alloc::Global;
 
 /// The buffer and the text of a history that the rows so far have left.

@@ -7,3 +7,4 @@ mod streams;
 mod walks;
 
 pub use calls::answer;
+pub(crate) use walks::{Look, walk};

@@ -11,7 +11,7 @@ mod rows;
 mod sheet;
 
 pub use cells::Cells;
-pub use lists::{add_octets, copy_of, joined, parts_of, place_of};
+pub use lists::{add_octets, copy_of, joined, place_of};
 pub use names::Names;
 pub use rows::{Answers, failed, play};
 pub use sheet::Sheet;

@@ -19,20 +19,6 @@ pub fn place_of(names: &str, name: &[u8]) -> Option<usize> {
     None
 }
 
-/// The parts of a text between octets of one value, none where there is no text.
-pub fn parts_of<'a>(text: Option<&'a [u8]>, octet: u8, sheet: &mut Sheet) -> Vec<&'a [u8]> {
-    let mut parts = Vec::new(sheet.alloc);
-    let mut unread = text;
-    while let Some(rest) = unread {
-        let (part, after) = cut(rest, octet);
-        if parts.push(part).is_err() {
-            sheet.lack();
-        }
-        unread = after;
-    }
-    parts
-}
-
 /// These octets follow.
 pub(crate) fn add(octets: &mut Vec<u8>, more: &[u8], sheet: &mut Sheet) {
     if octets.extend_from_slice(more).is_err() {

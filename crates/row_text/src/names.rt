@@ -4,10 +4,17 @@ use crate::sheet::Sheet;
 use line_words::is;
 use std::alloc::Global;
 
-/// The texts that were named so far, each behind its name.
+/// The texts that were named so far.
 #[derive(Drop)]
 pub struct Names {
-    list: Vec<(Vec<u8>, Vec<u8>)>,
+    list: Vec<Named>,
+}
+
+/// A text that was named.
+#[derive(Drop)]
+struct Named {
+    name: Vec<u8>,
+    octets: Vec<u8>,
 }
 
 impl Names {
@@ -25,16 +32,16 @@ impl Names {
 
     /// Names a text.
     pub fn name(&mut self, name: Vec<u8>, octets: Vec<u8>, sheet: &mut Sheet) {
-        if self.list.push((name, octets)).is_err() {
+        if self.list.push(Named { name, octets }).is_err() {
             sheet.lack();
         }
     }
 
     /// The text that the cell names, or the cell itself.
     pub(crate) fn meaning<'a>(&'a self, cell: &'a [u8]) -> &'a [u8] {
-        for (name, octets) in &self.list {
-            if is(name, cell) {
-                return octets;
+        for named in &self.list {
+            if is(&named.name, cell) {
+                return &named.octets;
             }
         }
         cell

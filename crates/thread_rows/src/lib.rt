@@ -7,11 +7,9 @@
 mod articles;
 mod clock;
 mod looks;
-mod making;
 mod printing;
 mod queue;
 mod relay;
-mod sample;
 mod words;
 
 use row_text::Sheet;
@@ -23,19 +21,18 @@ use std::sync::Wait;
 use std::thread::Threads;
 use std::time::Clock;
 
-/// Plays the rows of a text, and then the queue.
+/// Plays the rows of a text, and then the queue. What they give is gathered on one sheet, and
+/// printed also where not all of them could be played, which is the error then.
 pub fn play<R>(rt: &R, alloc: Global, text: &[u8]) -> io::Result<()>
 where
     R: Threads + Wait + Clock + RandomSource + Print + Sync + 'static,
 {
-    relay::play(rt, alloc, text)?;
-    queue::play(rt, alloc)
-}
-
-/// Prints what is written on a sheet, where all that was to be played was.
-fn print<R: Print>(rt: &R, sheet: &Sheet) -> io::Result<()> {
+    let mut sheet = Sheet::new(alloc);
+    relay::put_rows(rt, &mut sheet, text);
+    queue::put_full_queue(rt, &mut sheet);
+    io::writer(rt).write_all(sheet.octets())?;
     if sheet.is_spoilt() {
         return Err(io::Error::from(ErrorKind::Other));
     }
-    io::writer(rt).write_all(sheet.octets())
+    Ok(())
 }

@@ -1,36 +1,56 @@
 //! A play of a job queue, in one thread: how many jobs it holds.
+ghost use Rattle.std.specs.Prelude.{◌≡◌, ◌<◌, ◌^◌, true, length};
 ghost use Rattle.crossbeam_queue.specs.Passes.{view, IsPassOf};
 ghost use Rattle.job_queue.specs.Delivery.{IsOpen, OfWriter};
+ghost use Rattle.news_terms.specs.ArticleTexts.{IsArticle};
 
-use crate::making::{LEAST_OCTETS, sample_article};
-use crate::print;
-use buffer_group::Job;
+use article_parse::Article;
+use buffer_group::{Accepted, Job};
 use job_queue::{
     Handed, JobQueue, Parcel, QueuePass, end_pass, hand_over, mark_closed, new_queue, take_one,
     writer_pass,
 };
+use line_words::Octets;
 use nntp_text::MsgId;
 use row_text::Sheet;
 use std::alloc::Global;
-use std::io;
 use std::sync::Wait;
 
-/// A job of session 1, whose article is the smallest sample.
+/// The smallest article: its header, and the empty line behind it.
+const ARTICLE: &[u8] =
+    b"Date: x\r\nFrom: x\r\nMessage-ID: <x>\r\nNewsgroups: x\r\nPath: x\r\nSubject: x\r\n\r\n";
+
+/// A job of session 1, whose article is the smallest one, for group 0 and no feed.
 fn job(alloc: Global) -> Option<Job> {
-    let Ok(Some(sample)) = sample_article(alloc, LEAST_OCTETS) else {
+    let text = Vec::from_slice(alloc, ARTICLE).ok()?;
+    if !is_article(alloc, &text) {
         return None;
+    }
+    let id = MsgId::parse(alloc, b"<a@x>").ok()?;
+    let article = Accepted {
+        class: 0,
+        group: 0,
+        permitted: Vec::new(alloc),
+        text: Octets::new(text),
     };
-    let article = sample.into_accepted(alloc);
-    match MsgId::parse(alloc, b"<a@x>") {
-        Ok(id) => Some(Job {
-            session: 1,
-            id,
-            article,
-        }),
-        Err(_) => {
+    Some(Job {
+        session: 1,
+        id,
+        article,
+    })
+}
+
+/// Whether a text is read as an article, and has fewer than 2^32 octets.
+fn is_article(alloc: Global, text: &[u8]) -> bool
+    ensures article { result ≡ true → ∥ IsArticle text.now ∥₁ }
+    ensures length { result ≡ true → length text.now < 2 ^ 32 }
+{
+    match Article::parse(alloc, text) {
+        Ok(article) => {
             drop(article);
-            None
+            text.len() < 1 << 32
         }
+        Err(_) => false,
     }
 }
 
@@ -95,15 +115,8 @@ fn filled<R: Wait>(rt: &R, sheet: &mut Sheet, queue: &JobQueue, pass: &mut Queue
     100
 }
 
-/// Plays a queue that is full.
-pub(crate) fn play<R: Wait + Print>(rt: &R, alloc: Global) -> io::Result<()> {
-    let mut sheet = Sheet::new(alloc);
-    put_full_queue(rt, &mut sheet);
-    print(rt, &sheet)
-}
-
-/// A queue that is full takes neither job nor mark; one parcel less, it takes the mark.
-fn put_full_queue<R: Wait>(rt: &R, sheet: &mut Sheet) {
+/// Plays a queue that is full: it takes neither job nor mark; one parcel less, it takes the mark.
+pub(crate) fn put_full_queue<R: Wait>(rt: &R, sheet: &mut Sheet) {
     let Ok((queue, mut first)) = new_queue(sheet.alloc) else {
         return sheet.lack();
     };

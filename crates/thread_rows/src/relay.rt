@@ -13,11 +13,9 @@ mod script;
 mod serving;
 mod waiting;
 
-use crate::print;
 use line_words::cut;
-use serving::played;
-use std::alloc::Global;
-use std::io;
+use row_text::Sheet;
+use serving::put_row;
 use std::random::RandomSource;
 use std::sync::Wait;
 use std::thread::Threads;
@@ -26,10 +24,11 @@ use std::time::Clock;
 /// What stands in front of the line that a row begins with.
 const MARK: &[u8] = b"== ";
 
-/// Plays the rows of a text. What stands before the first one is of none.
-pub(crate) fn play<R>(rt: &R, alloc: Global, text: &[u8]) -> io::Result<()>
+/// Plays the rows of a text, and writes what came of each. What stands before the first one is of
+/// none.
+pub(crate) fn put_rows<R>(rt: &R, sheet: &mut Sheet, text: &[u8])
 where
-    R: Threads + Wait + Clock + RandomSource + Print + Sync + 'static,
+    R: Threads + Wait + Clock + RandomSource + Sync + 'static,
 {
     let mut row = text;
     let mut unread = Some(text);
@@ -37,22 +36,10 @@ where
         let (line, after) = cut(rest, b'\n');
         if line.starts_with(MARK) {
             let count = row.len().saturating_sub(rest.len());
-            print_row(rt, alloc, row.get(..count).unwrap_or(b""))?;
+            put_row(rt, sheet, row.get(..count).unwrap_or(b""));
             row = rest;
         }
         unread = after;
     }
-    print_row(rt, alloc, row)
-}
-
-/// Plays the row of these lines, where they begin one.
-fn print_row<R>(rt: &R, alloc: Global, lines: &[u8]) -> io::Result<()>
-where
-    R: Threads + Wait + Clock + RandomSource + Print + Sync + 'static,
-{
-    let (head, lines) = cut(lines, b'\n');
-    if !head.starts_with(MARK) {
-        return Ok(());
-    }
-    print(rt, &played(rt, alloc, head, lines))
+    put_row(rt, sheet, row);
 }

@@ -1,12 +1,13 @@
 //! Texts of histories.
 ghost use Rattle.id_history.specs.Room.{HasRoom};
 
-use crate::runs::{Change, Runs, changed, number};
+use crate::runs::{Change, number};
 use crate::stops::octets::octets_by;
 use crate::stops::steps::put_tokens;
+use crate::texts::{Look, walk};
 use id_history::{History, HistoryError, KeptFeed, KeptId, Setting, read, write};
-use line_words::is;
-use row_text::{Cells, Sheet, joined, parts_of};
+use line_words::{cut, is};
+use row_text::{Cells, Sheet, joined};
 use std::alloc::Global;
 use std::mem;
 
@@ -63,25 +64,22 @@ impl Texts {
 
     /// Writes what the text gives with this change at each of its octets in turn.
     pub(crate) fn walk(&self, change: Change, sheet: &mut Sheet) {
-        let mut runs = Runs::new(sheet.alloc, false, 0);
-        for place in 0..self.text.len() {
-            let text = changed(&self.text, place, change, sheet);
-            let mut said = Sheet::new(sheet.alloc);
-            put_reading(&text, &self.setting, &mut said);
-            runs.add(said.onto(sheet), sheet);
-        }
-        runs.end(sheet);
+        let look = Look::History(&self.setting);
+        walk(look, &self.text, change, self.text.len(), sheet);
     }
 }
 
 /// The numbers that stand in a cell between commas.
 fn numbers_of(cell: &[u8], sheet: &mut Sheet) -> Vec<u32> {
     let mut numbers = Vec::new(sheet.alloc);
-    for word in &parts_of(Some(cell), b',', sheet) {
+    let mut unread = Some(cell);
+    while let Some(rest) = unread {
+        let (word, after) = cut(rest, b',');
         let number = sheet.read_up_to(MOST, word) as u32;
         if numbers.push(number).is_err() {
             sheet.lack();
         }
+        unread = after;
     }
     numbers
 }
@@ -133,7 +131,7 @@ fn put_ids(ids: &[KeptId], sheet: &mut Sheet) {
 
 /// Writes `read` where a text is that of the history that it says, else `other`, or its fault.
 #[tactic(auto, using(crate::proofs::Rooms::room_of))]
-fn put_reading(text: &[u8], setting: &Setting, sheet: &mut Sheet) {
+pub(crate) fn put_kept(text: &[u8], setting: &Setting, sheet: &mut Sheet) {
     match read(sheet.alloc, text, setting) {
         Ok(history) => {
             put_written(&history, text, sheet);

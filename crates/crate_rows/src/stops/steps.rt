@@ -28,42 +28,31 @@ const MOST_CALLS: u64 = 64;
 impl Bench {
     /// Writes what the step of this name answers.
     pub fn put_step(&mut self, name: &[u8], cells: &Cells, sheet: &mut Sheet) {
-        match step_of(name, cells, sheet) {
-            Some(step) => self.take_step(step, sheet),
-            None => sheet.refuse(),
+        if let Some(step) = step_of(name, cells, sheet) {
+            self.take_step(step, sheet);
         }
     }
 
     /// Writes what the step that the cells name answers with each call of the device failing in
     /// turn, the last time none.
     pub fn put_each(&mut self, cells: &Cells, sheet: &mut Sheet) {
-        match step_of(cells.next(), cells, sheet) {
-            Some(step) => self.put_failing(step, sheet),
-            None => sheet.refuse(),
-        }
-    }
-
-    /// Writes what a step answers with each call of the device failing in turn, the last time none.
-    fn put_failing(&mut self, step: Step, sheet: &mut Sheet) {
+        let Some(step) = step_of(cells.next(), cells, sheet) else {
+            return;
+        };
         let mut runs = Runs::new(sheet.alloc, false, 1);
         for failing in 1..MOST_CALLS {
-            let said = self.said_failing(step, failing, sheet);
-            let is_last = !is_error(&said);
-            runs.add(said, sheet);
+            let mut said = Sheet::new(sheet.alloc);
+            self.arm(failing);
+            self.take_step(step, &mut said);
+            // An answer that is an error begins with a capital letter.
+            let is_last = !matches!(said.octets().first(), Some(b'A'..=b'Z'));
+            runs.add(said.onto(sheet), sheet);
             if is_last {
                 break;
             }
         }
         runs.end(sheet);
         self.arm(0);
-    }
-
-    /// What a step answers with this call of the device failing, as it is written.
-    fn said_failing(&mut self, step: Step, failing: u64, sheet: &mut Sheet) -> Vec<u8> {
-        let mut said = Sheet::new(sheet.alloc);
-        self.arm(failing);
-        self.take_step(step, &mut said);
-        said.onto(sheet)
     }
 
     /// Takes a step, and writes its answer.
@@ -81,14 +70,18 @@ impl Bench {
     }
 }
 
-/// The step of this name and these cells.
+/// The step of this name and these cells; where they are no step's, the row has no answer.
 fn step_of(name: &[u8], cells: &Cells, sheet: &mut Sheet) -> Option<Step> {
-    let step = match place_of("shut restart start open leave", name)? {
-        0 => Step::Shut(sheet.read(cells.next())),
-        1 => Step::Restart(sheet.read(cells.next())),
-        2 => start_in(cells, sheet),
-        3 => Step::Open,
-        _ => Step::Leave,
+    let step = match place_of("shut restart start open leave", name) {
+        Some(0) => Step::Shut(sheet.read(cells.next())),
+        Some(1) => Step::Restart(sheet.read(cells.next())),
+        Some(2) => start_in(cells, sheet),
+        Some(3) => Step::Open,
+        Some(_) => Step::Leave,
+        None => {
+            sheet.refuse();
+            return None;
+        }
     };
     if cells.are_read() && !sheet.is_spoilt() {
         Some(step)
@@ -102,14 +95,6 @@ pub(crate) fn start_in(cells: &Cells, sheet: &mut Sheet) -> Step {
     let buffer = octet(cells, sheet);
     let cycle = number(cells, sheet);
     Step::Start(buffer, cycle)
-}
-
-/// Whether an answer is an error: those begin with a capital letter.
-fn is_error(said: &[u8]) -> bool {
-    match said.first() {
-        Some(octet) => octet.is_ascii_uppercase(),
-        None => false,
-    }
 }
 
 /// Takes a step of a buffer that runs.

@@ -8,32 +8,22 @@ use stream_cut::{Block, Cut, Want, cut_all};
 /// Writes the answer of a call of pieces, which come behind a limit and what is wanted: what is cut
 /// off them, off a stream in pieces of a size that stands in front, or off one of two pieces.
 pub fn of_pieces(call: usize, cells: &Cells, sheet: &mut Sheet) {
-    if call == 15 {
-        return put_stream(cells, sheet);
-    }
+    let size = match call {
+        15 => sheet.read(cells.next()) as usize,
+        _ => 0,
+    };
     let limit = sheet.read(cells.next()) as usize;
     let wants = cells.next();
     if call == 14 {
         return put_cuts(limit, wants, cells.rest(), sheet);
     }
     let stream = cells.next();
+    if call == 15 {
+        return put_cuts(limit, wants, &pieces_of(size, stream, sheet), sheet);
+    }
     let look = Look::Pieces(stream, limit, wants);
-    walk(
-        look,
-        stream,
-        Change::Cut,
-        stream.len().saturating_add(1),
-        sheet,
-    );
-}
-
-/// Writes what is cut off a stream in pieces of a size.
-fn put_stream(cells: &Cells, sheet: &mut Sheet) {
-    let size = sheet.read(cells.next()) as usize;
-    let limit = sheet.read(cells.next()) as usize;
-    let wants = cells.next();
-    let pieces = pieces_of(size, cells.next(), sheet);
-    put_cuts(limit, wants, &pieces, sheet);
+    let fronts = stream.len().saturating_add(1);
+    walk(look, stream, Change::Cut, fronts, sheet);
 }
 
 /// Writes what is cut off these pieces, between square brackets.

@@ -1,8 +1,10 @@
 //! Walks over a text.
 
 use crate::runs::{Change, Runs, changed};
+use crate::stops::put_kept;
 use crate::texts::articles::{put_front_line, put_reading};
 use crate::texts::streams::put_cuts;
+use id_history::Setting;
 use nntp_text::Command;
 use row_text::{Sheet, add_octets};
 use uwild::Expr;
@@ -10,6 +12,8 @@ use uwild::Expr;
 /// What is looked at in a walk.
 #[derive(Clone, Copy)]
 pub enum Look<'a> {
+    /// What the text of a history gives under this setting.
+    History(&'a Setting),
     /// What a command line gives.
     Command,
     /// The fault of a text, `None` where it is an expression.
@@ -23,9 +27,11 @@ pub enum Look<'a> {
     Pieces(&'a [u8], usize, &'a [u8]),
 }
 
-/// Writes what a text gives with this change at each of so many places in turn.
+/// Writes what a text gives with this change at each of so many places in turn: behind the places
+/// that have it where the text is of a history, else behind their number.
 pub fn walk(look: Look<'_>, octets: &[u8], change: Change, places: usize, sheet: &mut Sheet) {
-    let mut runs = Runs::new(sheet.alloc, true, 0);
+    let are_counted = !matches!(look, Look::History(_));
+    let mut runs = Runs::new(sheet.alloc, are_counted, 0);
     for place in 0..places {
         let text = changed(octets, place, change, sheet);
         let mut said = Sheet::new(sheet.alloc);
@@ -38,6 +44,7 @@ pub fn walk(look: Look<'_>, octets: &[u8], change: Change, places: usize, sheet:
 /// Writes what a text gives.
 pub fn put_look(look: Look<'_>, octets: &[u8], sheet: &mut Sheet) {
     match look {
+        Look::History(setting) => put_kept(octets, setting, sheet),
         Look::Command => sheet.debug(&Command::parse(sheet.alloc, octets)),
         Look::Expression => sheet.debug(&Expr::parse(sheet.alloc, octets).err()),
         Look::Overview => put_front_line(octets, sheet),

@@ -1,9 +1,7 @@
 //! The configurations that rows are played over.
-ghost use Rattle.std.specs.Prelude.{◌<◌, All, length, IfOk};
-
 use relay_conf::{
-    Buffers, ConfError, Config, K1_CYCBUFF, K1_RELAY, K1_STORAGE, Relay, StorageEntry,
-    read_cycbuff, read_relay, read_storage,
+    ConfError, Config, K1_CYCBUFF, K1_RELAY, K1_STORAGE, Relay, read_cycbuff, read_relay,
+    read_storage,
 };
 use std::alloc::Global;
 
@@ -39,29 +37,13 @@ pub(crate) fn row_config(alloc: Global, site: Site, forgets: bool) -> Result<Con
         Site::TwoFeeds => (K1_CYCBUFF, K1_STORAGE, TWO_FEEDS),
     };
     let buffers = read_cycbuff(alloc, cycbuff)?;
-    let storage_entries = storage_entries_of(alloc, storage, &buffers)?;
+    let storage_entries = read_storage(alloc, storage, &buffers)?;
     let relay = relay_of(alloc, relay, forgets)?;
     Ok(Config::new(buffers, storage_entries, relay))
 }
 
 /// The settings of this text, where ids are remembered for a hundred seconds if `forgets` says so.
 fn relay_of(alloc: Global, text: &[u8], forgets: bool) -> Result<Relay, ConfError> {
-    let mut lines = Vec::from_slice(alloc, text)?;
-    if forgets {
-        lines.extend_from_slice(b"remember 100\n")?;
-    }
-    read_relay(alloc, &lines)
-}
-
-/// The entries of this text, over these groups.
-fn storage_entries_of(
-    alloc: Global,
-    storage: &[u8],
-    buffers: &Buffers,
-) -> Result<Vec<StorageEntry>, ConfError>
-    ensures { IfOk result (λ storage_entries.
-        All (λ storage_entry. storage_entry.group < length buffers.now.groups.items)
-        storage_entries.items) }
-{
-    read_storage(alloc, storage, buffers)
+    let behind: &[u8] = if forgets { b"remember 100\n" } else { b"" };
+    read_relay(alloc, &[text, behind].concat(alloc)?)
 }

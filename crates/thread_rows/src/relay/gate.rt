@@ -86,29 +86,33 @@ impl<'a> Turns<'a> {
         self.end(self.done.load(Ordering::SeqCst));
     }
 
-    /// Lets the command in where it is its turn.
-    fn lets_in(&self, session: u64, command: u64) -> bool {
+    /// Whether it is the turn of this command; for the session's end, whether it is the session's.
+    fn is_turn(&self, session: u64, command: u64) -> bool {
         match self.next() {
-            Some(turn) if turn.is_of(session, command) => {
-                if turn.is_beside {
-                    self.end_next();
-                }
-                true
-            }
-            _ => false,
+            Some(turn) => turn.session == session && (command == GONE || turn.command == command),
+            None => false,
         }
     }
 
     /// Waits for the command's turn; false where that doesn't come.
     pub(crate) fn wait<R: Wait + Clock>(&self, rt: &R, session: u64, command: u64) -> bool {
         for _look in 0..MOST_LOOKS {
-            if self.lets_in(session, command) {
+            if self.is_turn(session, command) {
                 return true;
             }
             pause(rt);
         }
         self.board.gave_up();
         false
+    }
+
+    /// The command of the next turn is let in, which ends a turn beside others.
+    fn let_in(&self) {
+        if let Some(turn) = self.next() {
+            if turn.is_beside {
+                self.end_next();
+            }
+        }
     }
 
     /// Where it is the command's turn, that is done.
@@ -123,16 +127,11 @@ impl<'a> Turns<'a> {
     /// The session has returned: where the order tells that, then once it is its turn, what the
     /// order has of it up to there is done.
     pub(crate) fn returned<R: Wait + Clock>(&self, rt: &R, session: u64) {
-        let Some(at) = self.end_of(session) else {
-            return;
-        };
-        for _look in 0..MOST_LOOKS {
-            if self.goes_past(session, at) {
-                return;
+        if let Some(at) = self.end_of(session) {
+            if self.wait(rt, session, GONE) {
+                self.end(at);
             }
-            pause(rt);
         }
-        self.board.gave_up();
     }
 
     /// The place in the order of the turn in which the session has returned.
@@ -146,17 +145,6 @@ impl<'a> Turns<'a> {
         }
         None
     }
-
-    /// Where the next turn is the session's, its turns up to this place are done.
-    fn goes_past(&self, session: u64, at: usize) -> bool {
-        match self.next() {
-            Some(turn) if turn.session == session => {
-                self.end(at);
-                true
-            }
-            _ => false,
-        }
-    }
 }
 
 impl<R: Wait + Clock> Gate<R> for Turns<'_> {
@@ -169,7 +157,13 @@ impl<R: Wait + Clock> Gate<R> for Turns<'_> {
         match self.manner {
             Manner::Open => true,
             Manner::Closed => false,
-            Manner::ByTurns => self.wait(rt, command.session(), command.number()),
+            Manner::ByTurns => {
+                let comes = self.wait(rt, command.session(), command.number());
+                if comes {
+                    self.let_in();
+                }
+                comes
+            }
         }
     }
 

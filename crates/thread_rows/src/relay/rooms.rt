@@ -25,7 +25,7 @@ pub(crate) struct Voice<'a, R: Sync> {
 
 impl<R: Wait + Clock + Sync> Read for Voice<'_, R> {
     fn read(&mut self, room: &mut [u8]) -> io::Result<usize> {
-        self.interrupted = self.habits.by_octets && !self.interrupted;
+        self.interrupted = self.habits.by_octets & !self.interrupted;
         if self.interrupted {
             return Err(io::Error::from(ErrorKind::Interrupted));
         }
@@ -36,11 +36,8 @@ impl<R: Wait + Clock + Sync> Read for Voice<'_, R> {
             self.front = self.rest;
             self.rest = b"";
         }
-        let most = if self.habits.by_octets { 1 } else { room.len() };
-        let count = most.min(room.len()).min(self.front.len());
-        let (octets, front) = self.front.split_at(count);
-        room[..count].copy_from_slice(octets);
-        self.front = front;
+        let most = self.habits.most_of(room.len());
+        let count = self.front.read(&mut room[..most])?;
         if self.front.is_empty() && self.rest.is_empty() {
             self.board.sent(self.rt, self.number);
         }
@@ -62,16 +59,11 @@ pub(crate) struct Pen<'a, R: Sync> {
 
 impl<R: Wait + Sync> Write for Pen<'_, R> {
     fn write(&mut self, octets: &[u8]) -> io::Result<usize> {
-        self.interrupted = self.habits.by_octets && !self.interrupted;
+        self.interrupted = self.habits.by_octets & !self.interrupted;
         if self.interrupted {
             return Err(io::Error::from(ErrorKind::Interrupted));
         }
-        let most = if self.habits.by_octets {
-            1
-        } else {
-            octets.len()
-        };
-        let count = most.min(octets.len()).min(self.left);
+        let count = self.habits.most_of(octets.len()).min(self.left);
         self.left = self.left.saturating_sub(count);
         self.board.write(self.rt, self.number, &octets[..count])?;
         if count == 0 && self.habits.breaks {

@@ -6,7 +6,7 @@ use crate::relay::configs::Site;
 use crate::relay::fetches::Fetch;
 use crate::relay::gate::{COMES, GONE, Manner, Turn};
 use crate::relay::script::Script;
-use crate::relay::waiting::Waits;
+use crate::relay::waiting::{NO_WAITS, Waits};
 use crate::words::{number_in, numbered, word_of};
 use line_words::{cut, is_skipped, number_within, two_parts};
 use row_text::place_of;
@@ -52,19 +52,7 @@ pub(crate) struct Row {
 impl Row {
     /// The row of these lines, without lines where there are none.
     pub(crate) fn read(alloc: Global, lines: Option<&[u8]>) -> Row {
-        let mut row = Row::new(alloc);
-        let mut unread = lines;
-        while let Some(rest) = unread {
-            let (line, after) = cut(rest, b'\n');
-            row.add(alloc, line);
-            unread = after;
-        }
-        row
-    }
-
-    /// A row without lines.
-    fn new(alloc: Global) -> Row {
-        Row {
+        let mut row = Row {
             failing: 0,
             sweep: 0,
             moment: USUAL_MOMENT,
@@ -73,15 +61,19 @@ impl Row {
             has_one_peer: false,
             is_counted: false,
             manner: Manner::ByTurns,
-            waits: Waits {
-                reads: Sign::Always,
-                writes: Sign::Always,
-            },
+            waits: NO_WAITS,
             sessions: Vec::new(alloc),
             order: Vec::new(alloc),
             fetches: Vec::new(alloc),
             is_bad: false,
+        };
+        let mut unread = lines;
+        while let Some(rest) = unread {
+            let (line, after) = cut(rest, b'\n');
+            row.add(alloc, line);
+            unread = after;
         }
+        row
     }
 
     /// Adds a line.

@@ -1,4 +1,5 @@
 //! What a session sends, and how its end of the connection behaves.
+ghost use Rattle.std.specs.Prelude.{◌≤◌};
 
 use crate::articles::put_article;
 use crate::relay::gate::Turn;
@@ -15,6 +16,19 @@ pub(crate) struct Habits {
     pub(crate) takes: usize,
     /// It fails where it takes no more.
     pub(crate) breaks: bool,
+}
+
+impl Habits {
+    /// How many of so many octets it gives or takes at a time, at most.
+    pub(crate) fn most_of(&self, octets: usize) -> usize
+        ensures { result ≤ octets }
+    {
+        if self.by_octets {
+            octets.min(1)
+        } else {
+            octets
+        }
+    }
 }
 
 /// What a session sends.

@@ -4,6 +4,7 @@ ghost use Rattle.relay_live.specs.Holding.{has_buffer};
 ghost use Rattle.relay_live.specs.Making.{ends_in, slots_of};
 
 use crate::clock::Hands;
+use crate::relay::MARK;
 use crate::relay::board::{Board, Sign};
 use crate::relay::configs::row_config;
 use crate::relay::fetches::put_fetches;
@@ -13,7 +14,7 @@ use crate::relay::rooms::Visit;
 use crate::relay::row::Row;
 use crate::relay::waiting::{Waiting, waiting_stores};
 use cyc_block::BlockStore;
-use line_words::is;
+use line_words::{cut, is};
 use live_store::{ArticleLog, StorePremises};
 use relay_conf::Config;
 use relay_live::{Counted, Keeper, PeerSource, Serving, Shared, serve_all};
@@ -238,32 +239,27 @@ where
     drop(board);
 }
 
-/// Plays the row of these lines, and says what came of it behind the line that it begins with.
-pub(crate) fn played<R>(rt: &R, alloc: Global, head: &[u8], lines: Option<&[u8]>) -> Sheet
+/// Plays the row of these lines, and writes what came of it behind the one that it begins with.
+/// Lines that begin none are not played.
+pub(crate) fn put_row<R>(rt: &R, sheet: &mut Sheet, lines: &[u8])
 where
     R: Threads + Wait + Clock + RandomSource + Sync + 'static,
 {
-    let mut sheet = Sheet::new(alloc);
+    let (head, behind) = cut(lines, b'\n');
+    if !head.starts_with(MARK) {
+        return;
+    }
     sheet.put(head);
     sheet.put(b"\n");
-    let row = Row::read(alloc, lines);
-    put_row(rt, &mut sheet, &row);
-    drop(row);
-    sheet
-}
-
-/// Plays a row, and writes what came of it.
-fn put_row<R>(rt: &R, sheet: &mut Sheet, row: &Row)
-where
-    R: Threads + Wait + Clock + RandomSource + Sync + 'static,
-{
+    let row = Row::read(sheet.alloc, behind);
     if row.is_bad {
         sheet.refuse();
     } else if row.sweep > 0 {
-        sweep(rt, sheet, row);
+        sweep(rt, sheet, &row);
     } else {
-        play(rt, sheet, row, row.failing);
+        play(rt, sheet, &row, row.failing);
     }
+    drop(row);
 }
 
 /// Plays a row with each call of a store failing in turn: what came of a call is told wherever it

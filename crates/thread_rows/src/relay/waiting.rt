@@ -16,7 +16,7 @@ pub(crate) struct Waits {
 }
 
 /// Nothing is waited for.
-const NO_WAITS: Waits = Waits {
+pub(crate) const NO_WAITS: Waits = Waits {
     reads: Sign::Always,
     writes: Sign::Always,
 };
@@ -97,7 +97,7 @@ pub(crate) fn waiting_stores<'a, R: Wait + Clock + Sync>(
     ensures honest { IfOk result (λ stores.
         All ⟦<Waiting<'a, R> as BlockStore>⟧.honest stores.items) }
 {
-    let mut stores = Vec::with_capacity(alloc, settings.buffers.len())?;
+    let mut stores = Vec::new(alloc);
     for buffer in &settings.buffers {
         let memory = MemoryBlocks::new(alloc, buffer.blocks)?;
         let waits = waits_of(stores.len(), waits);
