@@ -2,7 +2,7 @@
 //
 // So many articles of so many octets, each of which lies in memory of its own, are copied into a
 // ring of 65,536 blocks of 512, at most 480 octets to a block, as many as the relay's buffers have
-// in relay_rows; each message-id is put into a map with the place of the article's first block. It
+// in relay.py; each message-id is put into a map with the place of the article's first block. It
 // prints the seconds that this took. What the relay does besides (reading lines, judging, heads of
 // blocks, replies, claims) is not done here.
 use std::collections::HashMap;

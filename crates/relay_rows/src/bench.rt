@@ -1,9 +1,6 @@
-//! Benchmarks: how fast the crates of texts and settings are, how fast the whole relay is over
-//! blocks in memory, with one thread. They promise nothing and are no tests.
+//! Benchmarks: how fast the crates of texts and settings are. They promise nothing and are no
+//! tests.
 
-mod events;
-mod loads;
-mod relay;
 mod work;
 
 use row_text::place_of;
@@ -23,18 +20,13 @@ pub(crate) fn run(rt: &HostRuntime, words: &[String]) -> ExitCode {
     }
 }
 
-/// Does what the words ask. A first one with a colon names a load of the relay, as all do then, any
-/// other word a work on texts.
+/// Does the work on texts that the first word names.
 fn asked(rt: &HostRuntime, words: &[String]) -> io::Result<()> {
     let Some((first, behind)) = words.split_first() else {
         return Ok(());
     };
-    let word = first.as_str();
-    if word.contains(':') {
-        return relay::serve_all(rt, words);
-    }
     let number = count(behind.first());
-    match place_of(work::NAMES, word.as_bytes()) {
+    match place_of(work::NAMES, first.as_str().as_bytes()) {
         Some(work) => time_all(rt, work, number as usize, behind),
         None => Err(io::Error::from(ErrorKind::InvalidInput)),
     }
