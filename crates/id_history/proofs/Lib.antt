@@ -22,3 +22,4 @@ mod RoomOfAll
 mod ShardsLemmas
 mod Tests
 mod Tokens
+mod Parts

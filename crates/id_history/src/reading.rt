@@ -91,13 +91,13 @@ fn fate(bytes: &[u8]) -> Option<(Option<Token>, u64, &[u8])>
     ensures { fate_at bytes.now
         ≡ option_map (λ x. ((option_map token_view x.0, x.1), x.2.now)) result }
 {
-    match bytes {
-        [1, rest @ ..] => {
-            let (moment, rest) = number64(rest)?;
-            Some((None, moment, rest))
-        }
-        [2, rest @ ..] => {
-            let (moment, rest) = number64(rest)?;
+    let [kind, rest @ ..] = bytes else {
+        return None;
+    };
+    let (moment, rest) = number64(rest)?;
+    match *kind {
+        1 => Some((None, moment, rest)),
+        2 => {
             let (token, rest) = token(rest)?;
             Some((Some(token), moment, rest))
         }

@@ -1,4 +1,5 @@
-use Rattle.std.proofs.Common.{[], ◌++◌, map}
+use Rattle.std.proofs.Common.{[], ◌++◌, arith, map}
+use Rattle.std.proofs.lemmas.List.{length-map}
 use Rattle.std.specs.Int.{to_be_bytes, w64}
 use Rattle.id_history.specs.History.{feeds_octets, ids_octets, mark, positions_octets}
 use Rattle.id_history.specs.Views.{feed_view, id_view}
@@ -20,3 +21,16 @@ returns-clause-octets c =
     (behind c.put_positions.new.out.items feeds ids
     (rw c.deref-2.ensures.value at c.in_ok-put_feeds.ensures.octets)
     (rw c.deref-3.ensures.value at c.in_ok-put_ids.ensures.octets)))
+
+-- each part has room
+pub returns-clause-fits : goal.returns-clause-fits
+returns-clause-fits c = record {
+  stop = omega arith;
+  newest = omega arith;
+  groups = c.requires.groups;
+  positions = rw c.deref.ensures.value at c.in_ok-put_positions.ensures.fits;
+  counts = omega (arith, c.requires.feeds, length-map c.args.history.now.feeds.items feed_view);
+  feeds = rw c.deref-2.ensures.value at c.in_ok-put_feeds.ensures.fits;
+  number = omega (arith, length-map c.args.history.now.ids.items id_view);
+  ids = rw c.deref-3.ensures.value at c.in_ok-put_ids.ensures.fits;
+}
