@@ -2,6 +2,7 @@ mod MarkLemmas
 pub mod Places
 pub mod Finished
 mod Keeping
+mod LookLemmas
 mod Beginning
 pub mod Finishing
 pub mod OpenLemmas

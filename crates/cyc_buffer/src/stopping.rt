@@ -112,10 +112,10 @@ impl<S: BlockStore> Buffer<S> {
         // Of a store that has been counted it is known how many head blocks it has.
         let _blocks = self.store.count();
         let image = head_image(&self.buffer_state.numbers(state, stop));
-        if self.store.write_head(0, &image).is_err() {
-            return Err(BufError::Device(self.buffer_state.fault(FaultKind::Write, 0)));
+        match self.store.write_head(0, &image) {
+            Ok(()) => Ok(()),
+            Err(_failed) => Err(BufError::Device(self.buffer_state.fault(FaultKind::Write, 0))),
         }
-        Ok(())
     }
 
     /// Says on the device that the buffer may change from here, and from which stop it was started.
