@@ -1,8 +1,8 @@
 -- A begin, in the histories of the buffers and in what the buffer set keeps, by what the code finds
--- on its way: the group, its pick, the number and the buffer.
+-- on its way: the group, its pick with the number, and the buffer.
 use Rattle.std.proofs.Common.{◌≡◌, ◌∙◌, ℕ, ◌<◌, ◌≤◌, nat_lt, Bool, false, refl, sym, ap}
 use Rattle.std.proofs.Common.{arith, length, map, List, [], ◌∷◌, ◌++◌, Option, None, Some, All}
-use Rattle.std.proofs.Common.{slice_get, length-set, slice_set}
+use Rattle.std.proofs.Common.{slice_get, length-set, option_map, slice_set}
 use Rattle.std.proofs.lemmas.Bool.{ltb-false}
 use Rattle.std.proofs.lemmas.Bool.Decides.{nat_tests}
 use Rattle.std.proofs.lemmas.List.Elements.{All-append, All-cons, All-nil}
@@ -14,7 +14,6 @@ use Rattle.std.specs.Prelude.{option_and_then}
 use Rattle.std.specs.Vec.{with_item}
 use Rattle.buffer_group.specs.Groups.{KeepsPlaces, pick_view}
 use Rattle.buffer_group.specs.declared.group.Group as groups
-use Rattle.buffer_group.specs.declared.group.Pick.{Pick}
 use Rattle.cyc_block.specs.declared.store.BlockStore.{Ghosts}
 use Rattle.cyc_buffer.proofs.Finished.{lies, not_at_next}
 use Rattle.cyc_buffer.specs.Agreement as buffers
@@ -49,9 +48,11 @@ use Rattle.block_shelf.specs.Calls.{BegunAs, CanBegin, KeepsAll, place_in, token
 use Rattle.block_shelf.specs.Histories.{HasBegins, HasTexts}
 use Rattle.block_shelf.specs.Keeping.{KeepsTexts, KeepsPlacedGroup}
 use Rattle.block_shelf.specs.Openings.{Opening, IsOpen}
+use Rattle.block_shelf.specs.Picking.{IsPicked}
 use Rattle.block_shelf.specs.Starting.{PlacedGroupsKeep}
 use Rattle.block_shelf.specs.declared.buffer_set.PlacedGroup.{PlacedGroup}
 use Rattle.block_shelf.specs.declared.buffer_set.BufferSet.{BufferSet}
+use Rattle.block_shelf.specs.declared.picking.Place as code_places
 
 -- THE HISTORIES
 
@@ -179,6 +180,10 @@ module _ {S : Type 0} {g : Ghosts S} {trusted : Bool} {old : BufferSet S g} {w :
   abbrev size : ℕ
   size = size_of octets
 
+  -- the number of a buffer
+  abbrev number_of : places.Buffer → ℕ
+  number_of buffer = buffer.number
+
   -- what the group picks
   abbrev pick : picks.Pick
   pick = pick_of can.group (begun h) size
@@ -211,211 +216,203 @@ module _ {S : Type 0} {g : Ghosts S} {trusted : Bool} {old : BufferSet S g} {w :
         rw (same_Some had.code placed_group
         (sym had.there ∙ ap (slice_get old.placed_groups.items) (sym is) ∙ found)) at had.keeps
 
-    module _ {picked : Pick}
-        (picks_as : (group : Group) (sizes : List ℕ) → KeepsPlaces placed_group.group group sizes
-        → pick_view picked ≡ pick_of group sizes size) where
+    -- so there is a place for the article
+    pub has_place : ((group : Group) (sizes : List ℕ) → KeepsPlacedGroup placed_group group sizes
+        → ⊥) → ⊥
+    has_place none = none can.group (begun h) has_group
+
+    module _ {to : code_places.Place}
+        (picks_as : (group : Group) (sizes : List ℕ) → KeepsPlacedGroup placed_group group sizes
+        → IsPicked group sizes size to) where
+      is_picked : IsPicked can.group (begun h) size to
+      is_picked = picks_as can.group (begun h) has_group
+
       -- so it picks what the group picks
-      picks_it : pick_view picked ≡ pick
-      picks_it = picks_as can.group (begun h) has_group.position
+      picks_it : pick_view to.pick ≡ pick
+      picks_it = is_picked.picked
 
-      -- its number is at the place that was picked
-      number_there : slice_get placed_group.numbers.items picked.buffer ≡ Some target.0.number
-      number_there =
-          rw (has_group.numbers, slice_get-map, ap (λ (p : picks.Pick). p.index) picks_it, target.1)
+      -- the buffer of this number is there
+      stands_there : slice_get w.buffers to.number ≡ Some target.0
+      stands_there =
+          let there : slice_get can.group.buffers to.pick.buffer ≡ Some target.0 =
+          ap (λ (p : picks.Pick). slice_get can.group.buffers p.index) picks_it ∙ target.1 in
+          let number : target.0.number ≡ to.number =
+          same_Some target.0.number to.number
+          (sym (slice_get-map number_of can.group.buffers to.pick.buffer
+          ∙ ap (option_map number_of) there) ∙ is_picked.numbered) in
+          ap (slice_get w.buffers) (sym number)
+          ∙ stands (buffers_kept keeps)
+          (record { group = can.group; is_group = can.there; is_buffer = target.1 })
 
-      -- the group has a number for the buffer that it picks
-      pub has_number : {numbers : List ℕ} → numbers ≡ placed_group.numbers.items
-          → false ≡ nat_lt picked.buffer (length numbers) → ⊥
-      has_number {numbers} listed missing =
-          omega (
-            arith,
-            ltb-false picked.buffer _ (sym missing),
-            ap length listed,
-            slice_get_within placed_group.numbers.items picked.buffer target.0.number number_there,
-          )
+      -- the buffer that was picked is one of the buffer set's
+      pub has_buffer : false ≡ nat_lt to.number (length old.buffers.items) → ⊥
+      has_buffer missing =
+          none-some _ (sym (past_last (buffers_kept keeps) to.number missing) ∙ stands_there)
 
-      module _ {numbers : List ℕ} (listed : numbers ≡ placed_group.numbers.items) {number : ℕ}
-          (read : slice_get numbers picked.buffer ≡ Some number) where
-        -- the buffer of this number is there
-        stands_there : slice_get w.buffers number ≡ Some target.0
-        stands_there =
-            cc (
-              read,
-              listed,
-              number_there,
-              stands (buffers_kept keeps)
-                  (record { group = can.group; is_group = can.there; is_buffer = target.1 }),
-            )
+      module _ {code : Buffer S g} (there : slice_get old.buffers.items to.number ≡ Some code) where
+        at : KeptAt trusted w begun kept openings failures to.number code
+        at = kept_at (buffers_kept keeps) there
 
-        -- the buffer that was picked is one of the buffer set's
-        pub has_buffer : false ≡ nat_lt number (length old.buffers.items) → ⊥
-        has_buffer missing =
-            none-some _ (sym (past_last (buffers_kept keeps) number missing) ∙ stands_there)
+        -- its history
+        abbrev now : History
+        now = at.now
 
-        module _ {code : Buffer S g} (there : slice_get old.buffers.items number ≡ Some code) where
-          at : KeptAt trusted w begun kept openings failures number code
-          at = kept_at (buffers_kept keeps) there
+        -- where the article goes
+        abbrev goes_to : Place
+        goes_to = place_in_buffer now.buffer (histories.next_place now pick.fresh size)
 
-          -- its history
-          abbrev now : History
-          now = at.now
+        here : slice_get can.group.buffers pick.index ≡ Some now.buffer
+        here = target.1 ∙ sym stands_there ∙ at.there
 
-          -- where the article goes
-          abbrev goes_to : Place
-          goes_to = place_in_buffer now.buffer (histories.next_place now pick.fresh size)
+        now_at : IsBufferAt w.groups h pick.index now.buffer
+        now_at = record { group = can.group; is_group = can.there; is_buffer = here }
 
-          here : slice_get can.group.buffers pick.index ≡ Some now.buffer
-          here = target.1 ∙ sym stands_there ∙ at.there
+        goes_there : place_in w h (begun h) size ≡ Some goes_to
+        goes_there =
+            ap (option_and_then (λ (one : Group). places.next_place one (begun h) size)) can.there
+            ∙ picked_places can.group (begun h) (keeps.fit h can.group can.there) size can.fits
+            ∙ rw (here, ← at.said.begins.picked h pick.index can.group can.there here)
 
-          now_at : IsBufferAt w.groups h pick.index now.buffer
-          now_at = record { group = can.group; is_group = can.there; is_buffer = here }
+        -- a begin is refused for its cycle alone
+        in_time : ((e : BufError) → Some e ≡ refusal now octets pick.fresh
+            → last_cycle < goes_to.cycle)
+            × (None ≡ refusal now octets pick.fresh → goes_to.cycle ≤ last_cycle)
+        in_time =
+            worn now octets pick.fresh (can.fits.room pick.index now.buffer here)
+            (is_free openings h can.free (only_there keeps now_at) at.said.writing)
 
-          goes_there : place_in w h (begun h) size ≡ Some goes_to
-          goes_there =
-              ap (option_and_then (λ (one : Group). places.next_place one (begun h) size)) can.there
-              ∙ picked_places can.group (begun h) (keeps.fit h can.group can.there) size can.fits
-              ∙ rw (here, ← at.said.begins.picked h pick.index can.group can.there here)
+        fresh_is : pick.fresh ≡ to.pick.fresh
+        fresh_is = ap (λ (p : picks.Pick). p.fresh) (sym picks_it)
 
-          -- a begin is refused for its cycle alone
-          in_time : ((e : BufError) → Some e ≡ refusal now octets pick.fresh
-              → last_cycle < goes_to.cycle)
-              × (None ≡ refusal now octets pick.fresh → goes_to.cycle ≤ last_cycle)
-          in_time =
-              worn now octets pick.fresh (can.fits.room pick.index now.buffer here)
-              (is_free openings h can.free (only_there keeps now_at) at.said.writing)
+        -- a begin that the buffer refuses
+        pub not_begun : (code' : Buffer S g) (e : BufError)
+            → buffer_state_of code' ≡ buffer_state_of code → store_of code' ≡ store_of code
+            → ((t : Bool) (each : History) → Agrees t code each
+            → Some e ≡ refusal each octets to.pick.fresh)
+            → (one : Place) × (place_in w h (begun h) size ≡ Some one)
+            × BegunAs trusted w h class octets begun kept openings failures one None
+            (with_buffer old to.number code' (with_item old.placed_groups i placed_group))
+        not_begun code' e same_buffer_state same_store refuses = (
+          goes_to,
+          goes_there,
+          (
+            in_time.0 e (rw fresh_is (refuses trusted now at.agrees)),
+            keeps_all old i found to.number code' there same_buffer_state same_store trusted w begun
+                kept openings failures keeps,
+          ),
+        )
 
-          fresh_is : pick.fresh ≡ picked.fresh
-          fresh_is = ap (λ (p : picks.Pick). p.fresh) (sym picks_it)
+        -- a begin that it takes
+        module _ {code' : Buffer S g} (write : Open) {moved : groups.Group}
+            (same_store : store_of code' ≡ store_of code)
+            (moves : KeepsPlaces placed_group.group can.group (begun h) → pick_view to.pick ≡ pick
+            → KeepsPlaces moved can.group (begun h ++ size ∷ []))
+            (takes : (t : Bool) (each : History) → Agrees t code each
+            → None ≡ refusal each octets to.pick.fresh)
+            (follows : (t : Bool) (each : History) → Agrees t code each
+            → Agrees t code' (with_begin class octets to.pick.fresh each))
+            (named : (t : Bool) (each : History) → Agrees t code each
+            → Some (token_view (buffers.token_of write))
+            ≡ open_token (with_begin class octets to.pick.fresh each)) where
+          -- the token of the open write
+          abbrev token : Token
+          token = token_view (buffers.token_of write)
 
-          -- a begin that the buffer refuses
-          pub not_begun : (code' : Buffer S g) (e : BufError)
-              → buffer_state_of code' ≡ buffer_state_of code → store_of code' ≡ store_of code
-              → ((t : Bool) (each : History) → Agrees t code each
-              → Some e ≡ refusal each octets picked.fresh)
-              → (one : Place) × (place_in w h (begun h) size ≡ Some one)
-              × BegunAs trusted w h class octets begun kept openings failures one None
-              (with_buffer old number code' (with_item old.placed_groups i placed_group))
-          not_begun code' e same_buffer_state same_store refuses = (
+          token_is : token ≡ token_at class octets goes_to
+          token_is = same_Some token _ (rw fresh_is (named trusted now at.agrees))
+
+          named_here : token.buffer ≡ now.buffer.number
+          named_here = ap (λ (t : Token). t.buffer) token_is
+
+          -- the groups after it
+          groups_after : PlacedGroupsKeep
+              (slice_set old.placed_groups.items i
+              (record { group = moved; numbers = placed_group.numbers }))
+              w (begun_more begun h size)
+          groups_after = record {
+            count = length-set old.placed_groups.items i _ ∙ keeps.placed_group_count;
+            each = λ k each at_group.
+                let had = keeps.placed_groups k each at_group in
+                let now = put_both
+                (λ one. KeepsPlacedGroup one each (begun_more begun h size k))
+                old.placed_groups.items i k
+                (record { group = moved; numbers = placed_group.numbers }) had.there
+                (λ same.
+                rw (
+                  put_at_here begun h (begun h ++ size ∷ []) k (same ∙ is),
+                  same_Some each can.group
+                      (sym at_group ∙ ap (slice_get w.groups) (same ∙ is) ∙ can.there),
+                )
+                (record {
+                  position = moves has_group.position picks_it;
+                  numbers = has_group.numbers;
+                }))
+                (λ apart.
+                rw (put_at_there begun h (begun h ++ size ∷ []) k (λ e. apart (e ∙ sym is)))
+                had.keeps) in
+                record { code = now.0; there = now.1; keeps = now.2 };
+          }
+
+          -- each size fits, the new one too
+          fit_after : (k : ℕ) (each : Group) → slice_get w.groups k ≡ Some each
+              → All (FitsGroup each) (begun_more begun h size k)
+          fit_after k each at_group =
+              put_at_both (All (FitsGroup each)) begun h (begun h ++ size ∷ []) k
+              (λ same.
+              rw (same_Some each can.group
+              (sym at_group ∙ ap (slice_get w.groups) same ∙ can.there))
+              (All-append (FitsGroup can.group) (begun h) (size ∷ [])
+              (keeps.fit h can.group can.there)
+              (All-cons (FitsGroup can.group) size [] can.fits (All-nil (FitsGroup can.group)))))
+              (λ apart. keeps.fit k each at_group)
+
+          -- the article is begun, at the place that its group picked
+          pub is_begun : (one : Place) × (place_in w h (begun h) size ≡ Some one)
+              × BegunAs trusted w h class octets begun kept openings failures one
+              (Some (record { «open» = write }))
+              (with_buffer old to.number code' (with_item old.placed_groups i
+              (record { group = moved; numbers = placed_group.numbers })))
+          is_begun = (
             goes_to,
             goes_there,
             (
-              in_time.0 e (rw fresh_is (refuses trusted now at.agrees)),
-              keeps_all old i found number code' there same_buffer_state same_store trusted w begun
-                  kept openings failures keeps,
+              in_time.1 (rw fresh_is (takes trusted now at.agrees)),
+              token_is,
+              λ text long. replaced keeps at (record {
+                history = with_begin class octets pick.fresh now;
+                same = refl;
+                agrees = rw fresh_is (follows trusted now at.agrees);
+                said = record {
+                  begins = picked_begins h class octets can.there at.said.begins here
+                      (λ k j at_group.
+                      keeps.sound.once k h j pick.index now.buffer now.buffer at_group now_at
+                      refl);
+                  texts = begun_texts kept now class octets pick.fresh at.agrees.keeps.sizes
+                      at.said.texts;
+                  stored = at.said.stored;
+                  writing = writing_here openings h (just_begun now text token_is);
+                };
+                failed = ap failures at.number ∙ at.failed ∙ ap g.failures (sym same_store);
+                others = untouched (record {
+                  was = λ other e. cc can.free;
+                  now = λ other e. cc named_here;
+                  begins = λ other apart has. other_begins h class octets can.there has (λ picked.
+                      apart (ap (λ (b : places.Buffer). b.number)
+                      (same_Some other.buffer now.buffer (sym picked ∙ here))));
+                  texts = λ t apart. refl;
+                  stored = λ buffer apart. refl;
+                });
+                unfailed = λ n apart. refl;
+                fit = fit_after;
+                opened = opened_after keeps (λ other e.
+                    rw (← same_Some (IsOpen token text 0) other e) (record {
+                      index = pick.index;
+                      buffer = now.buffer;
+                      is_at = now_at;
+                      named = sym named_here;
+                      whole = long ∙ ap (λ (t : Token). t.length) (sym token_is);
+                    }));
+                groups = groups_after;
+              }),
             ),
           )
-
-          -- a begin that it takes
-          module _ {code' : Buffer S g} (write : Open) {moved : groups.Group}
-              (same_store : store_of code' ≡ store_of code)
-              (moves : KeepsPlaces placed_group.group can.group (begun h) → pick_view picked ≡ pick
-              → KeepsPlaces moved can.group (begun h ++ size ∷ []))
-              (takes : (t : Bool) (each : History) → Agrees t code each
-              → None ≡ refusal each octets picked.fresh)
-              (follows : (t : Bool) (each : History) → Agrees t code each
-              → Agrees t code' (with_begin class octets picked.fresh each))
-              (named : (t : Bool) (each : History) → Agrees t code each
-              → Some (token_view (buffers.token_of write))
-              ≡ open_token (with_begin class octets picked.fresh each)) where
-            -- the token of the open write
-            abbrev token : Token
-            token = token_view (buffers.token_of write)
-
-            token_is : token ≡ token_at class octets goes_to
-            token_is = same_Some token _ (rw fresh_is (named trusted now at.agrees))
-
-            named_here : token.buffer ≡ now.buffer.number
-            named_here = ap (λ (t : Token). t.buffer) token_is
-
-            -- the groups after it
-            groups_after : PlacedGroupsKeep
-                (slice_set old.placed_groups.items i
-                (record { group = moved; numbers = placed_group.numbers }))
-                w (begun_more begun h size)
-            groups_after = record {
-              count = length-set old.placed_groups.items i _ ∙ keeps.placed_group_count;
-              each = λ k each at_group.
-                  let had = keeps.placed_groups k each at_group in
-                  let now = put_both
-                  (λ one. KeepsPlacedGroup one each (begun_more begun h size k))
-                  old.placed_groups.items i k
-                  (record { group = moved; numbers = placed_group.numbers }) had.there
-                  (λ same.
-                  rw (
-                    put_at_here begun h (begun h ++ size ∷ []) k (same ∙ is),
-                    same_Some each can.group
-                        (sym at_group ∙ ap (slice_get w.groups) (same ∙ is) ∙ can.there),
-                  )
-                  (record {
-                    position = moves has_group.position picks_it;
-                    numbers = has_group.numbers;
-                  }))
-                  (λ apart.
-                  rw (put_at_there begun h (begun h ++ size ∷ []) k (λ e. apart (e ∙ sym is)))
-                  had.keeps) in
-                  record { code = now.0; there = now.1; keeps = now.2 };
-            }
-
-            -- each size fits, the new one too
-            fit_after : (k : ℕ) (each : Group) → slice_get w.groups k ≡ Some each
-                → All (FitsGroup each) (begun_more begun h size k)
-            fit_after k each at_group =
-                put_at_both (All (FitsGroup each)) begun h (begun h ++ size ∷ []) k
-                (λ same.
-                rw (same_Some each can.group
-                (sym at_group ∙ ap (slice_get w.groups) same ∙ can.there))
-                (All-append (FitsGroup can.group) (begun h) (size ∷ [])
-                (keeps.fit h can.group can.there)
-                (All-cons (FitsGroup can.group) size [] can.fits (All-nil (FitsGroup can.group)))))
-                (λ apart. keeps.fit k each at_group)
-
-            -- the article is begun, at the place that its group picked
-            pub is_begun : (one : Place) × (place_in w h (begun h) size ≡ Some one)
-                × BegunAs trusted w h class octets begun kept openings failures one
-                (Some (record { «open» = write }))
-                (with_buffer old number code' (with_item old.placed_groups i
-                (record { group = moved; numbers = placed_group.numbers })))
-            is_begun = (
-              goes_to,
-              goes_there,
-              (
-                in_time.1 (rw fresh_is (takes trusted now at.agrees)),
-                token_is,
-                λ text long. replaced keeps at (record {
-                  history = with_begin class octets pick.fresh now;
-                  same = refl;
-                  agrees = rw fresh_is (follows trusted now at.agrees);
-                  said = record {
-                    begins = picked_begins h class octets can.there at.said.begins here
-                        (λ k j at_group.
-                        keeps.sound.once k h j pick.index now.buffer now.buffer at_group now_at
-                        refl);
-                    texts = begun_texts kept now class octets pick.fresh at.agrees.keeps.sizes
-                        at.said.texts;
-                    stored = at.said.stored;
-                    writing = writing_here openings h (just_begun now text token_is);
-                  };
-                  failed = ap failures at.number ∙ at.failed ∙ ap g.failures (sym same_store);
-                  others = untouched (record {
-                    was = λ other e. cc can.free;
-                    now = λ other e. cc named_here;
-                    begins = λ other apart has. other_begins h class octets can.there has (λ picked.
-                        apart (ap (λ (b : places.Buffer). b.number)
-                        (same_Some other.buffer now.buffer (sym picked ∙ here))));
-                    texts = λ t apart. refl;
-                    stored = λ buffer apart. refl;
-                  });
-                  unfailed = λ n apart. refl;
-                  fit = fit_after;
-                  opened = opened_after keeps (λ other e.
-                      rw (← same_Some (IsOpen token text 0) other e) (record {
-                        index = pick.index;
-                        buffer = now.buffer;
-                        is_at = now_at;
-                        named = sym named_here;
-                        whole = long ∙ ap (λ (t : Token). t.length) (sym token_is);
-                      }));
-                  groups = groups_after;
-                }),
-              ),
-            )

@@ -30,7 +30,8 @@ abbrev pub AreUsed : {S : Type 0} {g : Ghosts S} → List (Buffer S g) → (used
 AreUsed codes used = AreEach IsUsed codes used
 
 -- The current buffer of a group after these sizes is there. Where one buffer is filled after the
--- other, as much is used of the group's run as is said to be used in the cycle of this one.
+-- other, as much is used of the group's run as is said to be used in the cycle of this one; of a
+-- buffer of which no use is told that is 0.
 pub record HasCurrent (used : List ℕ) (group : Group) (begun : List ℕ) : Type 0 where
   pub buffer : places.Buffer
   pub there : slice_get group.buffers (position_of group begun).index ≡ Some buffer

@@ -1,3 +1,4 @@
+use crate::picking::Place;
 use buffer_group::Group;
 use cyc_block::{BlockStore, CHUNK_OCTETS};
 use cyc_buffer::{BufError, Buffer, Found, Front, Open};
@@ -66,8 +67,7 @@ impl<S: BlockStore> BufferSet<S> {
             return None;
         }
         let placed_group = self.placed_groups.get_mut(usize::from(group))?;
-        let pick = placed_group.group.pick(length);
-        let number = *placed_group.numbers.get(pick.buffer)?;
+        let Place { pick, number } = placed_group.pick(length)?;
         let buffer = self.buffers.get_mut(number)?;
         let Ok(open) = buffer.begin(class, length, pick.fresh) else {
             return None;

@@ -1,5 +1,5 @@
 use Rattle.std.proofs.Common.{ap, refl}
-use Rattle.block_shelf.proofs.BegunBufferSet.{group_found, has_buffer, has_number, is_begun}
+use Rattle.block_shelf.proofs.BegunBufferSet.{group_found, has_buffer, has_place, is_begun}
 use Rattle.block_shelf.proofs.BegunBufferSet.{keeps_all, keeps_placed_group, not_begun}
 use Rattle.block_shelf.proofs.Shelving.{calls_same, read_there}
 use Rattle.block_shelf.proofs.buffer_set.BufferSet.begin.Goals as goal
@@ -14,15 +14,14 @@ returns-in_err-placed_group g c = record {
   calls = λ number. refl;
 }
 
-pub returns-in_err-number : goal.returns-in_err-number
-returns-in_err-number g c = record {
+pub returns-in_err-pick : goal.returns-in_err-pick
+returns-in_err-pick g c = record {
   begun = λ trusted w begun kept openings failures keeps can.
-      absurd (has_number keeps c.args.class c.args.length can c.from.ensures
+      absurd (has_place keeps c.args.class c.args.length can c.from.ensures
       (read_there c.args.self.now.placed_groups.items c.from.result
-      c.in_ok-placed_group.ensures.item)
-      c.pick-pick.ensures.places c.deref.ensures.value c.in_err-number.ensures.lookup.0);
+      c.in_ok-placed_group.ensures.item) c.in_err-pick.ensures);
   refused =
-      rw c.from_residual-in_err-number.ensures
+      rw c.from_residual-in_err-pick.ensures
       (keeps_placed_group c.args.self.now c.from.result
       (read_there c.args.self.now.placed_groups.items c.from.result
       c.in_ok-placed_group.ensures.item));
@@ -35,8 +34,7 @@ returns-in_err-buffer g c = record {
       absurd (has_buffer keeps c.args.class c.args.length can c.from.ensures
       (read_there c.args.self.now.placed_groups.items c.from.result
       c.in_ok-placed_group.ensures.item)
-      c.pick-pick.ensures.places c.deref.ensures.value
-      (read_there c.deref.result.now c.pick-pick.result.buffer c.in_ok-number.ensures.lookup)
+      c.in_ok-pick.ensures
       c.in_err-buffer.ensures.item.0);
   refused =
       rw c.from_residual-in_err-buffer.ensures
@@ -52,9 +50,8 @@ returns-in_default g c = record {
       not_begun keeps c.args.class c.args.length can c.from.ensures
       (read_there c.args.self.now.placed_groups.items c.from.result
       c.in_ok-placed_group.ensures.item)
-      c.pick-pick.ensures.places c.deref.ensures.value
-      (read_there c.deref.result.now c.pick-pick.result.buffer c.in_ok-number.ensures.lookup)
-      (read_there c.args.self.now.buffers.items c.in_ok-number.field-0.now
+      c.in_ok-pick.ensures
+      (read_there c.args.self.now.buffers.items c.in_ok-pick.field-0.number
       c.in_ok-buffer.ensures.item)
       c.begin.new.self c.in_default.field-0 c.in_default.ensures.refused c.in_default.ensures.store
       c.in_default.ensures.refusal;
@@ -62,13 +59,13 @@ returns-in_default g c = record {
       keeps_all c.args.self.now c.from.result
       (read_there c.args.self.now.placed_groups.items c.from.result
       c.in_ok-placed_group.ensures.item)
-      c.in_ok-number.field-0.now c.begin.new.self
-      (read_there c.args.self.now.buffers.items c.in_ok-number.field-0.now
+      c.in_ok-pick.field-0.number c.begin.new.self
+      (read_there c.args.self.now.buffers.items c.in_ok-pick.field-0.number
       c.in_ok-buffer.ensures.item)
       c.in_default.ensures.refused c.in_default.ensures.store;
   calls =
-      calls_same c.args.self.now c.in_ok-number.field-0.now c.begin.new.self
-      (read_there c.args.self.now.buffers.items c.in_ok-number.field-0.now
+      calls_same c.args.self.now c.in_ok-pick.field-0.number c.begin.new.self
+      (read_there c.args.self.now.buffers.items c.in_ok-pick.field-0.number
       c.in_ok-buffer.ensures.item)
       (ap g.S.BlockStore.calls c.in_default.ensures.store);
 }
@@ -79,16 +76,15 @@ returns g c = record {
       is_begun keeps c.args.class c.args.length can c.from.ensures
       (read_there c.args.self.now.placed_groups.items c.from.result
       c.in_ok-placed_group.ensures.item)
-      c.pick-pick.ensures.places c.deref.ensures.value
-      (read_there c.deref.result.now c.pick-pick.result.buffer c.in_ok-number.ensures.lookup)
-      (read_there c.args.self.now.buffers.items c.in_ok-number.field-0.now
+      c.in_ok-pick.ensures
+      (read_there c.args.self.now.buffers.items c.in_ok-pick.field-0.number
       c.in_ok-buffer.ensures.item)
       c.in-Ok.open c.in-Ok.ensures.store (c.begun.ensures.places can.group (begun c.args.group))
       c.in-Ok.ensures.refusal c.in-Ok.ensures.begun c.in-Ok.ensures.token;
   refused = tt;
   calls =
-      calls_same c.args.self.now c.in_ok-number.field-0.now c.begin.new.self
-      (read_there c.args.self.now.buffers.items c.in_ok-number.field-0.now
+      calls_same c.args.self.now c.in_ok-pick.field-0.number c.begin.new.self
+      (read_there c.args.self.now.buffers.items c.in_ok-pick.field-0.number
       c.in_ok-buffer.ensures.item)
       (ap g.S.BlockStore.calls c.in-Ok.ensures.store);
 }
