@@ -1,3 +1,4 @@
+mod BucketLemmas
 pub mod FetchLemmas
 pub mod FrontLemmas
 pub mod NumberLemmas

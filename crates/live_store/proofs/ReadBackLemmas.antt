@@ -3,8 +3,7 @@ use Rattle.std.proofs.Common.{◌≡◌, ◌∙◌, ℕ, ◌+◌, ◌*◌, ◌<�
 use Rattle.std.proofs.Common.{Bool, true, false, true≢false, not, nat_lt, nat_le, ◌==◌, ◌||◌}
 use Rattle.std.proofs.Common.{List, take, None, Some, Ok, Result}
 use Rattle.std.specs.Global.{Vec}
-use Rattle.std.specs.Prelude.{Err, IsErr}
-use Rattle.std.specs.Result.{IsErrAnd}
+use Rattle.std.specs.Prelude.{Err}
 use Rattle.std.proofs.lemmas.Bool.{cond-false, eq-eqb, ne_eqb, le-ltb, lt-leb}
 use Rattle.std.proofs.Math.Logic.{∥∥₁_elim}
 use Rattle.article_parse.specs.Faults.{IsFaultOf}
@@ -195,13 +194,6 @@ unentered_by A B errors.Device f is = tt
 unentered_by A B errors.NoHead f is = is
 unentered_by A B errors.Unclosed f is = is
 unentered_by A B errors.Damaged f is = λ b. is (f b)
-
--- a refusal that is passed on is what it was
-pub refused_as : {A : Type 0} (P : Result A StartError → Type 0) (r : Result A StartError)
-    (e : StartError)
-    → IsErr r × IsErrAnd r (λ made. made ≡ e) → P (Err e) → P r
-refused_as P (Ok x) e told is = absurd told.1
-refused_as P (Err made) e told is = subst (λ x. P (Err x)) (sym told.1) is
 
 no_article_unentered : (text : List ℕ) (e : StartError) → IsNoArticle text e → IsUnentered ⊥ e
 no_article_unentered text errors.Memory none = tt

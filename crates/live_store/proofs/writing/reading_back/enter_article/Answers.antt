@@ -1,8 +1,9 @@
 use Rattle.std.proofs.Common.{◌∙◌, subst}
 use Rattle.news_terms.specs.ArticleTexts.{IsArticle}
 use Rattle.cyc_buffer.specs.Head.{inside}
+use Rattle.cyc_buffer.proofs.ReadingLemmas.{told}
 use Rattle.live_store.specs.Started.{EntersArticle, IsNoArticle}
-use Rattle.live_store.proofs.ReadBackLemmas.{refused_as, unentered_article, unjudged_article}
+use Rattle.live_store.proofs.ReadBackLemmas.{unentered_article, unjudged_article}
 use Rattle.live_store.proofs.ReadBackLemmas.{unread_article}
 use Rattle.live_store.proofs.writing.reading_back.enter_article.Goals as goal
 
@@ -10,7 +11,7 @@ pub returns-in_err-text : goal.returns-in_err-text
 returns-in_err-text g c =
     let a = inside c.args.buffer.now in
     let b = inside c.read_text.new.buffer in
-    refused_as (EntersArticle c.args.register.now a b c.args.token.now) _ _ c.from_residual.ensures
+    told _ _ c.from_residual.ensures (EntersArticle c.args.register.now a b c.args.token.now)
     (unread_article c.args.register.now a b c.args.token.now c.in_err-text.field-0.0
     c.in_err-text.ensures)
 
@@ -18,8 +19,8 @@ pub returns-in_err-judge : goal.returns-in_err-judge
 returns-in_err-judge g c =
     let a = inside c.args.buffer.now in
     let b = inside c.read_text.new.buffer in
-    refused_as (EntersArticle c.args.register.now a b c.args.token.now) _ _
-    c.from_residual-in_err-judge.ensures
+    told _ _ c.from_residual-in_err-judge.ensures
+    (EntersArticle c.args.register.now a b c.args.token.now)
     (unjudged_article c.args.register.now a b c.args.token.now c.in_ok-text.text
     c.in_err-judge.field-0.0 c.in_ok-text.ensures
     (subst (λ octets. IsNoArticle octets c.in_err-judge.field-0.0) c.deref.ensures.value

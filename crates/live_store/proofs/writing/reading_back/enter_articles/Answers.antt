@@ -5,10 +5,11 @@ use Rattle.std.specs.Prelude.{IfErr}
 use Rattle.news_terms.specs.ArticleTexts.{IsArticle}
 use Rattle.cyc_buffer.specs.Agreement.{Agrees}
 use Rattle.cyc_buffer.specs.Head.{inside}
+use Rattle.cyc_buffer.proofs.ReadingLemmas.{told}
 use Rattle.cyc_token.specs.declared.Token as codes
 use Rattle.live_store.specs.Started.{AreArticles, IsUnentered, ReadsArticles}
 use Rattle.live_store.proofs.NumberLemmas.{shown_set}
-use Rattle.live_store.proofs.ReadBackLemmas.{merely_next, refused_after, refused_as}
+use Rattle.live_store.proofs.ReadBackLemmas.{merely_next, refused_after}
 use Rattle.live_store.proofs.ReadBackLemmas.{unentered_by}
 use Rattle.live_store.proofs.StartLemmas.{firsts_item, live_at, none_token, numbered_item}
 use Rattle.live_store.proofs.writing.reading_back.enter_articles.Goals as goal
@@ -18,7 +19,7 @@ returns-in_err-shown-clause-reads g c =
     let a = inside c.args.buffer.now in
     let b = inside c.loop-token.buffer in
     let d = inside c.enter_article.new.buffer in
-    refused_as (ReadsArticles a d) _ _ c.from_residual.ensures
+    told _ _ c.from_residual.ensures (ReadsArticles a d)
     (refused_after a b d c.in_err-shown.field-0.0 c.loop-token.invariant.read
     c.loop-token.invariant.failures c.in_err-shown.ensures.reads)
 
@@ -36,7 +37,7 @@ returns-in_err-shown-clause-refused g c h agrees lists =
     let n = c.loop-token.token-index in
     let live = live_at h items n none_token c.loop-token-test.true lists in
     let token = slice_index_or items n none_token in
-    refused_as (λ r. IfErr r (IsUnentered (AreArticles h))) _ _ c.from_residual.ensures
+    told _ _ c.from_residual.ensures (λ r. IfErr r (IsUnentered (AreArticles h)))
     (unentered_by ∥ IsArticle live.article.text ∥₁ (AreArticles h) c.in_err-shown.field-0.0
     (λ all. all token.cycle token.first live.article
     (record { finished = live.finished; live = live.live }))

@@ -3,19 +3,20 @@ use Rattle.std.proofs.lemmas.List.{take_all}
 use Rattle.news_terms.specs.BlockImage.{chunk_size}
 use Rattle.cyc_buffer.specs.Calls.{ReadsBlock}
 use Rattle.cyc_buffer.specs.Head.{inside}
+use Rattle.cyc_buffer.proofs.ReadingLemmas.{told}
 use Rattle.cyc_buffer.specs.declared.answers.StartError.TheVariants as errors
 use Rattle.live_store.specs.Started.{ReadsText}
 use Rattle.live_store.proofs.FetchLemmas.{one_more}
 use Rattle.live_store.proofs.ReadBackLemmas.{chunk_read, covers, merely_next, merely_none}
 use Rattle.live_store.proofs.ReadBackLemmas.{merely_read}
-use Rattle.live_store.proofs.ReadBackLemmas.{not_gone, not_unknown, refused_as, refused_reads}
+use Rattle.live_store.proofs.ReadBackLemmas.{not_gone, not_unknown, refused_reads}
 use Rattle.live_store.proofs.ReadBackLemmas.{refused_text, unfailed}
 use Rattle.live_store.proofs.writing.reading_back.read_text.Goals as goal
 
 pub returns-in_err-text : goal.returns-in_err-text
 returns-in_err-text g c =
     let a = inside c.args.buffer.now in
-    refused_as (ReadsText a a c.args.token.now) _ errors.Memory c.from_residual.ensures
+    told _ errors.Memory c.from_residual.ensures (ReadsText a a c.args.token.now)
     (refused_text a a c.args.token.now errors.Memory (λ h agrees live. tt)
     (refused_reads a a errors.Memory (merely_none a) tt refl))
 
@@ -24,8 +25,8 @@ returns-in_err-extend_from_slice-in-Ok-Chunk g c =
     let a = inside c.args.buffer.now in
     let b = inside c.loop-k.buffer in
     let d = inside c.read_block.new.self in
-    refused_as (ReadsText a d c.args.token.now) _ errors.Memory
-    c.from_residual-in_err-extend_from_slice-in-Ok-Chunk.ensures
+    told _ errors.Memory c.from_residual-in_err-extend_from_slice-in-Ok-Chunk.ensures
+    (ReadsText a d c.args.token.now)
     (refused_text a d c.args.token.now errors.Memory (λ h agrees live. tt)
     (refused_reads a d errors.Memory
     (merely_next a b d c.loop-k.invariant.read (merely_read b d c.args.token.now c.loop-k.k
