@@ -15,6 +15,7 @@ use Rattle.peer_session.specs.Session.{passed}
 use Rattle.peer_session.specs.declared.phase.Phase.TheVariants as phases
 use Rattle.peer_session.specs.declared.phase.Planned.{Planned as CodePlanned}
 use Rattle.peer_session.specs.declared.phase.Todo.TheVariants as todos
+use Rattle.peer_session.specs.declared.phase.Transfer.TheVariants as transfers
 use Rattle.peer_session.specs.declared.session.Session.{Session}
 use Rattle.peer_session.specs.declared.steps.Answer.{Answer}
 use Rattle.peer_session.specs.declared.steps.Answer.TheVariants as answers
@@ -64,6 +65,10 @@ leaves_with s old new answer said planned read octets todo arm = λ w m d gather
     by_due w s d due gathered answer told said new had.due_is.2
     (λ is. heard_of w s due told said (with_planned old planned) new (parts due.after reply) refl
     (arm reply is had.due_is.1) had.stands.limit)
+
+-- CHECK isn't IHAVE
+pub not_ihave : {A : Type 0} → transfers.TakesThis ≡ transfers.Has → A
+not_ihave e = cc
 
 -- CHECK is answered
 pub checks : (s : ℕ) (old new : Session) (answer : Answer) (said : List ℕ)

@@ -8,6 +8,7 @@ mod HearLines
 mod HearWaiting
 pub mod Phases
 pub mod PlaceLemmas
+mod PlanAll
 mod PlanBlocks
 mod PlanCommon
 mod PlanFetches

@@ -1,6 +1,7 @@
 -- What the parts of a plan are. No public contract cites it.
 use Rattle.std.specs.Prelude.{◌≡◌, ℕ, ◌+◌, List, [], ◌∷◌, drop, true, false}
-use Rattle.std.specs.Prelude.{Option, None, Some, Result, Ok, Err, vec_capacity}
+use Rattle.std.specs.Prelude.{Option, None, Some, Result, Ok, Err, vec_capacity, IfOk, IsOk, OnErr}
+use Rattle.std.specs.declared.alloc.AllocError.{AllocError}
 use Rattle.std.specs.Global.{Vec}
 use Rattle.article_fetch.specs.Fetch.{Fetch, prepared_fetch}
 use Rattle.buffer_group.specs.Jobs.{article_view}
@@ -21,9 +22,9 @@ use Rattle.relay_model.specs.State as model
 use Rattle.relay_model.specs.Terms.{Terms, Reason}
 use Rattle.stream_cut.specs.Stream.{Stream}
 use Rattle.peer_session.specs.Answers.{AsksOf, IsStepOf}
-use Rattle.peer_session.specs.Planning.{DueIs, FitsPhase, block_passed}
+use Rattle.peer_session.specs.Planning.{DueIs, FitsPhase, Plans, block_passed}
 use Rattle.peer_session.specs.Said.{IsReply}
-use Rattle.peer_session.specs.Session.{passed, session_view}
+use Rattle.peer_session.specs.Session.{IsBounded, PlansFree, StandsAsBefore, passed, session_view}
 use Rattle.peer_session.specs.declared.phase.Due.{Due as CodeDue}
 use Rattle.peer_session.specs.declared.phase.Phase.{Phase}
 use Rattle.peer_session.specs.declared.phase.Phase.TheVariants as phases
@@ -141,6 +142,15 @@ TakesOwed read old None new =
 TakesOwed read old (Some owed) new =
     (old.phase ≡ phases.AwaitsBlock owed.0 (Some owed.1))
     × Owed read old owed.1 new
+
+-- What is due by the phase: what is planned; where memory was refused the session stays as it was;
+-- what asks for none; and what is kept of a block that isn't whole.
+pub record DueOf (w : Terms) (now : ℕ) (old : Session) (result : Result CodeDue AllocError)
+    (new : Session) : Type 0 where
+  pub due : IfOk result (λ due. Plans w old now due new)
+  pub err : OnErr result (StandsAsBefore old new)
+  pub free : PlansFree old.phase old.cutter old.hand old.offers → IsOk result
+  pub bounded : IsAwaitingBlock old.phase → IsBounded new.cutter
 
 -- the held article of this id is tried again
 abbrev pub IsHeldAsked : List ℕ → CodeDue → Type 0

@@ -1,13 +1,11 @@
 -- What a session makes of an answer, in the terms of the definitions.
-use Rattle.std.specs.Prelude.{◌≡◌, ◌⊎◌, ℕ, ◌*◌, false, List, [], take, Option, None, Some}
+use Rattle.std.specs.Prelude.{◌≡◌, ◌⊎◌, ℕ, ◌*◌, false, List, [], take}
 use Rattle.article_fetch.specs.Fetch.{Fetch}
-use Rattle.news_terms.specs.Reply.{Reply, SendIt, IhaveSend}
 use Rattle.relay_model.specs.Asks as asks
-use Rattle.relay_model.specs.Asks.{Ask, Due, later}
-use Rattle.relay_model.specs.Claims.{OfferAnswer, Wanted, Later, Seen}
+use Rattle.relay_model.specs.Asks.{Ask, Due}
 use Rattle.relay_model.specs.Fetches as fetches
 use Rattle.relay_model.specs.Fetches.{Fetched}
-use Rattle.relay_model.specs.Hears.{Heard, Hears, ReadHeard, goes_on, not_wanted}
+use Rattle.relay_model.specs.Hears.{Heard, Hears, ReadHeard, goes_on}
 use Rattle.relay_model.specs.Shares as shares
 use Rattle.relay_model.specs.State as model
 use Rattle.relay_model.specs.Terms.{Terms}
@@ -91,18 +89,3 @@ pub record ReadUnless (Heard Given : Type 0) (answer : Answer) (old new : Sessio
   pub heard : Heard
   pub given : Given
   pub memory : answer ≡ answers.Memory → new ≡ old
-
--- What is said of an id that was offered, by the answer. No public contract cites it.
-abbrev pub wanted_said : model.Transfer → List ℕ → Reply
-wanted_said model.TakesThis id = SendIt id
-wanted_said model.Has id = IhaveSend
-
-abbrev pub offer_said : model.Transfer → List ℕ → OfferAnswer → Reply
-offer_said transfer id Wanted = wanted_said transfer id
-offer_said transfer id Later = later transfer id
-offer_said transfer id Seen = not_wanted transfer id
-
--- the id of the block that is owed where the article is wanted: after IHAVE, and not after CHECK
-abbrev pub owed_by : model.Transfer → List ℕ → Option (List ℕ)
-owed_by model.TakesThis id = None
-owed_by model.Has id = Some id

@@ -1,6 +1,6 @@
 //! Command lines: what each asks, and what is made of the answer to an offer.
 ghost use Rattle.std.specs.Prelude.{◌≡◌, ◌≤◌, ◌<◌, ◌==◌, ℕ, false, Ok, IfOk, IfSome, IsOk};
-ghost use Rattle.std.specs.Prelude.{OnErr, length, map, position};
+ghost use Rattle.std.specs.Prelude.{OnErr, Some, length, map, position};
 ghost use Rattle.article_verdict.specs.Config.{terms_of};
 ghost use Rattle.feed_queue.specs.Permission.{feed_view};
 ghost use Rattle.id_history.specs.Answers.{offer_view};
@@ -13,10 +13,11 @@ ghost use Rattle.relay_model.specs.Asks.{feed_of, is_full};
 ghost use Rattle.relay_model.specs.Hears.{offer_heard};
 ghost use Rattle.relay_model.specs.State as model;
 ghost use Rattle.relay_model.specs.Terms.{FeedTerms, last_moment};
+ghost use Rattle.relay_model.specs.World.{Speaks};
 ghost use Rattle.stream_cut.specs.Stream.{ShowsLine};
 ghost use Rattle.peer_session.specs.Asking.{IsAskedBy, IsFetching, IsLeaving, IsLooking};
 ghost use Rattle.peer_session.specs.Asking.{IsOffering, IsSaying};
-ghost use Rattle.peer_session.specs.Hearing.{HeardIs, HeardUnless, offer_said, owed_by};
+ghost use Rattle.peer_session.specs.Hearing.{HeardIs, HeardUnless};
 ghost use Rattle.peer_session.specs.Planning.{Plans};
 ghost use Rattle.peer_session.specs.Session.{StandsAsBefore, passed, transfer_view};
 
@@ -132,7 +133,7 @@ impl Session {
     ) -> Vec<u8>
         ensures { HeardUnless
             ((told : Offer) → answer ≡ Answer.Offer told
-            → owed ≡ owed_by (transfer_view transfer) id → is_full self.old.offers id ≡ false
+            → (transfer ≡ Transfer.Has → owed ≡ Some id) → is_full self.old.offers id ≡ false
             → self.old.phase ≡ Phase.Ready
             → HeardIs result.items self.old (offer_heard (passed read self.old)
             (transfer_view transfer) id (offer_view told)) self.new)
@@ -167,8 +168,9 @@ impl Session {
 
 /// What is said of an id that was offered so.
 fn offer_reply(transfer: Transfer, told: Offer, id: &MsgId) -> Reply<'_>
-    ensures reply { reply_view result
-        ≡ offer_said (transfer_view transfer) id.now (offer_view told) }
+    ensures reply { (session : model.Session)
+        → (offer_heard session (transfer_view transfer) id.now (offer_view told)).said
+        ≡ Speaks (reply_view result) }
     ensures room { room_of result ≡ reply_room }
 {
     match told {

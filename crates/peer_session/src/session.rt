@@ -7,10 +7,10 @@ ghost use Rattle.relay_model.specs.Run as run;
 ghost use Rattle.relay_model.specs.State as model;
 ghost use Rattle.relay_model.specs.State.{in_phase};
 ghost use Rattle.relay_model.specs.Terms.{last_moment};
-ghost use Rattle.peer_session.specs.Asking.{IsAwaitingBlock};
+ghost use Rattle.peer_session.specs.Asking.{DueOf, IsAwaitingBlock};
 ghost use Rattle.peer_session.specs.Given.{HearsPlanned, HeedsRead};
 ghost use Rattle.peer_session.specs.Hearing.{Forgets, HeardIs, HeardUnless, Heeds};
-ghost use Rattle.peer_session.specs.Planning.{DueGiven, HandsOver, Plans, rests};
+ghost use Rattle.peer_session.specs.Planning.{DueGiven, HandsOver, rests};
 ghost use Rattle.peer_session.specs.Said.{IsReply};
 ghost use Rattle.peer_session.specs.Session.{BrokenOff, Fed, IsBounded, NewStands, PlansFree};
 ghost use Rattle.peer_session.specs.Session.{StandsAsBefore, has_parted, holds_article, passed};
@@ -172,11 +172,7 @@ impl Session {
     /// What is due by the phase.
     fn due(&mut self, config: &Config, now: u64) -> Result<Due, AllocError>
         requires { now ≤ last_moment }
-        ensures due { IfOk result (λ due. Plans (terms_of config.now) self.old now due self.new) }
-        ensures err { OnErr result (StandsAsBefore self.old self.new) }
-        ensures free { PlansFree self.old.phase self.old.cutter self.old.hand self.old.offers
-            → IsOk result }
-        ensures bounded { IsAwaitingBlock self.old.phase → IsBounded self.new.cutter }
+        ensures { DueOf (terms_of config.now) now self.old result self.new }
     {
         match &mut self.phase {
             Phase::Ready => self.line_due(config, now),

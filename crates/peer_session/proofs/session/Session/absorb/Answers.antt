@@ -4,14 +4,15 @@ use Rattle.peer_session.specs.Hearing.{Heeds}
 use Rattle.peer_session.proofs.HearCommon.{with_planned}
 use Rattle.peer_session.proofs.session.Session.absorb.Goals as goal
 
-pub returns-clause-heard : goal.returns-clause-heard
-returns-clause-heard c =
-    subst (λ planned. Heeds c.args.number (with_planned c.args.self.now planned) c.args.answer
-    c.hear.result.items c.hear.new.self) (c.into_planned.ensures ∙ c.replace-planned.ensures.value)
-    c.hear.ensures.heard
-
-pub returns-clause-given : goal.returns-clause-given
-returns-clause-given c =
-    subst (λ planned. HeedsRead (with_planned c.args.self.now planned) c.args.answer
-    c.hear.result.items c.hear.new.self) (c.into_planned.ensures ∙ c.replace-planned.ensures.value)
-    c.hear.ensures.given
+pub returns : goal.returns
+returns c = record {
+  heard = subst (λ planned. Heeds c.args.number (with_planned c.args.self.now planned)
+      c.args.answer c.hear.result.items c.hear.new.self)
+      (c.into_planned.ensures ∙ c.replace-planned.ensures.value) c.hear.ensures.heard;
+  given = subst (λ planned. HeedsRead (with_planned c.args.self.now planned) c.args.answer
+      c.hear.result.items c.hear.new.self)
+      (c.into_planned.ensures ∙ c.replace-planned.ensures.value) c.hear.ensures.given;
+  memory = λ memory. absurd (c.in_default.not-Memory memory);
+  plan = λ memory. absurd (c.in_default.not-Memory memory);
+  quiet = λ memory. absurd (c.in_default.not-Memory memory);
+}

@@ -6,7 +6,7 @@ use Rattle.peer_session.proofs.HearBlocks.{refuses, takes}
 use Rattle.peer_session.proofs.HearCommon.{rests, was_planned, with_planned}
 use Rattle.peer_session.proofs.HearFetches.{looks, reads_first, reads_on, takes_queue}
 use Rattle.peer_session.proofs.HearLeaving.{ends, releases}
-use Rattle.peer_session.proofs.HearLines.{checks, leaves_with, offers, owes, replies}
+use Rattle.peer_session.proofs.HearLines.{checks, leaves_with, not_ihave, offers, owes, replies}
 use Rattle.peer_session.proofs.HearWaiting.{looks_in_slot, pushes, takes_held}
 use Rattle.peer_session.proofs.session.Session.hear.Goals as goal
 
@@ -87,7 +87,7 @@ returns-in-Check c =
           c.hear_offer.result.items
           c.args.self.now.planned c.args.planned.read c.in-Check.id c.in-Check.room
           (was_planned had c.args.planned _ refl c.in-Check.is)
-          (λ told is free ready. c.hear_offer.ensures.heard told is refl free ready);
+          (λ told is free ready. c.hear_offer.ensures.heard told is not_ihave free ready);
       given = not_read had c.hear_offer.new.self c.args.answer c.hear_offer.result.items
           (todos.Check c.in-Check.id c.in-Check.room) c.args.planned.read refl
           (was_planned had c.args.planned _ refl c.in-Check.is);
@@ -102,7 +102,7 @@ returns-in-Ihave c =
           c.args.self.now.planned c.args.planned.read c.in-Ihave.id c.in-Ihave.copy c.in-Ihave.room
           (was_planned had c.args.planned _ refl c.in-Ihave.is)
           (λ told is same free ready.
-          c.hear_offer-in-Ihave.ensures.heard told is (ap (λ (x : List ℕ). Some x) same) free
+          c.hear_offer-in-Ihave.ensures.heard told is (λ has. ap (λ (x : List ℕ). Some x) same) free
           ready);
       given = not_read had c.hear_offer-in-Ihave.new.self c.args.answer
           c.hear_offer-in-Ihave.result.items
