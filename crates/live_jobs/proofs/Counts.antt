@@ -46,3 +46,7 @@ kept_most kept [] zero = omega arith
 kept_most kept [] (suc g) = omega arith
 kept_most kept (x ∷ dss) zero = omega arith
 kept_most kept (x ∷ dss) (suc g) = let h = kept_most kept dss g in omega arith
+
+-- what is the same is at most that
+pub at_most : (n m : ℕ) → n ≡ m → n ≤ m
+at_most n m same = omega (arith, same)

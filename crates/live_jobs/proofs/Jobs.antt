@@ -178,12 +178,8 @@ ends_next {J} {g} jobs answers end a below at =
     (get_or-map (λ (x : Bor (List (KeptJob J g))). x.now) answers end a a.now below
     ∙ ap (λ (x : Bor (List (KeptJob J g))). x.now) (sym at))
 
--- in a set that was empty are just the jobs that were added
-pub from_empty : (empty jobs : BTreeSet (ℕ × ℕ × ℕ)) (end number register : ℕ) (added : Bool)
-    → empty.keys ≡ []
-    → has_job jobs end number register ≡ (has_job empty end number register || added)
-    → has_job jobs end number register ≡ added
-from_empty empty jobs end number register added none is =
-    is
-    ∙ ap (λ (keys : List (ℕ × ℕ × ℕ)).
-    has_job (record { keys = keys }) end number register || added) none
+-- no job is one of an empty set
+pub none_yet : (jobs : BTreeSet (ℕ × ℕ × ℕ)) (end number register : ℕ) → jobs.keys ≡ []
+    → has_job jobs end number register ≡ false
+none_yet jobs end number register none =
+    ap (λ (keys : List (ℕ × ℕ × ℕ)). has_job (record { keys = keys }) end number register) none

@@ -1,3 +1,4 @@
+pub mod AllTold
 pub mod Borne
 pub mod Counts
 pub mod FinishedLists

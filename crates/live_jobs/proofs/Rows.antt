@@ -1,5 +1,6 @@
 -- Rows that are taken from the front, and rows that grow.
-use Rattle.std.proofs.Common.{◌≡◌, ◌⊎◌, inl, inr, ℕ, zero, suc, ◌+◌, List, [], ◌∷◌, ◌++◌, length}
+use Rattle.std.proofs.Common.{◌≡◌, ◌<◌, ◌≤◌, ◌⊎◌, inl, inr, ℕ, zero, suc, ◌+◌, List, [], ◌∷◌}
+use Rattle.std.proofs.Common.{◌++◌, length}
 use Rattle.std.proofs.Common.{None, Some, refl, sym, ap, ◌∙◌, subst, ⊎_elim, arith}
 use Rattle.std.proofs.lemmas.Option.{same_Some}
 use Rattle.std.specs.Prelude.{slice_get}
@@ -8,6 +9,68 @@ use Rattle.live_jobs.specs.Rows.{From}
 -- what is there isn't missing
 pub never_none : {A B : Type 0} (x : A) → Some x ≡ None → B
 never_none x none = absurd (cc)
+
+-- what is below a number is below the same number
+pub below_same : (k n m : ℕ) → k < n → n ≡ m → k < m
+below_same k n m less same = subst (λ (j : ℕ). k < j) same less
+
+-- and what isn't below a number isn't below the same number
+pub past_same : (k n m : ℕ) → n ≤ k → n ≡ m → m ≤ k
+past_same k n m past same = subst (λ (j : ℕ). j ≤ k) same past
+
+-- what is below a number is below one that isn't less
+pub below_past : (k n m : ℕ) → k < n → n ≤ m → k < m
+below_past k n m below past = omega (arith, below, past)
+
+-- one is taken of those that are left, and one is put: all are still as many
+pub still_all : (put left put' left' all : ℕ) → put + left ≡ all → put' ≡ put + 1
+    → left' + 1 ≡ left → put' + left' ≡ all
+still_all put left put' left' all so_far more less = omega (arith, so_far, more, less)
+
+-- where none is left, all were put
+pub put_all : (put left all : ℕ) → put + left ≡ all → left ≡ 0 → put ≡ all
+put_all put left all so_far none = omega (arith, so_far, none)
+
+-- those that were put are no more than all
+pub put_some : (put left all : ℕ) → put + left ≡ all → put ≤ all
+put_some put left all so_far = omega (arith, so_far)
+
+-- where one is left, those that were put are fewer than any that are as many as all
+pub put_below : (put left left' all many : ℕ) → put + left ≡ all → left' + 1 ≡ left
+    → all ≤ many → put < many
+put_below put left left' all many so_far less few = omega (arith, so_far, less, few)
+
+-- one more is counted, and one fewer is left to count
+pub counted_on : (counted left left' all : ℕ) → counted + left ≡ all → left ≡ 1 + left'
+    → (counted + 1) + left' ≡ all
+counted_on counted left left' all so_far one = omega (arith, so_far, one)
+
+pub one_counted : (counted left left' all : ℕ) → counted + left ≡ all → left ≡ suc left'
+    → (counted + 1) + left' ≡ all
+one_counted counted left left' all so_far one = omega (arith, so_far, one)
+
+-- none more is counted
+pub counted_still : (counted left left' all : ℕ) → counted + left ≡ all → left ≡ 0 + left'
+    → counted + left' ≡ all
+counted_still counted left left' all so_far none = omega (arith, so_far, none)
+
+-- with fewer left there are fewer than before
+pub fewer_left : (counted left left' most : ℕ) → counted + left < most → left ≡ suc left'
+    → counted + left' < most
+fewer_left counted left left' most few one = omega (arith, few, one)
+
+-- the same where one is counted
+pub few_counted : (counted left left' most : ℕ) → counted + left < most → left ≡ suc left'
+    → (counted + 1) + left' < most
+few_counted counted left left' most few one = omega (arith, few, one)
+
+-- where there is room for all there is room for some
+pub within_room : (some all many room : ℕ) → some ≤ all → many ≡ all → many ≤ room → some ≤ room
+within_room some all many room few same enough = omega (arith, few, same, enough)
+
+-- the same room is still enough
+pub room_stays : (all room room' : ℕ) → all ≤ room → room' ≡ room → all ≤ room'
+room_stays all room room' enough same = subst (λ (n : ℕ). all ≤ n) (sym same) enough
 
 module _ {X : Type 0} where
   pub from_head : (P : ℕ → X → Type 0) (n : ℕ) (xs : List X) (x : X) (ys : List X) → From P n xs

@@ -33,7 +33,10 @@ pub fn mismatched_receipts<L: Ledger, J: StorePremises>(
         → NoneConflicts (all_told (map (λ w. w.finished.items) writers.now))) }
 {
     let mut jobs = BTreeSet::new(alloc);
-    let conflict = add_all_jobs(&mut jobs, writers)?;
+    let mut conflict = 0u128;
+    for writer in writers {
+        conflict += add_jobs(&mut jobs, &writer.finished)? as u128;
+    }
     Ok(conflict + all_mismatched(&jobs, answers))
 }
 
@@ -80,25 +83,6 @@ fn mismatched<J: StorePremises>(jobs: &Jobs, end: u64, answers: &[KeptJob<J>]) -
         mismatched += 1;
     }
     mismatched
-}
-
-/// Adds the kept jobs of all writers, and says how many are in conflict.
-fn add_all_jobs<L: Ledger, J: StorePremises>(
-    jobs: &mut Jobs,
-    writers: &[WriterSeat<L, StoreResult<J>>],
-) -> Result<u128, AllocError>
-    ensures jobs { OnOk result ((end number register : ℕ) → has_job jobs.new end number register
-        ≡ (has_job jobs.old end number register || list_any (is_receipt_of end number register)
-        (all_told (map (λ w. w.finished.items) writers.now)))) }
-    ensures conflict { IfOk result
-        (λ n. n ≡ conflicts_in (all_told (map (λ w. w.finished.items) writers.now))) }
-    ensures few { IfOk result (λ n. n < 2 ^ 126) }
-{
-    let mut conflict = 0u128;
-    for writer in writers {
-        conflict += add_jobs(jobs, &writer.finished)? as u128;
-    }
-    Ok(conflict)
 }
 
 /// How many answers of all ends are for no kept job of the set.

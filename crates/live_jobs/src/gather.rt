@@ -21,40 +21,6 @@ use job_queue::QueuePass;
 use std::sync::ledger::Ledger;
 use std::sync::{Mutex, Wait};
 
-impl<L: Ledger, O: Outcome> WriterSeat<L, O> {
-    /// Compares what was taken of an end with what it handed over. Nothing changes.
-    fn compare(&mut self, channel: &JobChannel, pass: &mut QueuePass, end: u64)
-        requires passes { IsPassOf (queue_of channel.now) self.old.pass
-            × IsPassOf (queue_of channel.now) pass.old }
-        requires own { OfEnd end (view pass.old) }
-        requires closed { slice_get self.old.closed.items end ≡ Some true }
-        ensures passes { IsPassOf (queue_of channel.now) self.new.pass
-            × IsPassOf (queue_of channel.now) pass.new }
-        ensures writer { (self.new.finished.items ≡ self.old.finished.items)
-            × (self.new.closed.items ≡ self.old.closed.items) }
-        ensures pass { view pass.new ≡ view pass.old }
-        ensures told { Told O.fits end self.old.finished.items (jobs_in pass.old) }
-    {
-        job_queue::compare(&channel.queue, &mut self.pass, pass, end);
-    }
-
-    /// Compares what was taken with the ends that nobody has. Nothing changes.
-    fn compare_rest(&mut self, channel: &JobChannel, rest: &mut QueuePass, ends: usize)
-        requires passes { IsPassOf (queue_of channel.now) self.old.pass
-            × IsPassOf (queue_of channel.now) rest.old }
-        requires rest { IsRest ends rest.old }
-        ensures passes { IsPassOf (queue_of channel.now) self.new.pass
-            × IsPassOf (queue_of channel.now) rest.new }
-        ensures writer { (self.new.finished.items ≡ self.old.finished.items)
-            × (self.new.closed.items ≡ self.old.closed.items) }
-        ensures rest { IsRest ends rest.new }
-        ensures none { (e : ℕ) → ends ≤ e → e < end_limit → told_of e self.old.finished.items ≡ [] }
-    {
-        let _ = ends;
-        job_queue::compare_rest(&channel.queue, &mut self.pass, rest);
-    }
-}
-
 impl LeftSeat {
     /// Compares what the writer of one group told with what the end handed over to it.
     fn compare<L: Ledger, O: Outcome>(
@@ -76,74 +42,79 @@ impl LeftSeat {
         ensures told { (jobs : List Handed) → slice_get (left_by self.old) group ≡ Some jobs
             → Told O.fits (left_end self.old) writer.old.finished.items jobs }
     {
-        writer.compare(&channels[group], &mut self.passes[group], self.end);
+        let channel = &channels[group];
+        let pass = &mut self.passes[group];
+        job_queue::compare(&channel.queue, &mut writer.pass, pass, self.end);
     }
 }
 
-/// Compares what one writer told with what each end handed over to its group.
+/// Compares what one writer told with what each end handed over to its group, and with the ends
+/// that nobody has.
 fn compare_group<L: Ledger, O: Outcome>(
     channels: &[JobChannel],
     group: usize,
     writer: &mut WriterSeat<L, O>,
     lefts: &mut Vec<LeftSeat>,
+    rest: &mut QueuePass,
 )
     requires group { group < length channels.now }
     requires lefts { LeftsFit channels.now lefts.old.items }
     requires writer { OfChannel channels.now group writer.old.pass }
     requires closed { AllClosed (length lefts.old.items) writer.old.closed.items }
+    requires rest { OfChannel channels.now group rest.old
+        × IsRest (length lefts.old.items) rest.old }
     ensures lefts { LeftsFit channels.now lefts.new.items }
     ensures handed { hands_of lefts.new.items ≡ hands_of lefts.old.items }
     ensures pass { OfChannel channels.now group writer.new.pass }
     ensures writer { (writer.new.finished.items ≡ writer.old.finished.items)
         × (writer.new.closed.items ≡ writer.old.closed.items) }
+    ensures rest { OfChannel channels.now group rest.new
+        × IsRest (length lefts.old.items) rest.new }
     ensures told { ToldBelow O.fits (length lefts.old.items) group writer.old.finished.items
         (hands_of lefts.old.items) }
+    ensures none { (e : ℕ) → length lefts.old.items ≤ e → e < end_limit
+        → told_of e writer.old.finished.items ≡ [] }
 {
     for end in 0..lefts.len() {
         lefts[end].compare(channels, group, writer);
     }
+    let channel = &channels[group];
+    job_queue::compare_rest(&channel.queue, &mut writer.pass, rest);
 }
 
-/// Compares what each writer told with what each end handed over to its group.
+/// Compares what each writer told with what each end handed over to its group, and with the ends
+/// that nobody has.
 fn compare_all<L: Ledger, O: Outcome>(
     channels: &[JobChannel],
     lefts: &mut Vec<LeftSeat>,
     writers: &mut Vec<WriterSeat<L, O>>,
+    rests: &mut Vec<QueuePass>,
 )
     requires lefts { LeftsFit channels.now lefts.old.items }
     requires writers { WritersFit channels.now (length lefts.old.items)
         (map (λ w. w.pass) writers.old.items) (map (λ w. w.closed.items) writers.old.items) }
+    requires rests { RestsFit channels.now (length lefts.old.items) rests.old.items }
     ensures lefts { LeftsFit channels.now lefts.new.items }
     ensures long { length lefts.new.items ≡ length lefts.old.items }
     ensures handed { hands_of lefts.new.items ≡ hands_of lefts.old.items }
     ensures writers { WritersFit channels.now (length lefts.old.items)
         (map (λ w. w.pass) writers.new.items) (map (λ w. w.closed.items) writers.new.items) }
+    ensures rests { RestsFit channels.now (length lefts.old.items) rests.new.items }
     ensures finished { map (λ w. w.finished.items) writers.new.items
         ≡ map (λ w. w.finished.items) writers.old.items }
     ensures told { AllTold O.fits (map (λ w. w.finished.items) writers.old.items)
         (hands_of lefts.old.items) }
+    ensures none { NoneElse (length lefts.old.items)
+        (map (λ w. w.finished.items) writers.old.items) }
 {
     for group in 0..writers.len() {
-        compare_group(channels, group, &mut writers[group], lefts);
-    }
-}
-
-/// Compares what each writer told with the ends that nobody has.
-fn compare_rests<L: Ledger, O: Outcome>(
-    channels: &[JobChannel],
-    ends: usize,
-    rests: &mut Vec<QueuePass>,
-    writers: &mut Vec<WriterSeat<L, O>>,
-)
-    requires rests { RestsFit channels.now ends rests.old.items }
-    requires writers { WritersFit channels.now ends (map (λ w. w.pass) writers.old.items)
-        (map (λ w. w.closed.items) writers.old.items) }
-    ensures finished { map (λ w. w.finished.items) writers.new.items
-        ≡ map (λ w. w.finished.items) writers.old.items }
-    ensures none { NoneElse ends (map (λ w. w.finished.items) writers.old.items) }
-{
-    for group in 0..writers.len() {
-        writers[group].compare_rest(&channels[group], &mut rests[group], ends);
+        compare_group(
+            channels,
+            group,
+            &mut writers[group],
+            lefts,
+            &mut rests[group],
+        );
     }
 }
 
@@ -196,7 +167,6 @@ pub fn close<L: Ledger, O: Outcome, V, R: Wait>(
         let mut desk = desk.lock(rt);
         count_all(&mut *desk, &mut seats.writers)
     };
-    compare_all(channels, &mut seats.lefts, &mut seats.writers);
-    compare_rests(channels, seats.lefts.len(), rests, &mut seats.writers);
+    compare_all(channels, &mut seats.lefts, &mut seats.writers, rests);
     Totals { accepted, posted }
 }

@@ -92,13 +92,6 @@ fn give_passes<V>(
     Ok(())
 }
 
-/// A flag for each end, that its closing mark wasn't taken yet.
-fn no_marks(alloc: Global, ends: usize) -> Result<Vec<bool>, AllocError>
-    ensures { IfOk result (λ closed. closed.items ≡ replicate ends false) }
-{
-    Vec::from_elem(alloc, false, ends)
-}
-
 /// A writer that has taken nothing yet, with a flag for each end.
 fn new_writer<L: Ledger, O: Outcome>(
     alloc: Global,
@@ -185,8 +178,7 @@ fn add_group<L: Ledger, O: Outcome + Drop, V: Drop>(
     ensures services { IfOk result (λ _. map (λ p. p.service) opened.new.plans.items
         ≡ map (λ p. p.service) opened.old.plans.items) }
 {
-    reserve_group(opened)?;
-    let closed = no_marks(alloc, ends)?;
+    let closed = reserve_group(alloc, ends, opened)?;
     let (channel, pass, first) = add_channel(alloc, &opened.channels, &mut opened.plans)?;
     let writer = new_writer(alloc, pass, share, closed);
     opened.channels.push_reserved(channel);
@@ -195,10 +187,13 @@ fn add_group<L: Ledger, O: Outcome + Drop, V: Drop>(
     Ok(())
 }
 
-/// Finds room for a group more.
+/// Finds room for a group more, and gives a flag for each of so many ends, that its closing mark
+/// wasn't taken yet.
 fn reserve_group<L: Ledger, O: Outcome + Drop, V: Drop>(
+    alloc: Global,
+    ends: usize,
     opened: &mut Opened<L, O, V>,
-) -> Result<(), AllocError>
+) -> Result<Vec<bool>, AllocError>
     ensures same { (opened.new.channels.items ≡ opened.old.channels.items)
         × (opened.new.rests.items ≡ opened.old.rests.items)
         × (opened.new.plans.items ≡ opened.old.plans.items)
@@ -207,8 +202,10 @@ fn reserve_group<L: Ledger, O: Outcome + Drop, V: Drop>(
         (vec_len opened.new.channels < vec_capacity opened.new.channels)
         × (vec_len opened.new.rests < vec_capacity opened.new.rests)
         × (vec_len opened.new.writers < vec_capacity opened.new.writers)) }
+    ensures closed { IfOk result (λ closed. closed.items ≡ replicate ends false) }
 {
     opened.channels.reserve(1)?;
     opened.rests.reserve(1)?;
-    opened.writers.reserve(1)
+    opened.writers.reserve(1)?;
+    Vec::from_elem(alloc, false, ends)
 }

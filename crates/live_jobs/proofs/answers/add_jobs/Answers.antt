@@ -1,6 +1,7 @@
-use Rattle.std.proofs.Common.{length, ap, refl, arith}
+use Rattle.std.proofs.Common.{length, ap, refl}
 use Rattle.live_jobs.specs.Sets.{has_job}
 use Rattle.live_jobs.proofs.Jobs.{one_more_job, no_job, conflicts_next}
+use Rattle.live_jobs.proofs.Rows.{counted_on, counted_still, few_counted, fewer_left}
 use Rattle.live_jobs.proofs.answers.add_jobs.Goals as goal
 
 pub loop-one-preserved-in-Kept : goal.loop-one-preserved-in-Kept
@@ -16,8 +17,8 @@ loop-one-preserved-in-Kept g c =
           (has_job c.insert.new.self end number register) _ end number register from
           c.in-Kept.is c.number.ensures (updates.0 (end, number, register))
           (inv.jobs end number register);
-      conflict = omega (arith, inv.conflict, same);
-      few = omega (arith, inv.few, ap length from);
+      conflict = counted_still _ _ _ _ inv.conflict same;
+      few = fewer_left _ _ _ _ inv.few (ap length from);
     }
 
 pub loop-one-preserved-in-Failed : goal.loop-one-preserved-in-Failed
@@ -29,8 +30,8 @@ loop-one-preserved-in-Failed g c =
       jobs = λ end number register.
           no_job _ c.loop-one.left _ _ (has_job c.loop-one.jobs end number register) _ end number
           register from c.in-Failed.is refl (inv.jobs end number register);
-      conflict = omega (arith, inv.conflict, same);
-      few = omega (arith, inv.few, ap length from);
+      conflict = counted_still _ _ _ _ inv.conflict same;
+      few = fewer_left _ _ _ _ inv.few (ap length from);
     }
 
 pub loop-one-preserved : goal.loop-one-preserved
@@ -42,6 +43,6 @@ loop-one-preserved g c =
       jobs = λ end number register.
           no_job _ c.loop-one.left _ _ (has_job c.loop-one.jobs end number register) _ end number
           register from c.in-Conflict.is refl (inv.jobs end number register);
-      conflict = omega (arith, inv.conflict, same);
-      few = omega (arith, inv.few, ap length from);
+      conflict = counted_on _ _ _ _ inv.conflict same;
+      few = few_counted _ _ _ _ inv.few (ap length from);
     }

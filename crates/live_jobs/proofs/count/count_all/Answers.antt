@@ -1,8 +1,8 @@
-use Rattle.std.proofs.Common.{◌∙◌, List, ap, arith, map, sym}
+use Rattle.std.proofs.Common.{◌∙◌, List, ap, map, sym}
 use Rattle.live_jobs.specs.Gathered.{kept_by_all}
 use Rattle.live_jobs.specs.declared.writer.WriterSeat.{WriterSeat}
 use Rattle.live_jobs.proofs.Passes.{read_at, map_set_same}
-use Rattle.live_jobs.proofs.Counts.{here_set}
+use Rattle.live_jobs.proofs.Counts.{at_most, here_set}
 use Rattle.live_jobs.proofs.count.count_all.Goals as goal
 
 pub lend_all-requires-clause-here : goal.lend_all-requires-clause-here
@@ -18,14 +18,8 @@ sum_kept-requires g c =
     let these = ap (λ (l : List (WriterSeat _ _ _)). kept (map (λ w. w.finished.items) l))
     c.deref.ensures.value in
     let same = ap kept c.lend_all.ensures.finished in
-    omega (
-      arith,
-      these,
-      same,
-      c.lend_all.ensures.amount,
-      c.posted-posted.ensures.amount,
-      c.count.ensures,
-    )
+    at_most _ _ (these ∙ same ∙ sym c.lend_all.ensures.amount
+    ∙ sym c.posted-posted.ensures.amount ∙ sym c.count.ensures)
 
 pub returns : goal.returns
 returns g c =

@@ -1,10 +1,12 @@
-use Rattle.std.proofs.Common.{◌<◌, List, length, map, ap, refl, sym, ◌∙◌, arith}
+use Rattle.std.proofs.Common.{◌+◌, ℕ, List, map, ap, refl, sym, ◌∙◌, arith}
 use Rattle.std.proofs.lemmas.List.{take_all}
 use Rattle.std.specs.Prelude.{slice_get}
 use Rattle.live_jobs.specs.declared.outcome.FinishedJob.{FinishedJob}
 use Rattle.live_jobs.specs.Gathered.{kept_by_all}
+use Rattle.live_jobs.specs.Taken.{kept_in}
 use Rattle.live_jobs.proofs.Passes.{read_at, length_set, map_at, map_set_same}
 use Rattle.live_jobs.proofs.Counts.{kept_next, here_next}
+use Rattle.live_jobs.proofs.Rows.{below_same}
 use Rattle.live_jobs.proofs.Writers.{length_map}
 use Rattle.live_jobs.proofs.count.lend_all.Goals as goal
 
@@ -21,10 +23,9 @@ loop-group-init g c = record {
 
 pub lend-requires : goal.lend-requires
 lend-requires g c =
-    let all = c.args.writers.now.ok.0 in
     let inv = c.loop-group.invariant in
-    let below : c.loop-group.group < length c.loop-group.writers.items =
-    omega (arith, inv.count, c.len-group-end.ensures) in
+    let below = below_same _ _ _ c.loop-group-test.true
+    (c.len-group-end.ensures ∙ c.args.writers.now.ok.0 ∙ sym inv.count) in
     record {
       here = inv.here c.loop-group.group c.index_mut.result.now (omega arith)
           (read_at c.loop-group.writers.items c.loop-group.group c.index_mut.result.now below
@@ -33,10 +34,9 @@ lend-requires g c =
 
 pub loop-group-preserved : goal.loop-group-preserved
 loop-group-preserved g c =
-    let all = c.args.writers.now.ok.0 in
     let inv = c.loop-group.invariant in
-    let below : c.loop-group.group < length c.loop-group.writers.items =
-    omega (arith, inv.count, c.len-group-end.ensures) in
+    let below = below_same _ _ _ c.loop-group-test.true
+    (c.len-group-end.ensures ∙ c.args.writers.now.ok.0 ∙ sym inv.count) in
     let at = read_at c.loop-group.writers.items c.loop-group.group c.index_mut.result.now below
     c.index_mut.ensures.value in
     let e = c.lend.ensures in
@@ -47,8 +47,9 @@ loop-group-preserved g c =
     c.index_mut.result.now at) in
     record {
       count = length_set c.loop-group.writers.items c.loop-group.group c.lend.new.self ∙ inv.count;
-      parts = omega (arith, inv.parts, e.all.0);
-      amount = omega (arith, inv.amount, e.all.1, next);
+      parts = e.all.0 ∙ ap (λ (n : ℕ). n + 1) inv.parts;
+      amount = e.all.1 ∙ ap (λ (n : ℕ). n
+          + kept_in g.O.Outcome.kept c.index_mut.result.now.finished.items) inv.amount ∙ sym next;
       here = here_next (λ w. w.lent) c.loop-group.writers.items c.loop-group.group
           c.lend.new.self inv.here;
       finished = map_set_same (λ w. w.finished.items) c.loop-group.writers.items c.loop-group.group

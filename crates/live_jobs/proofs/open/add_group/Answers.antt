@@ -1,7 +1,7 @@
-use Rattle.std.proofs.Common.{◌∙◌, ◌++◌, ◌∷◌, [], ap, arith, false, sym, subst, length, List, map}
+use Rattle.std.proofs.Common.{◌∙◌, ◌+◌, ◌++◌, ◌∷◌, [], ℕ, ap, false, sym, subst, length, List, map}
 use Rattle.std.proofs.lemmas.List.{length-replicate}
-use Rattle.std.proofs.lemmas.Result.{IfOk-from_err, err_from_is_err_and}
-use Rattle.std.specs.Prelude.{is_err, slice_get}
+use Rattle.std.proofs.lemmas.Result.{IfOk-from_err}
+use Rattle.std.specs.Prelude.{slice_get}
 use Rattle.crossbeam_queue.specs.Passes.{IsPassOf}
 use Rattle.job_queue.specs.Passes.{QueuePass}
 use Rattle.live_jobs.specs.Gathered.{IsRest}
@@ -24,34 +24,23 @@ add_channel-requires-clause-fit g c =
 
 pub new_writer-writer-requires-clause-none : goal.new_writer-writer-requires-clause-none
 new_writer-writer-requires-clause-none g c = λ e at.
-    no_flags c.args.ends e (ap (λ l. slice_get l e) (sym c.in_ok-closed.ensures) ∙ at)
+    no_flags c.args.ends e (ap (λ l. slice_get l e) (sym c.in_ok-closed.ensures.closed) ∙ at)
 
 -- where memory is refused there is none more
-pub returns-in_err-reserve_group : goal.returns-in_err-reserve_group
-returns-in_err-reserve_group g c =
-    let told = c.from_residual in
-    let err = ap is_err (err_from_is_err_and told.result told.ensures.1).1 in
-    record {
-      fit = IfOk-from_err told.result _ err;
-      services = IfOk-from_err told.result _ err;
-    }
-
 pub returns-in_err-closed : goal.returns-in_err-closed
 returns-in_err-closed g c =
-    let told = c.from_residual-in_err-closed in
-    let err = ap is_err (err_from_is_err_and told.result told.ensures.1).1 in
+    let told = c.from_residual in
     record {
-      fit = IfOk-from_err told.result _ err;
-      services = IfOk-from_err told.result _ err;
+      fit = IfOk-from_err told.result _ told.ensures.0;
+      services = IfOk-from_err told.result _ told.ensures.0;
     }
 
 pub returns-in_err-channel : goal.returns-in_err-channel
 returns-in_err-channel g c =
     let told = c.from_residual-in_err-channel in
-    let err = ap is_err (err_from_is_err_and told.result told.ensures.1).1 in
     record {
-      fit = IfOk-from_err told.result _ err;
-      services = IfOk-from_err told.result _ err;
+      fit = IfOk-from_err told.result _ told.ensures.0;
+      services = IfOk-from_err told.result _ told.ensures.0;
     }
 
 -- the channel, its first pass and its writer stand behind those of the groups before
@@ -69,11 +58,10 @@ returns g c =
     let writers = c.push_reserved-3.ensures.items
     ∙ (λ i. same.3 i ++ c.new_writer-writer.result ∷ []) in
     let ends = ap length same.2 ∙ was.ends_count in
-    let one = length_snoc _ _ _ writers in
     record {
       fit = record {
         channels = length_snoc _ _ _ channels;
-        count = omega (arith, one, was.count);
+        count = length_snoc _ _ _ writers ∙ ap (λ (n : ℕ). n + 1) was.count;
         ends_count = add.ends ∙ ends;
         plans = subst
             (λ (ls : List JobChannel). From (λ e p. IsUnused ls e p.seat) 0
@@ -91,7 +79,7 @@ returns g c =
             (subst (λ (p : QueuePass). IsPassOf (queue_of c.in_ok-channel.channel) p)
             (sym made.pass) add.writer.0)
             made.flags.0
-            (ap length (made.flags.1 ∙ c.in_ok-closed.ensures)
+            (ap length (made.flags.1 ∙ c.in_ok-closed.ensures.closed)
             ∙ length-replicate c.args.ends false);
       };
       services = add.services

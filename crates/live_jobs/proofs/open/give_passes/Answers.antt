@@ -1,12 +1,12 @@
 use Rattle.std.proofs.Common.{◌≡◌, ◌+◌, ◌<◌, ◌∙◌, ◌++◌, ◌∷◌, [], ℕ, ap, sym, refl, subst}
 use Rattle.std.proofs.Common.{length, arith, false}
-use Rattle.std.proofs.lemmas.Result.{IfOk-from_err, err_from_is_err_and}
-use Rattle.std.specs.Prelude.{is_err}
+use Rattle.std.proofs.lemmas.Result.{IfOk-from_err}
 use Rattle.job_queue.specs.declared.known.Known.{Known}
 use Rattle.job_queue.specs.Delivery.{knows, end_knows, end_limit}
 use Rattle.live_jobs.specs.Started.{IsUnused}
 use Rattle.live_jobs.proofs.Passes.{read_at, length_set, fits_snoc, map_set_same}
 use Rattle.live_jobs.proofs.Plans.{finished_next, todo_next}
+use Rattle.live_jobs.proofs.Rows.{below_same}
 use Rattle.live_jobs.proofs.Unused.{unused_snoc}
 use Rattle.live_jobs.proofs.Writers.{within}
 use Rattle.live_jobs.proofs.open.give_passes.Goals as goal
@@ -27,8 +27,8 @@ loop-end-init g c = record {
 pub loop-end-preserved : goal.loop-end-preserved
 loop-end-preserved g c =
     let inv = c.loop-end.invariant in
-    let below : c.loop-end.end < length c.loop-end.plans.items =
-    omega (arith, inv.long, c.len-end-end.ensures, c.args.plans.now.ok.0) in
+    let below = below_same _ _ _ c.loop-end-test.true
+    (c.len-end-end.ensures ∙ c.args.plans.now.ok.0 ∙ sym inv.long) in
     let at = read_at _ _ _ below c.index_mut.ensures.value in
     let was = inv.todo c.loop-end.end c.index_mut.result.now (omega arith) at in
     let cut = c.end_pass-pass.ensures in
@@ -75,10 +75,9 @@ returns g c =
 pub returns-in_err-push : goal.returns-in_err-push
 returns-in_err-push g c =
     let told = c.from_residual in
-    let err = ap is_err (err_from_is_err_and told.result told.ensures.1).1 in
     record {
-      rest = IfOk-from_err told.result _ err;
-      ends = IfOk-from_err told.result _ err;
-      services = IfOk-from_err told.result _ err;
-      fit = IfOk-from_err told.result _ err;
+      rest = IfOk-from_err told.result _ told.ensures.0;
+      ends = IfOk-from_err told.result _ told.ensures.0;
+      services = IfOk-from_err told.result _ told.ensures.0;
+      fit = IfOk-from_err told.result _ told.ensures.0;
     }

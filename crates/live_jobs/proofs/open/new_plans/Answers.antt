@@ -3,7 +3,7 @@ use Rattle.std.proofs.lemmas.List.{nil_from_length}
 use Rattle.std.specs.Vec.Iter.{into_iter_items}
 use Rattle.live_jobs.specs.Started.{Fresh}
 use Rattle.live_jobs.proofs.Plans.{services_next}
-use Rattle.live_jobs.proofs.Rows.{each_snoc, length_snoc}
+use Rattle.live_jobs.proofs.Rows.{each_snoc, length_snoc, put_all, room_stays, still_all}
 use Rattle.live_jobs.proofs.open.new_plans.Goals as goal
 
 pub loop-service-preserved : goal.loop-service-preserved
@@ -15,10 +15,10 @@ loop-service-preserved g c =
     let here = c.loop-service.plans.ok.0 in
     let count = c.len-in-loop-service.ensures in
     record {
-      count = omega (arith, long, inv.count, steps.1);
-      room = omega (arith, inv.room, pushed.capacity);
+      count = still_all _ _ _ _ _ inv.count long steps.1;
+      room = room_stays _ _ _ inv.room pushed.capacity;
       fresh = each_snoc (λ e p. Fresh e p.seat) _ _ _ inv.fresh pushed.items
-          (omega (arith, count, here), c.new.ensures.items, refl);
+          (count ∙ here, c.new.ensures.items, refl);
       services = services_next (λ p. p.service) _ _ _ _ _ _ _ inv.services
           pushed.items steps.0 refl;
     }
@@ -33,7 +33,7 @@ returns g c =
     (omega (arith, done, rest.rest.ok)) in
     let plans = c.loop-service.plans.items in
     record {
-      ends = omega (arith, inv.count, done);
+      ends = put_all _ _ _ inv.count done;
       fresh = inv.fresh;
       services = sym (append-nil (map (λ p. p.service) plans))
           ∙ ap (λ services. map (λ p. p.service) plans ++ services) (sym none)

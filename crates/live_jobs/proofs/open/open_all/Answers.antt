@@ -1,11 +1,19 @@
 use Rattle.std.proofs.Common.{◌∙◌, ◌+◌, ◌≡◌, ℕ, ap, arith, length, rules, subst, sym}
-use Rattle.std.proofs.lemmas.Result.{IfOk-from_err, err_from_is_err_and}
-use Rattle.std.specs.Prelude.{is_err}
+use Rattle.std.proofs.lemmas.Result.{IfOk-from_err}
 use Rattle.live_jobs.specs.Started.{AreOpened, Ready}
 use Rattle.live_jobs.proofs.Rows.{from_none}
 use Rattle.live_jobs.proofs.Unused.{fresh_unused}
 use Rattle.live_jobs.proofs.Writers.{rests_none}
 use Rattle.live_jobs.proofs.open.open_all.Goals as goal
+
+-- one part was split off, for one group more
+one_split : (left left' group groups : ℕ) → left + group ≡ groups → left' + 1 ≡ left
+    → left' + (group + 1) ≡ groups
+one_split left left' group groups so_far split = omega (arith, so_far, split)
+
+-- where nothing is counted, nothing is where none of it was split off
+none_counted : (left was : ℕ) → left + 0 ≡ was → was ≡ 0 → left ≡ 0
+none_counted left was same none = omega (arith, same, none)
 
 pub loop-group-init : goal.loop-group-init
 loop-group-init g c =
@@ -33,8 +41,8 @@ loop-group-preserved g c =
     record {
       services = add.services ∙ inv.services;
       parts = (
-        omega (arith, inv.parts.0, c.split_off-share.ensures.parts_left),
-        omega (arith, inv.parts.1, c.split_off-share.ensures.amount_left),
+        one_split _ _ _ _ inv.parts.0 c.split_off-share.ensures.parts_left,
+        none_counted _ _ c.split_off-share.ensures.amount_left inv.parts.1,
       );
       fit = subst (λ (x : ℕ × ℕ). AreOpened (x.0 + 1) x.1 c.add_group.new.opened)
           (λ i. (inv.fit.channels i, (c.len-ends.ensures ∙ c.args.services.ok.0) i)) add.fit;
@@ -50,25 +58,23 @@ add_group-requires-clause-fit g c =
 pub returns-in_err-plans : goal.returns-in_err-plans
 returns-in_err-plans g c =
     let told = c.from_residual in
-    let err = ap is_err (err_from_is_err_and told.result told.ensures.1).1 in
     record {
-      channels = IfOk-from_err told.result _ err;
-      rests = IfOk-from_err told.result _ err;
-      ends = IfOk-from_err told.result _ err;
-      services = IfOk-from_err told.result _ err;
-      writers = IfOk-from_err told.result _ err;
+      channels = IfOk-from_err told.result _ told.ensures.0;
+      rests = IfOk-from_err told.result _ told.ensures.0;
+      ends = IfOk-from_err told.result _ told.ensures.0;
+      services = IfOk-from_err told.result _ told.ensures.0;
+      writers = IfOk-from_err told.result _ told.ensures.0;
     }
 
 pub returns-in_err-add_group : goal.returns-in_err-add_group
 returns-in_err-add_group g c =
     let told = c.from_residual-in_err-add_group in
-    let err = ap is_err (err_from_is_err_and told.result told.ensures.1).1 in
     record {
-      channels = IfOk-from_err told.result _ err;
-      rests = IfOk-from_err told.result _ err;
-      ends = IfOk-from_err told.result _ err;
-      services = IfOk-from_err told.result _ err;
-      writers = IfOk-from_err told.result _ err;
+      channels = IfOk-from_err told.result _ told.ensures.0;
+      rests = IfOk-from_err told.result _ told.ensures.0;
+      ends = IfOk-from_err told.result _ told.ensures.0;
+      services = IfOk-from_err told.result _ told.ensures.0;
+      writers = IfOk-from_err told.result _ told.ensures.0;
     }
 
 -- that was the last

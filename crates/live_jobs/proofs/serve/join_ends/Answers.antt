@@ -1,10 +1,10 @@
-use Rattle.std.proofs.Common.{◌≡◌, ◌∙◌, [], ap, sym, map, subst, length, arith}
+use Rattle.std.proofs.Common.{◌≡◌, ◌∙◌, ◌+◌, ℕ, [], ap, sym, map, subst, length, arith}
 use Rattle.std.proofs.lemmas.List.{nil_from_length}
 use Rattle.std.specs.Vec.Iter.{into_iter_items}
 use Rattle.live_jobs.specs.Seats.{left_by}
 use Rattle.live_jobs.specs.Started.{Serves, Left, HasKept}
 use Rattle.live_jobs.proofs.Rows.{from_head, from_next, from_start, from_none, each_snoc}
-use Rattle.live_jobs.proofs.Rows.{length_snoc}
+use Rattle.live_jobs.proofs.Rows.{length_snoc, put_all, room_stays, still_all}
 use Rattle.live_jobs.proofs.Plans.{left, none_kept, kept_snoc, services_end, services_next}
 use Rattle.live_jobs.proofs.Plans.{services_start}
 use Rattle.live_jobs.proofs.serve.join_ends.Goals as goal
@@ -37,12 +37,12 @@ loop-handle-preserved g c =
     let head = from_head (λ n h. Serves c.args.channels.now n h.promise.channels.now h.promise.end)
     (length c.loop-handle.lefts.items) _ _ _ inv.todo steps.0 in
     record {
-      count = omega (arith, long, inv.count, steps.1);
-      room = omega (arith, inv.room, pushed.capacity);
+      count = still_all _ _ _ _ _ inv.count long steps.1;
+      room = room_stays _ _ _ inv.room pushed.capacity;
       todo = from_next (λ n h. Serves c.args.channels.now n h.promise.channels.now h.promise.end) _
           _ _ _ _ inv.todo steps.0 long;
-      both = omega (arith, inv.both, long, wide);
-      spare = omega (arith, inv.spare, also.capacity);
+      both = wide ∙ ap (λ (n : ℕ). n + 1) inv.both ∙ sym long;
+      spare = room_stays _ _ _ inv.spare also.capacity;
       fit = each_snoc (λ n x. Left c.args.channels.now n x) _ _ _ inv.fit pushed.items
           (left _ c.in-Some.handle.promise.channels.now _ c.in-Some.handle.promise.end
           c.join-seat.result.seat head c.join-seat.ensures.0 c.join-seat.ensures.1);
@@ -63,7 +63,7 @@ returns g c =
     let none : into_iter_items rest ≡ [] = nil_from_length rest.rest.items
     (omega (arith, done, rest.rest.ok)) in
     record {
-      all = (omega (arith, inv.count, done), omega (arith, inv.count, inv.both, done));
+      all = (put_all _ _ _ inv.count done, inv.both ∙ put_all _ _ _ inv.count done);
       left = inv.fit;
       kept = inv.kept;
       marks = services_end g.V.Accounts.mark c.loop-handle.services.items _ _ inv.marks

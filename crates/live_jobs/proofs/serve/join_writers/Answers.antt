@@ -1,7 +1,7 @@
 use Rattle.std.proofs.Common.{sym, length, arith}
 use Rattle.live_jobs.specs.Started.{Runs, Ended}
 use Rattle.live_jobs.proofs.Rows.{from_head, from_next, from_start, from_none, each_snoc}
-use Rattle.live_jobs.proofs.Rows.{length_snoc}
+use Rattle.live_jobs.proofs.Rows.{length_snoc, put_all, room_stays, still_all}
 use Rattle.live_jobs.proofs.Plans.{ended}
 use Rattle.live_jobs.proofs.serve.join_writers.Goals as goal
 
@@ -29,8 +29,8 @@ loop-handle-preserved g c =
     (λ n h. Runs c.args.channels.now c.args.ends n h.promise.channel.now h.promise.ends)
     (length c.loop-handle.writers.items) _ _ _ inv.todo steps.0 in
     record {
-      count = omega (arith, long, inv.count, steps.1);
-      room = omega (arith, inv.room, pushed.capacity);
+      count = still_all _ _ _ _ _ inv.count long steps.1;
+      room = room_stays _ _ _ inv.room pushed.capacity;
       todo = from_next
           (λ n h. Runs c.args.channels.now c.args.ends n h.promise.channel.now h.promise.ends) _ _ _
           _ _ inv.todo steps.0 long;
@@ -45,4 +45,4 @@ loop-handle-preserved g c =
 pub returns : goal.returns
 returns g c =
     let inv = c.loop-handle.invariant in
-    record { all = omega (arith, inv.count, c.in-None.ensures.steps.0); ended = inv.fit }
+    record { all = put_all _ _ _ inv.count c.in-None.ensures.steps.0; ended = inv.fit }

@@ -1,34 +1,30 @@
 use Rattle.std.proofs.Common.{ap, length}
-use Rattle.std.proofs.lemmas.Result.{IfOk-from_err, err_from_is_err_and}
-use Rattle.std.specs.Prelude.{is_err}
+use Rattle.std.proofs.lemmas.Result.{IfOk-from_err}
 use Rattle.live_jobs.proofs.serve.no_seats.Goals as goal
 
 -- where memory is refused there is no room
 pub returns-in_err-lefts : goal.returns-in_err-lefts
 returns-in_err-lefts g c =
     let told = c.from_residual in
-    let err = ap is_err (err_from_is_err_and told.result told.ensures.1).1 in
     record {
-      none = IfOk-from_err told.result _ err;
-      room = IfOk-from_err told.result _ err;
+      none = IfOk-from_err told.result _ told.ensures.0;
+      room = IfOk-from_err told.result _ told.ensures.0;
     }
 
 pub returns-in_err-services : goal.returns-in_err-services
 returns-in_err-services g c =
     let told = c.from_residual-in_err-services in
-    let err = ap is_err (err_from_is_err_and told.result told.ensures.1).1 in
     record {
-      none = IfOk-from_err told.result _ err;
-      room = IfOk-from_err told.result _ err;
+      none = IfOk-from_err told.result _ told.ensures.0;
+      room = IfOk-from_err told.result _ told.ensures.0;
     }
 
 pub returns-in_err-writers : goal.returns-in_err-writers
 returns-in_err-writers g c =
     let told = c.from_residual-in_err-writers in
-    let err = ap is_err (err_from_is_err_and told.result told.ensures.1).1 in
     record {
-      none = IfOk-from_err told.result _ err;
-      room = IfOk-from_err told.result _ err;
+      none = IfOk-from_err told.result _ told.ensures.0;
+      room = IfOk-from_err told.result _ told.ensures.0;
     }
 
 pub returns : goal.returns

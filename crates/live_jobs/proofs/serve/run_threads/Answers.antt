@@ -1,6 +1,7 @@
-use Rattle.std.proofs.Common.{◌∙◌, ℕ, ap, arith, subst, sym}
-use Rattle.std.specs.Prelude.{slice_get}
+use Rattle.std.proofs.Common.{◌∙◌, ◌≤◌, ℕ, ap, subst, sym}
+use Rattle.std.specs.Prelude.{slice_get, vec_capacity}
 use Rattle.live_jobs.specs.Started.{AllEnded, AllReady}
+use Rattle.live_jobs.proofs.Rows.{within_room}
 use Rattle.live_jobs.proofs.serve.run_threads.Goals as goal
 
 -- there is room for the handles
@@ -9,7 +10,7 @@ start_writers-requires-clause-none g c κs within = c.in-Ok.ensures.none.0
 
 pub start_writers-requires-clause-room : goal.start_writers-requires-clause-room
 start_writers-requires-clause-room g c κs within =
-    omega (arith, c.in-Ok.ensures.room.0, c.len-groups.ensures)
+    subst (λ (n : ℕ). n ≤ vec_capacity c.in-Ok.running) c.len-groups.ensures c.in-Ok.ensures.room.0
 
 pub start_writers-requires-clause-fit : goal.start_writers-requires-clause-fit
 start_writers-requires-clause-fit g c κs within =
@@ -30,7 +31,8 @@ start_ends-all-requires-clause-none g c κs within = c.in-Ok.ensures.none.1
 
 pub start_ends-all-requires-clause-room : goal.start_ends-all-requires-clause-room
 start_ends-all-requires-clause-room g c κs within = (
-  omega (arith, c.args.plans.ok.0, c.in-Ok.ensures.room.1, c.len-ends.ensures),
+  subst (λ (n : ℕ). n ≤ vec_capacity c.in-Ok.serving) (c.len-ends.ensures ∙ c.args.plans.ok.0)
+      c.in-Ok.ensures.room.1,
   c.requires.flagged,
 )
 
@@ -47,20 +49,14 @@ join_ends-requires-clause-none g c =
 pub join_ends-requires-clause-room : goal.join_ends-requires-clause-room
 join_ends-requires-clause-room g c =
     let room = c.in-Ok.ensures.room in
-    let all = c.args.plans.ok.0 in (
-      omega (arith, all, c.start_ends-all.ensures.some, room.2, c.len-ends.ensures),
-      omega (arith, all, c.start_ends-all.ensures.some, room.3, c.len-ends.ensures),
-    )
+    let some = c.start_ends-all.ensures.some in
+    let all = c.len-ends.ensures ∙ c.args.plans.ok.0 in
+    (within_room _ _ _ _ some all room.2, within_room _ _ _ _ some all room.3)
 
 pub join_writers-requires-clause-room : goal.join_writers-requires-clause-room
 join_writers-requires-clause-room g c =
-    omega (
-      arith,
-      c.start_writers.ensures.some,
-      c.in-Ok.ensures.room.4,
-      c.len-groups.ensures,
-      c.args.writers.ok.0,
-    )
+    within_room _ _ _ _ c.start_writers.ensures.some
+    (c.len-groups.ensures ∙ c.args.writers.ok.0) c.in-Ok.ensures.room.4
 
 -- all come back
 pub returns : goal.returns

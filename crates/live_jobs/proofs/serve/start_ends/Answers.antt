@@ -6,7 +6,7 @@ use Rattle.std.specs.Vec.Iter.{into_iter_items}
 use Rattle.live_jobs.specs.Seats.{count_of, handed_by}
 use Rattle.live_jobs.specs.Started.{Open, Serves}
 use Rattle.live_jobs.proofs.Rows.{from_head, from_next, from_start, from_none, each_snoc}
-use Rattle.live_jobs.proofs.Rows.{length_snoc}
+use Rattle.live_jobs.proofs.Rows.{length_snoc, put_all, put_some, room_stays, still_all}
 use Rattle.live_jobs.proofs.Plans.{services_start, services_next}
 use Rattle.live_jobs.proofs.serve.start_ends.Goals as goal
 
@@ -60,8 +60,8 @@ loop-plan-preserved g c =
     (length c.loop-plan.serving.items) _ _ _ inv.todo steps.items in
     let told = c.in-Some-start_end.ensures in
     record {
-      count = omega (arith, inv.count, steps.len, long);
-      room = (omega (arith, inv.room.0, pushed.capacity), inv.room.1);
+      count = still_all _ _ _ _ _ inv.count long steps.len;
+      room = (room_stays _ _ _ inv.room.0 pushed.capacity, inv.room.1);
       todo = from_next (λ n p. Open c.args.channels.now n p.seat) _ _ _ _ _ inv.todo steps.items
           long;
       kept = from_next (λ n p. g.V.Accounts.fits p.service n (count_of p.seat) (handed_by p.seat)) _
@@ -76,7 +76,7 @@ loop-plan-preserved g c =
 pub returns-in-None : goal.returns-in-None
 returns-in-None g c = record {
   all = λ yes. absurd (false≢true yes);
-  some = omega (arith, c.loop-plan.invariant.count);
+  some = put_some _ _ _ c.loop-plan.invariant.count;
   fit = c.loop-plan.invariant.fit;
   marks = λ yes. absurd (false≢true yes);
 }
@@ -89,8 +89,8 @@ returns g c =
     (omega (arith, c.in_default.ensures.cases.0, rest.rest.ok)) in
     let marks = map (λ h. g.V.Accounts.mark h.promise.service.value) c.loop-plan.serving.items in
     record {
-      all = λ yes. omega (arith, c.loop-plan.invariant.count, c.in_default.ensures.cases.0);
-      some = omega (arith, c.loop-plan.invariant.count);
+      all = λ yes. put_all _ _ _ c.loop-plan.invariant.count c.in_default.ensures.cases.0;
+      some = put_some _ _ _ c.loop-plan.invariant.count;
       fit = c.loop-plan.invariant.fit;
       marks = λ yes. sym (append-nil marks)
           ∙ ap (λ plans. marks ++ map (λ p. g.V.Accounts.mark p.service) plans) (sym none)
