@@ -49,88 +49,90 @@ pub(crate) fn largest_stored(config: &Config) -> u64
 
 /// Puts what is told of all buffers, with what lies where their files are to be.
 #[tactic(auto, unfolding(crate::specs::Buffers::buffers_text))]
-pub(crate) fn put_buffers(text: &mut Text, config: &Config, lines: &[&[u8]], found: &[Found])
-    ensures { Adds text.old text.new
+pub(crate) fn put_buffers(mut text: Text, config: &Config, lines: &[&[u8]], found: &[Found]) -> Text
+    ensures { Adds text result
         (terms.buffers_text config.now (map (λ line. line.now) lines.now) found.now) }
 {
     for (number, buffer) in config.buffers.buffers.iter().enumerate() {
-        put_buffer(text, config, lines, found, number, buffer);
+        text = put_buffer(text, config, lines, found, number, buffer);
     }
+    text
 }
 
 /// Puts what is told of the buffer of this number.
 fn put_buffer(
-    text: &mut Text,
+    text: Text,
     config: &Config,
     lines: &[&[u8]],
     found: &[Found],
     number: usize,
     buffer: &BufferConf,
-)
-    ensures { Adds text.old text.new
+) -> Text
+    ensures { Adds text result
         (terms.buffer_text config.now (map (λ line. line.now) lines.now) found.now (
           number,
           buffer.now,
         )) }
 {
     let line = named_line(lines, b"cycbuff", buffer.name.as_slice());
-    put_buffer_line(text, line, buffer);
-    put_found(text, line, buffer.file.as_slice(), found.get(number));
-    put_odds(text, config, line, number, buffer);
+    let text = put_buffer_line(text, line, buffer);
+    let text = put_found(text, line, buffer.file.as_slice(), found.get(number));
+    put_odds(text, config, line, number, buffer)
 }
 
 /// Puts the line of a buffer.
 #[tactic(auto, unfolding(crate::specs::Buffers::buffer_told))]
-fn put_buffer_line(text: &mut Text, line: usize, buffer: &BufferConf)
-    ensures { Adds text.old text.new (told_line cycbuff line (terms.buffer_told buffer.now)) }
+fn put_buffer_line(text: Text, line: usize, buffer: &BufferConf) -> Text
+    ensures { Adds text result (told_line cycbuff line (terms.buffer_told buffer.now)) }
 {
     let name = buffer.name.as_slice();
     let file = buffer.file.as_slice();
-    begin_line(text, CYCBUFF, line);
-    put(text, &[b"buffer ", name, b", file ", file, b": "]);
-    put_sizes(text, buffer.blocks);
-    text.add(b"\n");
+    let text = begin_line(text, CYCBUFF, line);
+    let text = put(text, &[b"buffer ", name, b", file ", file, b": "]);
+    put_sizes(text, buffer.blocks).add(b"\n")
 }
 
 /// Puts what so many blocks are and hold.
 #[tactic(auto, unfolding(crate::specs::Buffers::sizes_text))]
-fn put_sizes(text: &mut Text, blocks: u32)
-    ensures { Adds text.old text.new (terms.sizes_text blocks) }
+fn put_sizes(text: Text, blocks: u32) -> Text
+    ensures { Adds text result (terms.sizes_text blocks) }
 {
-    text.add_number(blocks as u128);
-    text.add(b" blocks, ");
-    text.add_number(room_of(blocks) as u128);
-    text.add(b" octets of articles, ");
-    text.add_number(file_octets(blocks) as u128);
-    text.add(b" octets of disk");
+    text.add_number(blocks as u128)
+        .add(b" blocks, ")
+        .add_number(room_of(blocks) as u128)
+        .add(b" octets of articles, ")
+        .add_number(file_octets(blocks) as u128)
+        .add(b" octets of disk")
 }
 
 /// Puts what is odd in a buffer of this number.
 #[tactic(auto, unfolding(crate::specs::Buffers::buffer_odds))]
-fn put_odds(text: &mut Text, config: &Config, line: usize, number: usize, buffer: &BufferConf)
-    ensures { Adds text.old text.new (terms.buffer_odds config.now line number buffer.now) }
+fn put_odds(text: Text, config: &Config, line: usize, number: usize, buffer: &BufferConf) -> Text
+    ensures { Adds text result (terms.buffer_odds config.now line number buffer.now) }
 {
     let file = buffer.file.as_slice();
     let first = first_with(first_ones(&config.buffers.buffers, number), file);
-    put_odd(
+    let text = put_odd(
         text,
         !is_in_group(&config.buffers.groups, number),
         CYCBUFF,
         line,
         b"the buffer is in no group: it takes no article",
     );
-    put_shared(text, CYCBUFF, line, b"the file is that of buffer ", first);
-    put_room_odd(text, line, buffer.blocks, largest_stored(config));
+    let text = put_shared(text, CYCBUFF, line, b"the file is that of buffer ", first);
+    put_room_odd(text, line, buffer.blocks, largest_stored(config))
 }
 
 /// Puts what is odd in a buffer of so many blocks: the largest article finds no room.
 #[tactic(auto, unfolding(crate::specs::Buffers::room_odd))]
-fn put_room_odd(text: &mut Text, line: usize, blocks: u32, largest: u64)
-    ensures { Adds text.old text.new (terms.room_odd line blocks largest) }
+fn put_room_odd(text: Text, line: usize, blocks: u32, largest: u64) -> Text
+    ensures { Adds text result (terms.room_odd line blocks largest) }
 {
     if room_of(blocks) < largest {
         let told = b"the buffer has no room for the largest article, of ";
-        put_odd_number(text, CYCBUFF, line, told, largest as u128, b" octets");
+        put_odd_number(text, CYCBUFF, line, told, largest as u128, b" octets")
+    } else {
+        text
     }
 }
 

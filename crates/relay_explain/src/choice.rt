@@ -26,10 +26,8 @@ pub fn explain_choice(
         ≡ terms.choice_text config.now newsgroups.now size) }
 {
     let taken = taken_of(alloc, config, newsgroups, size)?;
-    let mut text = Text::new(alloc);
-    put_article(&mut text, newsgroups, size);
-    put_taken(&mut text, config, taken);
-    text.whole()
+    let text = put_article(Text::new(alloc), newsgroups, size);
+    put_taken(text, config, taken).whole()
 }
 
 /// The class and the group that an article is given of these newsgroups, with commas between them,
@@ -48,14 +46,14 @@ fn taken_of(
 }
 
 /// Puts of which article it is told where it goes.
-fn put_article(text: &mut Text, newsgroups: &[u8], size: u64)
-    ensures { Adds text.old text.new
+fn put_article(text: Text, newsgroups: &[u8], size: u64) -> Text
+    ensures { Adds text result
         (newsgroups.now ++ codes ", " ++ decimal size ++ codes " octets: ") }
 {
-    text.add(newsgroups);
-    text.add(b", ");
-    text.add_number(size as u128);
-    text.add(b" octets: ");
+    text.add(newsgroups)
+        .add(b", ")
+        .add_number(size as u128)
+        .add(b" octets: ")
 }
 
 /// The parts of a text between commas.
@@ -74,8 +72,8 @@ fn parts_of(alloc: Global, text: &[u8]) -> Result<Vec<&[u8]>, AllocError>
 
 /// Puts what is told of the entry that takes an article, by its class and its group.
 #[tactic(auto, unfolding(crate::specs::Choice::taken_text))]
-fn put_taken(text: &mut Text, config: &Config, taken: Option<(u8, u16)>)
-    ensures { Adds text.old text.new (terms.taken_text config.now taken) }
+fn put_taken(text: Text, config: &Config, taken: Option<(u8, u16)>) -> Text
+    ensures { Adds text result (terms.taken_text config.now taken) }
 {
     match taken {
         None => text.add(b"no entry takes it, so it is refused\n"),
@@ -84,14 +82,13 @@ fn put_taken(text: &mut Text, config: &Config, taken: Option<(u8, u16)>)
 }
 
 /// Puts a class, and the group of this number with its buffers.
-fn put_class(text: &mut Text, config: &Config, class: u8, group: u16)
-    ensures { Adds text.old text.new
+fn put_class(text: Text, config: &Config, class: u8, group: u16) -> Text
+    ensures { Adds text result
         (codes "class " ++ decimal class ++ terms.group_end config.now.buffers.buffers.items
         (slice_get config.now.buffers.groups.items group)) }
 {
-    text.add(b"class ");
-    text.add_number(class as u128);
-    put_group_end(text, &config.buffers.buffers, group_at(config, group));
+    let text = text.add(b"class ").add_number(class as u128);
+    put_group_end(text, &config.buffers.buffers, group_at(config, group))
 }
 
 /// The group of this number, where it is there.
@@ -103,15 +100,14 @@ pub(crate) fn group_at(config: &Config, group: u16) -> Option<&GroupConf>
 
 /// Puts a group and its buffers, where it is there.
 #[tactic(auto, unfolding(crate::specs::Choice::group_end))]
-fn put_group_end(text: &mut Text, buffers: &[BufferConf], group: Option<&GroupConf>)
-    ensures { Adds text.old text.new (terms.group_end buffers.now (option_copied group.entry)) }
+fn put_group_end(text: Text, buffers: &[BufferConf], group: Option<&GroupConf>) -> Text
+    ensures { Adds text result (terms.group_end buffers.now (option_copied group.entry)) }
 {
     match group {
         None => text.add(b"\n"),
         Some(group) => {
-            text.add(b", ");
-            put_group_told(text, buffers, group);
-            text.add(b"\n");
+            let text = text.add(b", ");
+            put_group_told(text, buffers, group).add(b"\n")
         }
     }
 }

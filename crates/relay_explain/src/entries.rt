@@ -19,106 +19,106 @@ const STORAGE: &[u8] = b"storage.conf";
 
 /// Puts what is told of all entries.
 #[tactic(auto, unfolding(crate::specs::Entries::entries_text))]
-pub(crate) fn put_entries(alloc: Global, text: &mut Text, config: &Config, lines: &[&[u8]])
-    ensures { Adds text.old text.new
+pub(crate) fn put_entries(alloc: Global, text: Text, config: &Config, lines: &[&[u8]]) -> Text
+    ensures { Adds text result
         (terms.entries_text config.now (map (λ line. line.now) lines.now)) }
 {
     match rows_of(alloc, &config.storage_entries, lines) {
         Ok(rows) => {
-            put_rows(text, config, &rows);
-            put_no_entries(text, &rows);
+            let text = put_rows(text, config, &rows);
+            put_no_entries(text, &rows)
         }
         Err(error) => text.fail(error),
     }
 }
 
 /// Puts what is told of each entry.
-fn put_rows(text: &mut Text, config: &Config, rows: &[Row<'_>])
-    ensures { Adds text.old text.new (flat_map (terms.entry_text config.now rows.now) rows.now) }
+fn put_rows(mut text: Text, config: &Config, rows: &[Row<'_>]) -> Text
+    ensures { Adds text result (flat_map (terms.entry_text config.now rows.now) rows.now) }
 {
     for row in rows {
-        put_entry(text, config, rows, row);
+        text = put_entry(text, config, rows, row);
     }
+    text
 }
 
 /// Puts what is told where there is no entry.
-fn put_no_entries(text: &mut Text, rows: &[Row<'_>])
-    ensures { Adds text.old text.new (terms.no_entries rows.now) }
+fn put_no_entries(text: Text, rows: &[Row<'_>]) -> Text
+    ensures { Adds text result (terms.no_entries rows.now) }
 {
     if rows.len() > 0 {
-        return;
+        return text;
     }
-    text.add(b"storage.conf: odd: there is no entry: each article is refused\n");
+    text.add(b"storage.conf: odd: there is no entry: each article is refused\n")
 }
 
 /// Puts what is told of an entry, among all.
-fn put_entry(text: &mut Text, config: &Config, rows: &[Row<'_>], row: &Row<'_>)
-    ensures { Adds text.old text.new (terms.entry_text config.now rows.now row.now) }
+fn put_entry(text: Text, config: &Config, rows: &[Row<'_>], row: &Row<'_>) -> Text
+    ensures { Adds text result (terms.entry_text config.now rows.now row.now) }
 {
-    put_entry_line(text, config, row);
-    put_pattern_odds(text, STORAGE, row.line, row.newsgroups);
-    put_odd(
+    let text = put_entry_line(text, config, row);
+    let text = put_pattern_odds(text, STORAGE, row.line, row.newsgroups);
+    let text = put_odd(
         text,
         takes_no_size(largest_stored(config), row.entry),
         STORAGE,
         row.line,
         b"no article has such a size",
     );
-    put_shadow_odd(text, row.line, shadow_of(rows, row));
+    put_shadow_odd(text, row.line, shadow_of(rows, row))
 }
 
 /// Puts the line of an entry.
 #[tactic(auto, unfolding(crate::specs::Entries::entry_told))]
-fn put_entry_line(text: &mut Text, config: &Config, row: &Row<'_>)
-    ensures { Adds text.old text.new
+fn put_entry_line(text: Text, config: &Config, row: &Row<'_>) -> Text
+    ensures { Adds text result
         (told_line terms.storage row.now.line (terms.entry_told config.now row.now)) }
 {
-    begin_line(text, STORAGE, row.line);
-    text.add(b"entry ");
-    text.add_number(row.number as u128);
-    text.add(b" takes articles of ");
-    put_taken(text, row);
-    text.add(b": class ");
-    text.add_number(row.entry.class as u128);
-    text.add(b", group ");
-    text.add(group_name(config, row.entry.group));
-    text.add(b"\n");
+    let text = begin_line(text, STORAGE, row.line)
+        .add(b"entry ")
+        .add_number(row.number as u128)
+        .add(b" takes articles of ");
+    put_taken(text, row)
+        .add(b": class ")
+        .add_number(row.entry.class as u128)
+        .add(b", group ")
+        .add(group_name(config, row.entry.group))
+        .add(b"\n")
 }
 
 /// Puts the articles that an entry takes: their sizes, their newsgroups, and how many of these have
 /// to match.
 #[tactic(auto, unfolding(crate::specs::Entries::taken_text))]
-fn put_taken(text: &mut Text, row: &Row<'_>)
-    ensures { Adds text.old text.new (terms.taken_text row.now) }
+fn put_taken(text: Text, row: &Row<'_>) -> Text
+    ensures { Adds text result (terms.taken_text row.now) }
 {
-    put_sizes(text, row.entry.smallest, row.entry.largest);
-    put_newsgroups(text, row);
+    let text = put_sizes(text, row.entry.smallest, row.entry.largest);
+    put_newsgroups(text, row)
 }
 
 /// Puts the newsgroups that an entry takes, and how many of an article's have to match.
-fn put_newsgroups(text: &mut Text, row: &Row<'_>)
-    ensures { Adds text.old text.new (terms.newsgroups_text row.now) }
+fn put_newsgroups(text: Text, row: &Row<'_>) -> Text
+    ensures { Adds text result (terms.newsgroups_text row.now) }
 {
-    text.add(b" in newsgroups ");
-    text.add(row.newsgroups);
+    let text = text.add(b" in newsgroups ").add(row.newsgroups);
     if row.entry.exactmatch {
         return text.add(b" (all of them)");
     }
-    text.add(b" (one of them)");
+    text.add(b" (one of them)")
 }
 
 /// Puts the sizes that an entry takes.
 #[tactic(auto, unfolding(crate::specs::Entries::sizes_text))]
-fn put_sizes(text: &mut Text, smallest: u64, largest: Option<u64>)
-    ensures { Adds text.old text.new (terms.sizes_text smallest largest) }
+fn put_sizes(text: Text, smallest: u64, largest: Option<u64>) -> Text
+    ensures { Adds text result (terms.sizes_text smallest largest) }
 {
-    text.add_number(smallest as u128);
+    let text = text.add_number(smallest as u128);
     match largest {
         None => text.add(b" octets and more"),
         Some(largest) => {
-            text.add(b" to ");
-            text.add_number(largest as u128);
-            text.add(b" octets");
+            text.add(b" to ")
+                .add_number(largest as u128)
+                .add(b" octets")
         }
     }
 }
@@ -144,14 +144,14 @@ fn takes_no_size(largest_stored: u64, entry: &StorageEntry) -> bool
 
 /// Puts what is odd in an entry that an earlier one, the first of these, shadows.
 #[tactic(auto, unfolding(crate::specs::Entries::shadow_odd))]
-fn put_shadow_odd(text: &mut Text, line: usize, first: Option<&Row<'_>>)
-    ensures { Adds text.old text.new (terms.shadow_odd line (option_copied first.entry)) }
+fn put_shadow_odd(text: Text, line: usize, first: Option<&Row<'_>>) -> Text
+    ensures { Adds text result (terms.shadow_odd line (option_copied first.entry)) }
 {
     match first {
-        None => {}
+        None => text,
         Some(first) => {
             let told = b"the entry takes nothing: all of it is taken by entry ";
-            put_odd_number(text, STORAGE, line, told, first.number as u128, b"");
+            put_odd_number(text, STORAGE, line, told, first.number as u128, b"")
         }
     }
 }

@@ -17,24 +17,25 @@ use relay_conf::{Feed, Peer, Relay};
 
 /// Puts what is told of all feeds.
 #[tactic(auto, unfolding(crate::specs::Peers::feeds_text))]
-pub(crate) fn put_feeds(text: &mut Text, relay: &Relay, lines: &[&[u8]])
-    ensures { Adds text.old text.new
+pub(crate) fn put_feeds(mut text: Text, relay: &Relay, lines: &[&[u8]]) -> Text
+    ensures { Adds text result
         (terms.feeds_text relay.now (map (λ line. line.now) lines.now)) }
 {
     for feed in &relay.feeds {
-        put_feed(text, relay, lines, feed);
+        text = put_feed(text, relay, lines, feed);
     }
+    text
 }
 
 /// Puts what is told of a feed.
-fn put_feed(text: &mut Text, relay: &Relay, lines: &[&[u8]], feed: &Feed)
-    ensures { Adds text.old text.new
+fn put_feed(text: Text, relay: &Relay, lines: &[&[u8]], feed: &Feed) -> Text
+    ensures { Adds text result
         (terms.feed_text relay.now (map (λ line. line.now) lines.now) feed.now) }
 {
     let peer = peer_at(relay, feed.peer);
     let line = peer_line(lines, b"feed", name_of(peer));
     let newsgroups = newsgroups_at(lines, line);
-    put_told_on(text, line, newsgroups, peer, feed);
+    put_told_on(text, line, newsgroups, peer, feed)
 }
 
 /// The peer of this number, where it is there.
@@ -54,13 +55,13 @@ fn newsgroups_at<'a>(lines: &[&'a [u8]], line: usize) -> &'a [u8]
 
 /// Puts what is told of a feed of this peer, which this line says with these newsgroups.
 #[tactic(auto, unfolding(crate::specs::Peers::feed_told_on))]
-fn put_told_on(text: &mut Text, line: usize, newsgroups: &[u8], peer: Option<&Peer>, feed: &Feed)
-    ensures { Adds text.old text.new
+fn put_told_on(text: Text, line: usize, newsgroups: &[u8], peer: Option<&Peer>, feed: &Feed) -> Text
+    ensures { Adds text result
         (terms.feed_told_on line newsgroups.now (option_copied peer.entry) feed.now) }
 {
-    put_feed_line(text, line, newsgroups, name_of(peer), feed.ring);
-    put_pattern_odds(text, RELAY, line, newsgroups);
-    put_odd(
+    let text = put_feed_line(text, line, newsgroups, name_of(peer), feed.ring);
+    let text = put_pattern_odds(text, RELAY, line, newsgroups);
+    let text = put_odd(
         text,
         port_of(peer) == 0,
         RELAY,
@@ -73,23 +74,23 @@ fn put_told_on(text: &mut Text, line: usize, newsgroups: &[u8], peer: Option<&Pe
         RELAY,
         line,
         b"of a ring of 1 only the newest token is ever there",
-    );
+    )
 }
 
 /// Puts the line of a feed of the peer of this name.
 #[tactic(auto, unfolding(crate::specs::Peers::feed_told, crate::specs::Lines::told_line))]
-fn put_feed_line(text: &mut Text, line: usize, newsgroups: &[u8], name: &[u8], ring: u32)
-    ensures { Adds text.old text.new
+fn put_feed_line(text: Text, line: usize, newsgroups: &[u8], name: &[u8], ring: u32) -> Text
+    ensures { Adds text result
         (told_line relay_conf line (terms.feed_told name.now newsgroups.now ring)) }
 {
-    begin_line(text, RELAY, line);
+    let text = begin_line(text, RELAY, line);
     let most: &[u8] = b", tokens that wait at most: ";
     put(
         text,
         &[b"feed of ", name, b": newsgroups ", newsgroups, most],
-    );
-    text.add_number(ring as u128);
-    text.add(b"\n");
+    )
+    .add_number(ring as u128)
+    .add(b"\n")
 }
 
 /// The name of a peer; one that isn't there has none.

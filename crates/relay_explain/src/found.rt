@@ -57,22 +57,22 @@ fn has_zeros_alone(front: &[u8]) -> bool
 
 /// Puts what is told of the file of a buffer, which this line names, by what lies there.
 #[tactic(auto, unfolding(crate::specs::Found::found_text))]
-pub(crate) fn put_found(text: &mut Text, line: usize, file: &[u8], found: Option<&Found>)
-    ensures { Adds text.old text.new (found_text line file.now (option_copied found.entry)) }
+pub(crate) fn put_found(text: Text, line: usize, file: &[u8], found: Option<&Found>) -> Text
+    ensures { Adds text result (found_text line file.now (option_copied found.entry)) }
 {
     match found {
-        None => {}
+        None => text,
         Some(found) => put_lying(text, line, file, *found),
     }
 }
 
 /// Puts what is told of the file of a buffer, which this line names, where this lies there.
 #[tactic(auto, unfolding(crate::specs::Found::found_text))]
-fn put_lying(text: &mut Text, line: usize, file: &[u8], found: Found)
-    ensures { Adds text.old text.new (found_text line file.now (Some found)) }
+fn put_lying(text: Text, line: usize, file: &[u8], found: Found) -> Text
+    ensures { Adds text result (found_text line file.now (Some found)) }
 {
     match found {
-        Found::Fit => {}
+        Found::Fit => text,
         Found::Absent => {
             let told = b" isn't there: a start makes it".as_slice();
             put_line(text, CYCBUFF, line, &[b"file ", file, told])
@@ -98,8 +98,8 @@ fn put_lying(text: &mut Text, line: usize, file: &[u8], found: Found)
 }
 
 /// Puts what is odd of the file of a buffer, which this line names.
-fn put_odd_file(text: &mut Text, line: usize, file: &[u8], told: &[u8])
-    ensures { Adds text.old text.new (odd_file line file.now told.now) }
+fn put_odd_file(text: Text, line: usize, file: &[u8], told: &[u8]) -> Text
+    ensures { Adds text result (odd_file line file.now told.now) }
 {
-    put_line(text, CYCBUFF, line, &[b"odd: file ", file, told]);
+    put_line(text, CYCBUFF, line, &[b"odd: file ", file, told])
 }

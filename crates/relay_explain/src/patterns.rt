@@ -27,26 +27,26 @@ pub(crate) enum Place {
 
 /// Puts what is odd in the text of an expression.
 #[tactic(auto, unfolding(crate::specs::Patterns::pattern_odds))]
-pub(crate) fn put_pattern_odds(text: &mut Text, file: &[u8], line: usize, expression: &[u8])
-    ensures { Adds text.old text.new (terms.pattern_odds file.now line expression.now) }
+pub(crate) fn put_pattern_odds(text: Text, file: &[u8], line: usize, expression: &[u8]) -> Text
+    ensures { Adds text result (terms.pattern_odds file.now line expression.now) }
 {
-    put_octet(text, file, line, odd_octet(expression));
+    let text = put_octet(text, file, line, odd_octet(expression));
     put_odd(
         text,
         !has_taking(expression),
         file,
         line,
         b"no newsgroup matches",
-    );
+    )
 }
 
 /// Puts what is told of an octet that no newsgroup's name has.
 #[tactic(auto, unfolding(crate::specs::Patterns::octet_text))]
-fn put_octet(text: &mut Text, file: &[u8], line: usize, octet: Option<&u8>)
-    ensures { Adds text.old text.new (terms.octet_text file.now line (option_copied octet.entry)) }
+fn put_octet(text: Text, file: &[u8], line: usize, octet: Option<&u8>) -> Text
+    ensures { Adds text result (terms.octet_text file.now line (option_copied octet.entry)) }
 {
     let Some(octet) = octet else {
-        return;
+        return text;
     };
     let after = b", which no newsgroup has: it matches none by it";
     put_odd_number(
@@ -56,7 +56,7 @@ fn put_octet(text: &mut Text, file: &[u8], line: usize, octet: Option<&u8>)
         b"a pattern has the octet ",
         *octet as u128,
         after,
-    );
+    )
 }
 
 /// The first octet of an expression that neither a name nor a pattern has.

@@ -15,66 +15,66 @@ use relay_conf::{Peer, Relay};
 
 /// Puts what is told of all peers.
 #[tactic(auto, unfolding(crate::specs::Peers::peers_text))]
-pub(crate) fn put_peers(text: &mut Text, relay: &Relay, lines: &[&[u8]])
-    ensures { Adds text.old text.new
+pub(crate) fn put_peers(mut text: Text, relay: &Relay, lines: &[&[u8]]) -> Text
+    ensures { Adds text result
         (terms.peers_text relay.now (map (λ line. line.now) lines.now)) }
 {
     for (number, peer) in relay.peers.iter().enumerate() {
-        put_peer(text, relay, lines, number, peer);
+        text = put_peer(text, relay, lines, number, peer);
     }
+    text
 }
 
 /// Puts what is told of the peer of this number.
-fn put_peer(text: &mut Text, relay: &Relay, lines: &[&[u8]], number: usize, peer: &Peer)
-    ensures { Adds text.old text.new
+fn put_peer(text: Text, relay: &Relay, lines: &[&[u8]], number: usize, peer: &Peer) -> Text
+    ensures { Adds text result
         (terms.peer_text relay.now (map (λ line. line.now) lines.now) (number, peer.now)) }
 {
     let line = peer_line(lines, b"peer", peer.name.as_slice());
-    put_peer_line(text, line, peer);
-    put_odds(text, relay, line, number, peer);
+    let text = put_peer_line(text, line, peer);
+    put_odds(text, relay, line, number, peer)
 }
 
 /// Puts the line of a peer.
 #[tactic(auto, unfolding(crate::specs::Peers::peer_told, crate::specs::Lines::told_line))]
-fn put_peer_line(text: &mut Text, line: usize, peer: &Peer)
-    ensures { Adds text.old text.new (told_line relay_conf line (terms.peer_told peer.now)) }
+fn put_peer_line(text: Text, line: usize, peer: &Peer) -> Text
+    ensures { Adds text result (told_line relay_conf line (terms.peer_told peer.now)) }
 {
     let name = peer.name.as_slice();
     let identity = peer.identity.as_slice();
-    begin_line(text, RELAY, line);
-    put(text, &[b"peer ", name, b", identity ", identity, b", "]);
-    put_port(text, peer);
-    text.add(b"\n");
+    let text = begin_line(text, RELAY, line);
+    let text = put(text, &[b"peer ", name, b", identity ", identity, b", "]);
+    put_port(text, peer).add(b"\n")
 }
 
 /// Puts where a peer is served, and how many of its connections at once.
 #[tactic(auto, unfolding(crate::specs::Peers::port_text))]
-fn put_port(text: &mut Text, peer: &Peer)
-    ensures { Adds text.old text.new (terms.port_text peer.now) }
+fn put_port(text: Text, peer: &Peer) -> Text
+    ensures { Adds text result (terms.port_text peer.now) }
 {
     if peer.port == 0 {
         return text.add(b"no port: it isn't served");
     }
-    text.add(b"port ");
-    text.add_number(peer.port as u128);
-    text.add(b", connections at once: ");
-    text.add_number(peer.connections as u128);
+    text.add(b"port ")
+        .add_number(peer.port as u128)
+        .add(b", connections at once: ")
+        .add_number(peer.connections as u128)
 }
 
 /// Puts what is odd in a peer of this number.
 #[tactic(auto, unfolding(crate::specs::Peers::peer_odds))]
-fn put_odds(text: &mut Text, relay: &Relay, line: usize, number: usize, peer: &Peer)
-    ensures { Adds text.old text.new (terms.peer_odds relay.now line number peer.now) }
+fn put_odds(text: Text, relay: &Relay, line: usize, number: usize, peer: &Peer) -> Text
+    ensures { Adds text result (terms.peer_odds relay.now line number peer.now) }
 {
     let identity = peer.identity.as_slice();
-    put_shared(
+    let text = put_shared(
         text,
         RELAY,
         line,
         b"the port is taken: no start serves it beside that of peer ",
         first_on(&relay.peers, number, peer.port),
     );
-    put_shared(
+    let text = put_shared(
         text,
         RELAY,
         line,
@@ -87,7 +87,7 @@ fn put_odds(text: &mut Text, relay: &Relay, line: usize, number: usize, peer: &P
         RELAY,
         line,
         b"the identity is the relay's own",
-    );
+    )
 }
 
 /// The name of the first of so many peers that is served on this port.

@@ -24,40 +24,40 @@ const SOON_FORGOTTEN: &[u8] = b"an article of a message-id that is forgotten may
 
 /// Puts what is told of the relay itself.
 #[tactic(auto, unfolding(crate::specs::Settings::settings_text))]
-pub(crate) fn put_settings(alloc: Global, text: &mut Text, relay: &Relay, lines: &[&[u8]])
-    ensures { Adds text.old text.new
+pub(crate) fn put_settings(alloc: Global, text: Text, relay: &Relay, lines: &[&[u8]]) -> Text
+    ensures { Adds text result
         (terms.settings_text relay.now (map (λ line. line.now) lines.now)) }
 {
     let own = relay.own.as_slice();
-    put_setting(text, lines, b"own", own, b"the relay's identity");
-    put_number(
+    let text = put_setting(text, lines, b"own", own, b"the relay's identity");
+    let text = put_number(
         text,
         lines,
         b"maxart",
         relay.max_article as u64,
         b"octets of the largest article that is received",
     );
-    put_number(
+    let text = put_number(
         text,
         lines,
         b"cutoff",
         relay.cutoff,
         b"seconds past which an article is too old",
     );
-    put_remember(text, lines, relay.cutoff, relay.remember);
-    put_number(
+    let text = put_remember(text, lines, relay.cutoff, relay.remember);
+    let text = put_number(
         text,
         lines,
         b"patience",
         relay.patience as u64,
         b"seconds for which a silent peer is waited for",
     );
-    put_address(alloc, text, lines, &relay.bind);
+    put_address(alloc, text, lines, &relay.bind)
 }
 
 /// Puts what is told of the address on which its ports listen.
-fn put_address(alloc: Global, text: &mut Text, lines: &[&[u8]], address: &Ipv4Addr)
-    ensures { Adds text.old text.new
+fn put_address(alloc: Global, text: Text, lines: &[&[u8]], address: &Ipv4Addr) -> Text
+    ensures { Adds text result
         (terms.setting_text (map (λ line. line.now) lines.now) (codes "bind")
         (ipv4_text (ipv4_octets address.now))
         (codes "the address on which ports listen, 0.0.0.0 for all")) }
@@ -78,22 +78,22 @@ fn address_text(alloc: Global, address: &Ipv4Addr) -> Result<String, AllocError>
 
 /// Puts what is told of how long ids are remembered.
 #[tactic(auto, unfolding(crate::specs::Settings::remember_text))]
-fn put_remember(text: &mut Text, lines: &[&[u8]], cutoff: u64, remember: Option<u64>)
-    ensures { Adds text.old text.new
+fn put_remember(text: Text, lines: &[&[u8]], cutoff: u64, remember: Option<u64>) -> Text
+    ensures { Adds text result
         (terms.remember_text (map (λ line. line.now) lines.now) cutoff remember) }
 {
     match remember {
         None => text.add(b"relay.conf: remember (no line says it): no message-id is forgotten\n"),
         Some(seconds) => {
             let told = b"seconds for which a message-id is remembered at least".as_slice();
-            put_number(text, lines, b"remember", seconds, told);
+            let text = put_number(text, lines, b"remember", seconds, told);
             put_odd(
                 text,
                 is_soon_forgotten(cutoff, seconds),
                 RELAY,
                 key_line(lines, b"remember"),
                 SOON_FORGOTTEN,
-            );
+            )
         }
     }
 }
@@ -106,19 +106,19 @@ fn is_soon_forgotten(cutoff: u64, seconds: u64) -> bool
 }
 
 /// Puts a setting that is a number, and what it means.
-fn put_number(text: &mut Text, lines: &[&[u8]], key: &[u8], number: u64, meaning: &[u8])
-    ensures { Adds text.old text.new
+fn put_number(text: Text, lines: &[&[u8]], key: &[u8], number: u64, meaning: &[u8]) -> Text
+    ensures { Adds text result
         (terms.setting_text (map (λ line. line.now) lines.now) key.now (decimal number)
         meaning.now) }
 {
     let mut digits = Buffer::new();
-    put_setting(text, lines, key, digits.format(number).as_bytes(), meaning);
+    put_setting(text, lines, key, digits.format(number).as_bytes(), meaning)
 }
 
 /// Puts a setting, its value, and what it means.
 #[tactic(auto, unfolding(crate::specs::Settings::setting_text))]
-fn put_setting(text: &mut Text, lines: &[&[u8]], key: &[u8], value: &[u8], meaning: &[u8])
-    ensures { Adds text.old text.new
+fn put_setting(text: Text, lines: &[&[u8]], key: &[u8], value: &[u8], meaning: &[u8]) -> Text
+    ensures { Adds text result
         (terms.setting_text (map (λ line. line.now) lines.now) key.now value.now meaning.now) }
 {
     let line = key_line(lines, key);
@@ -136,5 +136,5 @@ fn put_setting(text: &mut Text, lines: &[&[u8]], key: &[u8], value: &[u8], meani
             ],
         );
     }
-    put_line(text, RELAY, line, &[key, b" ", value, b": ", meaning]);
+    put_line(text, RELAY, line, &[key, b" ", value, b": ", meaning])
 }

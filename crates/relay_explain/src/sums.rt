@@ -9,18 +9,18 @@ use relay_conf::{BufferConf, Config, Feed, Peer};
 
 /// Puts what a configuration takes of the machine.
 #[tactic(auto, unfolding(crate::specs::Sums::wants_text))]
-pub(crate) fn put_wants(text: &mut Text, config: &Config)
-    ensures { Adds text.old text.new (terms.wants_text config.now) }
+pub(crate) fn put_wants(text: Text, config: &Config) -> Text
+    ensures { Adds text result (terms.wants_text config.now) }
 {
-    text.add(b"disk: ");
-    text.add_number(disk_of(&config.buffers.buffers));
-    text.add(b" octets in the files of buffers\nmemory: ");
-    text.add_number(memory_of(config));
-    text.add(b" octets from the start, at most 700000 more for each of ");
-    text.add_number(connections_of(&config.relay.peers));
-    text.add(b" connections, and what ids and articles take\ndescriptors: ");
-    text.add_number(descriptors_of(config));
-    text.add(b"\n");
+    text.add(b"disk: ")
+        .add_number(disk_of(&config.buffers.buffers))
+        .add(b" octets in the files of buffers\nmemory: ")
+        .add_number(memory_of(config))
+        .add(b" octets from the start, at most 700000 more for each of ")
+        .add_number(connections_of(&config.relay.peers))
+        .add(b" connections, and what ids and articles take\ndescriptors: ")
+        .add_number(descriptors_of(config))
+        .add(b"\n")
 }
 
 /// The octets that all files of buffers have.

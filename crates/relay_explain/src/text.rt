@@ -9,8 +9,8 @@ use std::alloc::{AllocError, Global};
 use std::marker::Model;
 
 /// A text that is put together. That memory ran out is noted, and told at the end: so what puts
-/// something has no result, and nothing has to be looked at in between. A contract sees what is
-/// there, or that memory ran out.
+/// something gives the text again and no error, and nothing has to be looked at in between. A
+/// contract sees what is there, or that memory ran out.
 #[derive(Drop)]
 pub(crate) struct Text {
     octets: Vec<u8>,
@@ -38,27 +38,29 @@ impl Text {
     }
 
     /// Puts octets behind what is there.
-    pub(crate) fn add(&mut self, octets: &[u8])
-        ensures { Adds self.old self.new octets.now }
+    pub(crate) fn add(mut self, octets: &[u8]) -> Text
+        ensures { Adds self result octets.now }
     {
         if self.done.is_ok() {
             self.done = self.octets.extend_from_slice(octets);
         }
+        self
     }
 
     /// Puts a number behind what is there.
-    pub(crate) fn add_number(&mut self, number: u128)
-        ensures { Adds self.old self.new (decimal number) }
+    pub(crate) fn add_number(self, number: u128) -> Text
+        ensures { Adds self result (decimal number) }
     {
         let mut digits = Buffer::new();
-        self.add(digits.format(number).as_bytes());
+        self.add(digits.format(number).as_bytes())
     }
 
     /// Notes that memory ran out before something could be put.
-    pub(crate) fn fail(&mut self, error: AllocError)
-        ensures { (more : List ℕ) → Adds self.old self.new more }
+    pub(crate) fn fail(mut self, error: AllocError) -> Text
+        ensures { (more : List ℕ) → Adds self result more }
     {
         self.done = Err(error);
+        self
     }
 
     /// What is there, where memory didn't run out.
@@ -71,81 +73,78 @@ impl Text {
 }
 
 /// Puts these texts behind what is there, in their order.
-pub(crate) fn put(text: &mut Text, parts: &[&[u8]])
-    ensures { Adds text.old text.new (joined (map (λ part. part.now) parts.now)) }
+pub(crate) fn put(mut text: Text, parts: &[&[u8]]) -> Text
+    ensures { Adds text result (joined (map (λ part. part.now) parts.now)) }
 {
     for part in parts {
-        text.add(part);
+        text = text.add(part);
     }
+    text
 }
 
 /// Puts what a line is begun with that tells of a line of a file.
-pub(crate) fn begin_line(text: &mut Text, file: &[u8], line: usize)
-    ensures { Adds text.old text.new (line_head file.now line) }
+pub(crate) fn begin_line(text: Text, file: &[u8], line: usize) -> Text
+    ensures { Adds text result (line_head file.now line) }
 {
-    text.add(file);
-    text.add(b":");
-    text.add_number(line as u128);
-    text.add(b": ");
+    text.add(file).add(b":").add_number(line as u128).add(b": ")
 }
 
 /// Puts what is told of what a line of a file says.
 #[tactic(auto, unfolding(crate::specs::Lines::told_line))]
-pub(crate) fn put_line(text: &mut Text, file: &[u8], line: usize, told: &[&[u8]])
-    ensures { Adds text.old text.new
+pub(crate) fn put_line(text: Text, file: &[u8], line: usize, told: &[&[u8]]) -> Text
+    ensures { Adds text result
         (told_line file.now line (joined (map (λ part. part.now) told.now))) }
 {
-    begin_line(text, file, line);
-    put(text, told);
-    text.add(b"\n");
+    let text = begin_line(text, file, line);
+    put(text, told).add(b"\n")
 }
 
 /// Puts what is odd in what a line of a file says, where that is so.
 #[tactic(auto, unfolding(crate::specs::Lines::odd_line))]
-pub(crate) fn put_odd(text: &mut Text, is_odd: bool, file: &[u8], line: usize, told: &[u8])
-    ensures { Adds text.old text.new (odd_line is_odd file.now line told.now) }
+pub(crate) fn put_odd(text: Text, is_odd: bool, file: &[u8], line: usize, told: &[u8]) -> Text
+    ensures { Adds text result (odd_line is_odd file.now line told.now) }
 {
     if !is_odd {
-        return;
+        return text;
     }
-    put_line(text, file, line, &[b"odd: ", told]);
+    put_line(text, file, line, &[b"odd: ", told])
 }
 
 /// Puts what is odd in what a line of a file says, with a number in it.
 #[tactic(auto, unfolding(crate::specs::Lines::odd_line, crate::specs::Lines::told_line))]
 pub(crate) fn put_odd_number(
-    text: &mut Text,
+    text: Text,
     file: &[u8],
     line: usize,
     before: &[u8],
     number: u128,
     after: &[u8],
-)
-    ensures { Adds text.old text.new
+) -> Text
+    ensures { Adds text result
         (odd_line true file.now line (before.now ++ decimal number ++ after.now)) }
 {
-    begin_line(text, file, line);
-    text.add(b"odd: ");
-    text.add(before);
-    text.add_number(number);
-    text.add(after);
-    text.add(b"\n");
+    begin_line(text, file, line)
+        .add(b"odd: ")
+        .add(before)
+        .add_number(number)
+        .add(after)
+        .add(b"\n")
 }
 
 /// Puts what is odd where an earlier one, of this name, has the same.
 #[tactic(auto, unfolding(crate::specs::Lines::shared_line))]
 pub(crate) fn put_shared(
-    text: &mut Text,
+    text: Text,
     file: &[u8],
     line: usize,
     shared: &[u8],
     name: Option<&[u8]>,
-)
-    ensures { Adds text.old text.new
+) -> Text
+    ensures { Adds text result
         (shared_line file.now line shared.now (option_copied name.entry)) }
 {
     match name {
-        None => {}
+        None => text,
         Some(name) => put_line(text, file, line, &[b"odd: ", shared, name]),
     }
 }

@@ -37,32 +37,30 @@ pub fn explain(
     ensures { IfOk result (λ text. text.items
         ≡ terms.explained config.now sources.now found.now) }
 {
-    let mut text = Text::new(alloc);
-    put_cycbuff(alloc, &mut text, config, &sources.cycbuff, found);
-    put_storage(alloc, &mut text, config, &sources.storage);
-    put_relay(alloc, &mut text, config, &sources.relay);
-    put_wants(&mut text, config);
-    text.whole()
+    let text = put_cycbuff(alloc, Text::new(alloc), config, &sources.cycbuff, found);
+    let text = put_storage(alloc, text, config, &sources.storage);
+    let text = put_relay(alloc, text, config, &sources.relay);
+    put_wants(text, config).whole()
 }
 
 /// Puts what is told of cycbuff.conf, of which this is the text.
-fn put_cycbuff(alloc: Global, text: &mut Text, config: &Config, source: &[u8], found: &[Found])
-    ensures { Adds text.old text.new
+fn put_cycbuff(alloc: Global, text: Text, config: &Config, source: &[u8], found: &[Found]) -> Text
+    ensures { Adds text result
         (terms.cycbuff_text config.now (lines_of source.now) found.now) }
 {
     match lines_of(alloc, source) {
         Ok(all) => {
             let lines = all.as_slice();
-            put_buffers(text, config, lines, found);
-            put_groups(text, config, lines);
+            let text = put_buffers(text, config, lines, found);
+            put_groups(text, config, lines)
         }
         Err(error) => text.fail(error),
     }
 }
 
 /// Puts what is told of storage.conf, of which this is the text.
-fn put_storage(alloc: Global, text: &mut Text, config: &Config, source: &[u8])
-    ensures { Adds text.old text.new (entries_text config.now (lines_of source.now)) }
+fn put_storage(alloc: Global, text: Text, config: &Config, source: &[u8]) -> Text
+    ensures { Adds text result (entries_text config.now (lines_of source.now)) }
 {
     match lines_of(alloc, source) {
         Ok(all) => put_entries(alloc, text, config, all.as_slice()),
@@ -71,15 +69,15 @@ fn put_storage(alloc: Global, text: &mut Text, config: &Config, source: &[u8])
 }
 
 /// Puts what is told of relay.conf, of which this is the text.
-fn put_relay(alloc: Global, text: &mut Text, config: &Config, source: &[u8])
-    ensures { Adds text.old text.new (terms.relay_text config.now (lines_of source.now)) }
+fn put_relay(alloc: Global, text: Text, config: &Config, source: &[u8]) -> Text
+    ensures { Adds text result (terms.relay_text config.now (lines_of source.now)) }
 {
     match lines_of(alloc, source) {
         Ok(all) => {
             let lines = all.as_slice();
-            put_settings(alloc, text, &config.relay, lines);
-            put_peers(text, &config.relay, lines);
-            put_feeds(text, &config.relay, lines);
+            let text = put_settings(alloc, text, &config.relay, lines);
+            let text = put_peers(text, &config.relay, lines);
+            put_feeds(text, &config.relay, lines)
         }
         Err(error) => text.fail(error),
     }

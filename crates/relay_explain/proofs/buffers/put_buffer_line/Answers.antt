@@ -7,4 +7,4 @@ pub returns : goal.returns
 unfolding buffer_told told_line
 returns c =
     rw (← c.as_slice-name.ensures, ← c.as_slice-file.ensures)
-    (two (two c.begin_line.ensures (two c.put.ensures c.put_sizes.ensures)) c.add.ensures)
+    (two (two c.begin_line-text.ensures (two c.put-text.ensures c.put_sizes.ensures)) c.add.ensures)

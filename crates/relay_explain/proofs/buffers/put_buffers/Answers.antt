@@ -21,7 +21,7 @@ loop-number-preserved c =
     told_more
     (buffer_text c.args.config.now (map (λ line. line.now) c.args.lines.now) c.args.found.now)
     c.args.config.now.buffers.buffers.items c.loop-number.number c.buffer-item.result there
-    c.loop-number.invariant (rw (← one) c.put_buffer.ensures)
+    c.loop-number.invariant (rw (← one) c.put_buffer-text.ensures)
 
 pub returns : goal.returns
 unfolding buffers_text

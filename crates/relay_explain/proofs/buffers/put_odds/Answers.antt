@@ -15,4 +15,4 @@ returns c =
     let grouped = c.is_in_group.ensures
     ∙ ap (λ groups. is_in_group c.args.number groups) c.deref-2.ensures.value in
     rw (← grouped, ← first, ← c.largest_stored.ensures)
-    (two (two c.put_odd.ensures c.put_shared.ensures) c.put_room_odd.ensures)
+    (two (two c.put_odd-text.ensures c.put_shared-text.ensures) c.put_room_odd.ensures)

@@ -4,4 +4,4 @@ use Rattle.relay_explain.proofs.choice.explain_choice.Goals as goal
 pub returns : goal.returns
 returns c =
     let taken = rw c.in_ok-taken.ensures at c.put_taken.ensures in
-    all c.whole.result _ _ _ c.new-text.ensures (two c.put_article.ensures taken) c.whole.ensures
+    all c.whole.result _ _ _ c.new.ensures (two c.put_article-text.ensures taken) c.whole.ensures

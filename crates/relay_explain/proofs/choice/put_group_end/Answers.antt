@@ -10,4 +10,4 @@ pub returns-in-Some : goal.returns-in-Some
 unfolding group_end
 returns-in-Some c =
     rw c.in-Some.is
-    (two (two c.add-in-Some.ensures c.put_group_told.ensures) c.add-in-Some-2.ensures)
+    (two (two c.add-text.ensures c.put_group_told.ensures) c.add-in-Some.ensures)

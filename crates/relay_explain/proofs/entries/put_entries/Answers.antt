@@ -10,7 +10,7 @@ returns-in-Ok c =
     let rows = c.in-Ok.ensures
     ∙ ap (λ all. map (said_entry (map (λ line. line.now) c.args.lines.now)) (enumerate_from 0 all))
     c.deref.ensures.value in
-    two (rw (c.deref-in-Ok.ensures.value, rows) at c.put_rows.ensures)
+    two (rw (c.deref-in-Ok.ensures.value, rows) at c.put_rows-text.ensures)
     (rw (c.deref-in-Ok-2.ensures.value, rows) at c.put_no_entries.ensures)
 
 pub returns-in-Err : goal.returns-in-Err

@@ -9,5 +9,5 @@ returns c =
     let taken = rw (← c.row.view_is) at c.put_taken.ensures in
     rw (← c.row.view_is, ← c.group_name.ensures)
     (two (two c.begin_line.ensures (two (two (two (two (two (two (two c.add.ensures
-    c.add_number.ensures) c.add-2.ensures) taken) c.add-3.ensures) c.add_number-2.ensures)
-    c.add-4.ensures) c.add-5.ensures)) c.add-6.ensures)
+    c.add_number.ensures) c.add-text.ensures) taken) c.add-2.ensures) c.add_number-2.ensures)
+    c.add-3.ensures) c.add-4.ensures)) c.add-5.ensures)

@@ -13,7 +13,7 @@ loop-row-preserved c =
     omega (arith, c.loop-row-test.true) in
     told_next (entry_text c.args.config.now c.args.rows.now) c.args.rows.now c.loop-row.row-index
     c.row-item.result there c.loop-row.invariant
-    (rw (← c.row-item.is) c.put_entry.ensures)
+    (rw (← c.row-item.is) c.put_entry-text.ensures)
 
 pub returns : goal.returns
 returns c =

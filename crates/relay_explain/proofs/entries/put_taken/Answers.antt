@@ -6,4 +6,4 @@ pub returns : goal.returns
 unfolding taken_text
 returns c =
     let newsgroups = rw (← c.row.view_is) at c.put_newsgroups.ensures in
-    rw (← c.row.view_is) (two c.put_sizes.ensures newsgroups)
+    rw (← c.row.view_is) (two c.put_sizes-text.ensures newsgroups)

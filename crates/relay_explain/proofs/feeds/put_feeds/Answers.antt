@@ -17,7 +17,7 @@ loop-feed-preserved c =
     told_next (feed_text c.args.relay.now (map (λ line. line.now) c.args.lines.now))
     c.args.relay.now.feeds.items
     c.loop-feed.feed-index c.feed-item.result there c.loop-feed.invariant
-    (rw (← one) c.put_feed.ensures)
+    (rw (← one) c.put_feed-text.ensures)
 
 pub returns : goal.returns
 unfolding feeds_text

@@ -6,5 +6,5 @@ pub returns : goal.returns
 unfolding feed_told_on
 returns c =
     rw (← c.name_of.ensures, ← c.port_of.ensures)
-    (two (two (two c.put_feed_line.ensures c.put_pattern_odds.ensures) c.put_odd.ensures)
-    c.put_odd-2.ensures)
+    (two (two (two c.put_feed_line-text.ensures c.put_pattern_odds-text.ensures)
+    c.put_odd-text.ensures) c.put_odd.ensures)

@@ -16,6 +16,6 @@ returns c =
     let line = c.named_line-line.ensures
     ∙ ap (λ (name : List ℕ). named_line (codes "metacycbuff") name lines) c.as_slice.ensures in
     subst
-    (λ (line : ℕ). Adds c.args.text.now c.add.new.self
+    (λ (line : ℕ). Adds c.args.text c.add.result
     (told_line cycbuff line (group_told c.args.config.now.buffers.buffers.items group)))
-    line (two (two c.begin_line.ensures told) c.add.ensures)
+    line (two (two c.begin_line-text.ensures told) c.add.ensures)

@@ -6,4 +6,4 @@ pub returns : goal.returns
 unfolding group_told
 returns c =
     let members = rw c.deref.ensures.value at c.put_members.ensures in
-    two c.put_mode.ensures members
+    two c.put_mode-text.ensures members

@@ -17,7 +17,7 @@ loop-group-preserved c =
     told_next (group_text c.args.config.now (map (λ line. line.now) c.args.lines.now))
     c.args.config.now.buffers.groups.items
     c.loop-group.group-index c.group-item.result there c.loop-group.invariant
-    (rw (← one) c.put_group.ensures)
+    (rw (← one) c.put_group-text.ensures)
 
 pub returns : goal.returns
 unfolding groups_text

@@ -13,7 +13,7 @@ loop-number-preserved c =
     omega (arith, c.loop-number-test.true) in
     told_next (member_text c.args.buffers.now) c.args.numbers.now c.loop-number.number-index
     0 there c.loop-number.invariant
-    (rw (← c.buffer_name.ensures) (two c.add.ensures c.add-in-loop-number.ensures))
+    (rw (← c.buffer_name.ensures) (two c.add.ensures c.add-text.ensures))
 
 pub returns : goal.returns
 returns c =

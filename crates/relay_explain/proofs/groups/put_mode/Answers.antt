@@ -6,10 +6,10 @@ pub returns-in-Interleave : goal.returns-in-Interleave
 unfolding mode_text
 returns-in-Interleave c =
     rw (c.in-Interleave.is, ← c.as_slice.ensures)
-    (two (two c.add.ensures c.add-2.ensures) c.add-in-Interleave.ensures)
+    (two (two c.add.ensures c.add-text.ensures) c.add-in-Interleave.ensures)
 
 pub returns-in-Sequential : goal.returns-in-Sequential
 unfolding mode_text
 returns-in-Sequential c =
     rw (c.in-Sequential.is, ← c.as_slice.ensures)
-    (two (two c.add.ensures c.add-2.ensures) c.add-in-Sequential.ensures)
+    (two (two c.add.ensures c.add-text.ensures) c.add-in-Sequential.ensures)

@@ -6,4 +6,4 @@ pub returns : goal.returns
 unfolding pattern_odds
 returns c =
     rw (← c.odd_octet.ensures, ← c.has_taking.ensures)
-    (two c.put_octet.ensures c.put_odd.ensures)
+    (two c.put_octet-text.ensures c.put_odd.ensures)

@@ -17,4 +17,4 @@ returns c =
     c.as_slice-identity.ensures in
     let own = rw (c.as_slice-identity.ensures, c.as_slice.ensures) at c.is.ensures in
     rw (← served, ← known, ← own)
-    (two (two c.put_shared.ensures c.put_shared-2.ensures) c.put_odd.ensures)
+    (two (two c.put_shared-text.ensures c.put_shared-text-2.ensures) c.put_odd.ensures)

@@ -7,4 +7,4 @@ pub returns : goal.returns
 unfolding peer_told port_text told_line
 returns c =
     rw (← c.as_slice-name.ensures, ← c.as_slice-identity.ensures)
-    (two (two c.begin_line.ensures (two c.put.ensures c.put_port.ensures)) c.add.ensures)
+    (two (two c.begin_line-text.ensures (two c.put-text.ensures c.put_port.ensures)) c.add.ensures)

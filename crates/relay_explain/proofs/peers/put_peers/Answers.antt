@@ -20,7 +20,7 @@ loop-number-preserved c =
     told_more
     (peer_text c.args.relay.now (map (λ line. line.now) c.args.lines.now))
     c.args.relay.now.peers.items c.loop-number.number c.peer-item.result there
-    c.loop-number.invariant (rw (← one) c.put_peer.ensures)
+    c.loop-number.invariant (rw (← one) c.put_peer-text.ensures)
 
 pub returns : goal.returns
 unfolding peers_text

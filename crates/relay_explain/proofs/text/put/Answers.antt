@@ -11,4 +11,4 @@ loop-part-preserved c =
     let there : c.loop-part.part-index < length c.args.parts.now =
     omega (arith, c.loop-part-test.true) in
     put_more c.args.parts.now c.loop-part.part-index (record { ref_ptr = (0, 0); now = [] }) there
-    c.loop-part.invariant c.add.ensures
+    c.loop-part.invariant c.add-text.ensures

@@ -4,4 +4,4 @@ use Rattle.relay_explain.proofs.text.put_line.Goals as goal
 
 pub returns : goal.returns
 unfolding told_line
-returns c = two (two c.begin_line.ensures c.put.ensures) c.add.ensures
+returns c = two (two c.begin_line-text.ensures c.put.ensures) c.add.ensures

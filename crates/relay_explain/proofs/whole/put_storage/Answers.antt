@@ -7,7 +7,7 @@ pub returns-in-Ok : goal.returns-in-Ok
 returns-in-Ok c =
     let all : List (Bor (List ℕ)) → List (List ℕ) = map (λ line. line.now) in
     subst
-    (λ (lines : List (List ℕ)). Adds c.args.text.now c.put_entries.new.text
+    (λ (lines : List (List ℕ)). Adds c.args.text c.put_entries.result
     (entries_text c.args.config.now lines))
     (ap all c.as_slice.ensures.value ∙ c.in-Ok.ensures) c.put_entries.ensures
 
