@@ -8,7 +8,7 @@ use Rattle.std.proofs.lemmas.List.Elements.{All-push}
 use Rattle.std.proofs.lemmas.Option.{none-some}
 use Rattle.std.specs.Global.{Vec}
 use Rattle.std.specs.declared.alloc.AllocError.{AllocError}
-use Rattle.std.specs.Prelude.{option_map, slice_index, IfSome, IfOk, IfErr, Result, Ok, Err}
+use Rattle.std.specs.Prelude.{option_map, slice_index, IfSome, IfOk, Result, Ok, Err}
 use Rattle.article_verdict.specs.Config.{terms_of}
 use Rattle.block_shelf.specs.Keeping.{KeepsTexts}
 use Rattle.block_shelf.specs.Openings.{Opening}
@@ -37,13 +37,10 @@ use Rattle.relay_model.specs.World.{World}
 use Rattle.relay_core.specs.Agreement.{Agrees, IsGone, ring_sizes}
 use Rattle.relay_core.specs.Idle.{TellsIdle}
 use Rattle.relay_core.specs.Openings.{opening_of, openings}
-use Rattle.relay_core.specs.Stopping.{AreKeptFeeds, ComesBack, IsFromBufferSet, Shuts}
+use Rattle.relay_core.specs.Stopping.{AreKeptFeeds, Shuts}
 use Rattle.relay_core.specs.Stopping.{TellsHistory, next_stop}
 use Rattle.relay_core.specs.Stopping.{stop_of}
 use Rattle.block_shelf.specs.Stopping.{HoldsKept, IsBusyBufferSet, TellsPositions}
-use Rattle.relay_core.specs.declared.stopped.Stopped.{Stopped}
-use Rattle.relay_core.specs.declared.stopped.Unstopped.{Unstopped}
-use Rattle.relay_core.specs.declared.stopped.Unstopped.TheVariants as unstoppeds
 use Rattle.relay_core.specs.declared.system.System.{System}
 
 -- no id is being stored
@@ -249,22 +246,3 @@ module _ {S : Type 0} {g : Ghosts S} (old : System S g) where
       ids
   tells_written stop (Err error) kept count feeds fits written stops newest positions same all left
       ids = tt
-
-  -- what closing answers, by the buffer set
-  pub shuts_all : (stop : ℕ) (text : List ℕ) (result : Result (Stopped S) (Unstopped S g))
-      → stop ≡ next_stop (stop_of old) → TellsIdle old.shards true → TellsHistory old stop text
-      → IfOk result (λ shut. HoldsKept stop old.buffer_set shut.stores.items)
-      → IfOk result (λ shut. shut.history.items ≡ text)
-      → IfOk result (λ shut. Shuts old shut.stores.items shut.history.items)
-  shuts_all stop text (Ok shut) is idle tells holds same =
-      shuts stop shut.stores.items shut.history.items is idle
-      (subst (λ t. TellsHistory old stop t) (sym same) tells) holds
-  shuts_all stop text (Err back) is idle tells holds same = tt
-
-  pub back_all : (result : Result (Stopped S) (Unstopped S g)) → TellsIdle old.shards true
-      → IfErr result (IsFromBufferSet old) → IfErr result (ComesBack old)
-  back_all (Ok shut) idle from = tt
-  back_all (Err (unstoppeds.NotIdle back)) idle from =
-      (from.0, λ trusted x agrees. absurd (not_busy idle from.1 trusted x agrees))
-  back_all (Err (unstoppeds.Memory back)) idle from = (from, at_rest idle)
-  back_all (Err (unstoppeds.Device number stores)) idle from = (at_rest idle, from)

@@ -19,7 +19,7 @@ use Rattle.relay_model.specs.State.{State, Feed}
 use Rattle.relay_model.specs.Terms.{Terms}
 use Rattle.relay_model.specs.World.{World}
 use Rattle.relay_core.specs.Agreement.{Agrees, ring_sizes}
-use Rattle.block_shelf.specs.Stopping.{ArePositions, HoldsTexts, IsBusyBufferSet, IsShutPartly}
+use Rattle.block_shelf.specs.Stopping.{ArePositions, HoldsTexts, IsShutPartly}
 use Rattle.relay_core.specs.declared.stopped.Unstopped.{Unstopped}
 use Rattle.relay_core.specs.declared.stopped.Unstopped.TheVariants as unstoppeds
 use Rattle.relay_core.specs.declared.system.System.{System}
@@ -93,13 +93,6 @@ ComesBack old (unstoppeds.NotIdle back) = (back ≡ old) × IsStoring old
 ComesBack old (unstoppeds.Memory back) = (back ≡ old) × IsAtRest old
 ComesBack old (unstoppeds.Device number stores) =
     IsAtRest old × IsShutPartly old.buffer_set number stores.items
-
--- the same by the buffer set alone
-abbrev pub IsFromBufferSet : {S : Type 0} {g : Ghosts S} → System S g → Unstopped S g → Type 0
-IsFromBufferSet old (unstoppeds.NotIdle back) = (back ≡ old) × IsBusyBufferSet old.buffer_set
-IsFromBufferSet old (unstoppeds.Memory back) = back ≡ old
-IsFromBufferSet old (unstoppeds.Device number stores) =
-    IsShutPartly old.buffer_set number stores.items
 
 -- this is left of the feeds that a desk of so many feeds keeps
 abbrev pub AreKeptFeeds : FeedDesk → (count : ℕ) → List KeptFeed → Type 0

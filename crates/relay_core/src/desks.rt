@@ -41,7 +41,14 @@ impl Desks {
             (map ring_size config.now.relay.feeds.items) }
         ensures { IfOk result (AreOf config.now (history_view history) count) }
     {
-        let History { feeds, ids, .. } = history;
+        let History {
+            positions,
+            feeds,
+            ids,
+            ..
+        } = history;
+        // The buffers have them by now.
+        drop(positions);
         let desk = FeedDesk::resume(alloc, &config.relay.feeds, &feeds)?;
         drop(feeds);
         let shards = Shards::resume(alloc, hasher, ids)?;

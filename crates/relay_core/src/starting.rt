@@ -24,7 +24,7 @@ use std::random::RandomSource;
 
 impl<S: BlockStore + Drop> System<S> {
     ghost use Rattle.std.specs.Prelude.{◌≡◌, IfErr, IfOk, length, map};
-    ghost use Rattle.relay_core.specs.Starting.{IsNotStarted, IsRefusedRightly, StartsOver};
+    ghost use Rattle.relay_core.specs.Starting.{IsNotStarted, StartsOver};
 
     /// The relay over the stores of one that was closed, the i-th for buffer i, from the text of
     /// its history. It is refused in the order of StopFault; want of memory may come in place of
@@ -49,31 +49,11 @@ impl<S: BlockStore + Drop> System<S> {
                 return Err(NotStarted::Host(why, stores));
             }
         };
-        match System::start_with(alloc, hasher, config, stores, text) {
-            Ok(system) => Ok(system),
-            Err(unstarted) => Err(NotStarted::Refused(unstarted)),
-        }
-    }
-
-    /// The same with a seed.
-    fn start_with(
-        alloc: Global,
-        hasher: RandomState,
-        config: Config,
-        stores: Vec<S>,
-        text: &[u8],
-    ) -> Result<System<S>, Unstarted<S>>
-        requires { map (λ store. length (S.blocks store)) stores.items
-            ≡ map (λ buffer. buffer.blocks) config.buffers.buffers.items }
-        ensures started { IfOk result (StartsOver config stores.items text.now) }
-        ensures refused { IfErr result
-            (IsRefusedRightly S.BlockStore config stores.items text.now) }
-    {
         let readied = match ready(alloc, hasher, &config, stores, text) {
             Ok(readied) => readied,
             Err(unstarted) => {
                 drop(config);
-                return Err(unstarted);
+                return Err(NotStarted::Refused(unstarted));
             }
         };
         let Readied {
@@ -96,7 +76,7 @@ impl<S: BlockStore + Drop> System<S> {
             Ok(buffer_set) => Ok(unbuffered.with(buffer_set)),
             Err(unstarted) => {
                 drop(unbuffered);
-                Err(unstarted)
+                Err(NotStarted::Refused(unstarted))
             }
         }
     }

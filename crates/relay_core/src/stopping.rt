@@ -16,8 +16,7 @@ const GROUP_LIMIT: usize = 256;
 
 impl<S: BlockStore> System<S> {
     ghost use Rattle.std.specs.Prelude.{◌≡◌, IfErr, IfOk};
-    ghost use Rattle.relay_core.specs.Stopping.{ComesBack, IsFromBufferSet, Shuts, TellsHistory};
-    ghost use Rattle.block_shelf.specs.Stopping.{HoldsKept};
+    ghost use Rattle.relay_core.specs.Stopping.{ComesBack, Shuts, TellsHistory};
 
     /// Closes the relay: gives the stores of its buffers, and the text of its history. Where a
     /// message-id is being stored it isn't.
@@ -37,17 +36,6 @@ impl<S: BlockStore> System<S> {
             Ok(history) => history,
             Err(_) => return Err(Unstopped::Memory(self)),
         };
-        self.shut_with(stop, history)
-    }
-
-    /// Closes the buffers of an idle relay, whose history has this text.
-    fn shut_with(self, stop: u64, history: Vec<u8>) -> Result<Stopped<S>, Unstopped<S>>
-    where
-        S: Drop,
-        ensures shut { IfOk result (λ shut. HoldsKept stop self.buffer_set shut.stores.items) }
-        ensures history { IfOk result (λ shut. shut.history.items ≡ history.items) }
-        ensures back { IfErr result (IsFromBufferSet self) }
-    {
         let alloc = self.alloc;
         let (buffer_set, unbuffered) = self.take_apart();
         match buffer_set.shut(alloc, stop) {
