@@ -159,3 +159,18 @@ module _ {S : Type 0} {g : Ghosts S} where
         IsClosed session moment more x [] [] x _ (closed config x under)
             (Rests more x),
       ))
+
+  -- An event that opens a session was done, and what it is answered was written.
+  pub goes_open : (session peer : ℕ) (opened refused : Todo) (old new : System S g)
+      (output : code.Output) (b : Bool) (before after : Option (List ℕ))
+      → is_refused (output_view output) ≡ b → Steps (run.Open session peer) old output new
+      → KeepsFrame old new → Appends before after (told_text (Answered (output_view output)))
+      → Goes (Opening session peer opened refused) (if b then refused else opened) old new before
+      after
+  goes_open session peer opened refused old new output b before after said steps frame gained =
+      goes_told (Opening session peer opened refused) (if b then refused else opened) old
+      (Answered (output_view output)) new before after
+      (tells_event (run.Open session peer) (Opening session peer opened refused)
+      (if b then refused else opened) old output (Answered (output_view output)) new
+      (does_open session peer opened refused (output_view output) b said) steps frame)
+      gained

@@ -1,6 +1,7 @@
 pub mod Courses
 pub mod Drills
 pub mod Events
+pub mod Lines
 pub mod Pieces
 pub mod Plays
 pub mod Prints

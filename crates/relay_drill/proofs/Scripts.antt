@@ -1,15 +1,18 @@
 -- Reading a script line by line: what was read so far stands before what is left.
 use Rattle.std.proofs.Common.{◌≡◌, ◌+◌, ◌<◌, ℕ, List, [], ◌∷◌, ◌++◌, Some, Result, Ok, Err, None}
-use Rattle.std.proofs.Common.{Option, ap, drop, false, get_or, length, map, refl, sym, ◌∙◌}
+use Rattle.std.proofs.Common.{Bool, Option, ap, drop, false, get_or, length, map, refl, sym}
+use Rattle.std.proofs.Common.{if◌then◌else◌, subst, true, ◌∙◌}
 use Rattle.std.proofs.lemmas.List.{append_assoc, map_push}
 use Rattle.std.specs.List.{position_or_len}
+use Rattle.std.specs.declared.alloc.AllocError.{AllocError}
 use Rattle.std.specs.Str.{bytes_eq}
 use Rattle.line_words.specs.Comments.{is_skipped}
 use Rattle.relay_conf.proofs.FirstFaults.{drop_one}
 use Rattle.std.specs.Option.{option_map}
-use Rattle.relay_drill.specs.Fault.{LineGives, line_view}
+use Rattle.relay_drill.specs.Fault.{LineGives, keyword_view, line_view}
 use Rattle.relay_drill.specs.declared.line.Line as code
-use Rattle.relay_drill.specs.Script.{Keyword, Line, Names, keyword_of, line_before, line_of}
+use Rattle.relay_drill.specs.declared.script.Keyword as keys
+use Rattle.relay_drill.specs.Script.{Line, Names, keyword_of, line_before, line_of}
 use Rattle.relay_drill.specs.Script.{line_with, script_from}
 use Rattle.line_words.specs.Parts.{parts}
 
@@ -18,6 +21,15 @@ abbrev pub after_lines : List Line → Result (List Line) ℕ → Result (List L
 after_lines lines (Ok more) = Ok (lines ++ more)
 after_lines lines (Err bad) = Err bad
 
+-- What stands behind a test that holds is chosen,
+pub first_test : {A : Type 0} {b : Bool} {x : A} (y : A) → b ≡ true → x ≡ (if b then x else y)
+first_test y holds = rw holds refl
+
+-- and behind one that doesn't what stands after it.
+pub next_test : {A : Type 0} {b : Bool} {y z : A} (x : A) → b ≡ false → z ≡ y
+    → z ≡ (if b then x else y)
+next_test x fails is = rw fails is
+
 -- What the words say is what the line gives.
 pub line_gives : (result : Option code.Line) (says : Option Line)
     → option_map line_view result ≡ says → LineGives (Ok result) says
@@ -25,12 +37,16 @@ line_gives None says e = sym e
 line_gives (Some line) says e = sym e
 
 -- What a keyword with the words behind it says is what the line gives that they are.
-pub keyword_gives : (names : Names) (line word : List ℕ) (after : List (List ℕ)) (keyword : Keyword)
-    (result : Option code.Line) → parts 32 line ≡ word ∷ after → keyword_of word ≡ Some keyword
-    → option_map line_view result ≡ line_with names after keyword
-    → LineGives (Ok result) (line_of names line)
-keyword_gives names line word after keyword result words is says =
-    line_gives result _ (says ∙ rw (words, is) refl)
+pub keyword_gives : (names : Names) (line word : List ℕ) (after : List (List ℕ))
+    (found : Option keys.Keyword) (keyword : keys.Keyword)
+    (result : Result (Option code.Line) AllocError) → parts 32 line ≡ word ∷ after
+    → option_map keyword_view found ≡ keyword_of word → found ≡ Some keyword
+    → LineGives result (line_with names after (keyword_view keyword))
+    → LineGives result (line_of names line)
+keyword_gives names line word after found keyword result words is known says =
+    let same : line_of names line ≡ line_with names after (keyword_view keyword) =
+    rw (words, ← is, known) refl in
+    subst (LineGives result) (sym same) says
 
 -- a line joins those that were read
 joins_front : (number : ℕ) (lines : List Line) (one : Line) (rest : Result (List Line) ℕ)

@@ -90,21 +90,21 @@ fn play_line<S: BlockStore, W: Write>(
         (next (stand_view stand.new))
         relay.old relay.new (W.contents writer.old) (W.contents writer.new) }
 {
-    match line {
-        Line::Open(session, peer) => open(relay, stand, *session, *peer, writer),
-        Line::Bring(session, octets) => {
+    match *line {
+        Line::Open(session, peer) => open(relay, stand, session, peer, writer),
+        Line::Bring(session, ref octets) => {
             let size = piece_size(stand, octets);
-            bring(alloc, relay, *session, octets, size, writer)
+            bring(alloc, relay, session, octets, size, writer)
         }
         Line::Split(size) => {
-            stand.piece = Some(*size);
+            stand.piece = Some(size);
             Ok(())
         }
-        Line::Turn(session, now) => perform(relay, turn(*session, *now), writer),
-        Line::Write(group, now) => perform(relay, write(*group, *now), writer),
-        Line::Rounds(count, now) => rounds(relay, groups, &stand.sessions, *count, *now, writer),
-        Line::Break(session) => perform(relay, break_off(*session), writer),
-        Line::Expire(shard, now) => perform(relay, expire(*shard, *now), writer),
+        Line::Turn(session, now) => perform(relay, Event::Turn { session, now }, writer),
+        Line::Write(group, now) => perform(relay, Event::Write { group, now }, writer),
+        Line::Rounds(count, now) => rounds(relay, groups, &stand.sessions, count, now, writer),
+        Line::Break(session) => perform(relay, Event::Break { session }, writer),
+        Line::Expire(shard, now) => perform(relay, Event::Expire { shard, now }, writer),
         Line::Fail(_, _) => Ok(()),
         Line::Restart => restart(relay, writer),
         Line::Report => print_report(alloc, relay, writer),
@@ -264,34 +264,6 @@ fn write_all<S: BlockStore, W: Write>(
         perform(relay, Event::Write { group, now }, writer)?;
     }
     Ok(())
-}
-
-/// The Turn of a session.
-fn turn(session: u64, now: u64) -> Event
-    ensures { event_view result ≡ run.Turn session now }
-{
-    Event::Turn { session, now }
-}
-
-/// The Write of a group's writer.
-fn write(group: usize, now: u64) -> Event
-    ensures { event_view result ≡ run.Write group now }
-{
-    Event::Write { group, now }
-}
-
-/// The end of a session's connection.
-fn break_off(session: u64) -> Event
-    ensures { event_view result ≡ run.Break session }
-{
-    Event::Break { session }
-}
-
-/// The next bit of forgetting.
-fn expire(shard: usize, now: u64) -> Event
-    ensures { event_view result ≡ run.Expire shard now }
-{
-    Event::Expire { shard, now }
 }
 
 /// The relay is closed and started again, and it is printed whether it was.

@@ -84,32 +84,42 @@ fn keyword_of(word: &[u8]) -> Option<Keyword>
     ensures { option_map keyword_view result ≡ terms.keyword_of word.now }
 {
     if is(word, b"open") {
-        Some(Keyword::Open)
-    } else if is(word, b"send") {
-        Some(Keyword::Send)
-    } else if is(word, b"raw") {
-        Some(Keyword::Raw)
-    } else if is(word, b"split") {
-        Some(Keyword::Split)
-    } else if is(word, b"turn") {
-        Some(Keyword::Turn)
-    } else if is(word, b"write") {
-        Some(Keyword::Write)
-    } else if is(word, b"rounds") {
-        Some(Keyword::Rounds)
-    } else if is(word, b"break") {
-        Some(Keyword::Break)
-    } else if is(word, b"expire") {
-        Some(Keyword::Expire)
-    } else if is(word, b"fail") {
-        Some(Keyword::Fail)
-    } else if is(word, b"restart") {
-        Some(Keyword::Restart)
-    } else if is(word, b"report") {
-        Some(Keyword::Report)
-    } else {
-        None
+        return Some(Keyword::Open);
     }
+    if is(word, b"send") {
+        return Some(Keyword::Send);
+    }
+    if is(word, b"raw") {
+        return Some(Keyword::Raw);
+    }
+    if is(word, b"split") {
+        return Some(Keyword::Split);
+    }
+    if is(word, b"turn") {
+        return Some(Keyword::Turn);
+    }
+    if is(word, b"write") {
+        return Some(Keyword::Write);
+    }
+    if is(word, b"rounds") {
+        return Some(Keyword::Rounds);
+    }
+    if is(word, b"break") {
+        return Some(Keyword::Break);
+    }
+    if is(word, b"expire") {
+        return Some(Keyword::Expire);
+    }
+    if is(word, b"fail") {
+        return Some(Keyword::Fail);
+    }
+    if is(word, b"restart") {
+        return Some(Keyword::Restart);
+    }
+    if is(word, b"report") {
+        return Some(Keyword::Report);
+    }
+    None
 }
 
 /// `open S PEER`, by what follows the keyword.
