@@ -3,8 +3,10 @@ pub mod Checks
 pub mod CommandLines
 pub mod Explains
 pub mod FilesRead
+pub mod Memories
 pub mod Numbers
 pub mod Questions
+pub mod Runs
 pub mod Scripts
 pub mod Servings
 pub mod TextsRead

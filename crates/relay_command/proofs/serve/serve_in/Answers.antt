@@ -1,3 +1,4 @@
+use Rattle.relay_command.proofs.Checks.{keeps_same}
 use Rattle.relay_command.proofs.Servings.{handed}
 use Rattle.relay_command.proofs.serve.serve_in.Goals as goal
 
@@ -18,3 +19,7 @@ returns-in-Err-served g c = (
   handed _ _ _ _ _ _ _ _ _ c.in-Err-served.ensures,
   c.requires.rightly _ _ _ _ _ _ _ c.in-Err-served.ensures,
 )
+
+-- the configuration is at fault
+pub returns-in-Err : goal.returns-in-Err
+returns-in-Err g c = (c.in-Err.ensures, keeps_same (g.W.Write.contents c.args.writer.now))

@@ -1,0 +1,19 @@
+use Rattle.std.proofs.Common.{ℕ, List, Result, map, string_bytes}
+use denote.Ref.{Bor}
+use Rattle.std.specs.Global.{Vec}
+use Rattle.std.specs.declared.io.Error.{Error}
+use Rattle.relay_command.specs.Ask.{Answered}
+use Rattle.relay_command.specs.CommandLine.{asked}
+use Rattle.relay_command.specs.declared.ask.Request.{Request}
+use Rattle.relay_command.proofs.Runs.{ran}
+use Rattle.relay_command.proofs.program.obey.Goals as goal
+
+-- what the words ask for was done
+pub returns-in-Ok : goal.returns-in-Ok
+returns-in-Ok g c =
+    let post = λ (folder : Bor (List ℕ)) (request : Request) (answer : Result (Vec ℕ) Error).
+    g.A.FnOnce.post c.args.ask (folder, (request, tt)) answer in
+    ran g.W.Write.contents _ c.requires.rightly (Answered post)
+    (map string_bytes c.args.words.now) (asked c.in-Ok.job) c.perform-done.result
+    (g.R.Read.remaining c.args.reader.now) (g.W.Write.contents c.args.writer.now)
+    (g.W.Write.contents c.perform-done.new.writer) c.in-Ok.ensures c.perform-done.ensures
