@@ -9,6 +9,7 @@ mod Lists
 mod OpenedBuffers
 mod Parts
 mod Rest
+pub mod Rooms
 mod Shuts
 mod StartedBuffers
 mod StartedRelay

@@ -2,14 +2,12 @@
 use Rattle.std.specs.Prelude.{◌≡◌, ◌≤◌, ℕ, [], length, vec_capacity}
 use Rattle.cyc_block.specs.declared.store.BlockStore as blocks
 use Rattle.live_store.specs.declared.record.StorePremises as store_premises
-use Rattle.relay_live.specs.declared.locking.LockRooms.{LockRooms}
 use Rattle.relay_live.specs.declared.locking.Locks.{Locks}
-use Rattle.relay_live.specs.declared.locking.Parts.{Parts}
+use Rattle.relay_live.specs.declared.locking.Room.{Room}
 use Rattle.relay_model.specs.Terms.{shard_count}
 
--- there is room for the locks of sixteen shards, and of so many buffers and groups
-pub record HasLockRoom {S J : Type 0} {s : blocks.Ghosts S} {j : store_premises.Ghosts J}
-    (buffers placed_groups : ℕ) (rooms : LockRooms S J s j)
+-- there is room for sixteen shards, and for so many buffers and groups
+pub record HasRoom {A B C : Type 0} (buffers placed_groups : ℕ) (rooms : Room A B C)
     : Type 0 where
   pub no_shards : rooms.shards.items ≡ []
   pub no_buffers : rooms.buffers.items ≡ []
@@ -18,20 +16,9 @@ pub record HasLockRoom {S J : Type 0} {s : blocks.Ghosts S} {j : store_premises.
   pub buffers_room : buffers ≤ vec_capacity rooms.buffers
   pub placed_groups_room : placed_groups ≤ vec_capacity rooms.placed_groups
 
--- there is room for so many buffers and groups, and a slot for each of so many ends
+-- there is room for the locks of so many buffers and groups, and a slot for each of so many ends
 pub record HasLocks {S J : Type 0} {s : blocks.Ghosts S} {j : store_premises.Ghosts J}
     (buffers placed_groups ends : ℕ) (locks : Locks S J s j)
     : Type 0 where
-  pub rooms : HasLockRoom buffers placed_groups locks.rooms
+  pub rooms : HasRoom buffers placed_groups locks.rooms
   pub ends_is : length locks.slots.items ≡ ends
-
--- there is room for sixteen shards, and for so many buffers and groups
-pub record HasPartRoom {S J : Type 0} {s : blocks.Ghosts S} {j : store_premises.Ghosts J}
-    (buffers placed_groups : ℕ) (parts : Parts S J s j)
-    : Type 0 where
-  pub no_shards : parts.shards.items ≡ []
-  pub no_buffers : parts.buffers.items ≡ []
-  pub no_placed_groups : parts.placed_groups.items ≡ []
-  pub shards_room : shard_count ≤ vec_capacity parts.shards
-  pub buffers_room : buffers ≤ vec_capacity parts.buffers
-  pub placed_groups_room : placed_groups ≤ vec_capacity parts.placed_groups

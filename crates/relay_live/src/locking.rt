@@ -1,6 +1,6 @@
 //! The parts of a relay go behind their locks, and come out again.
 ghost use Rattle.std.specs.Prelude.{◌≡◌, ◌≤◌, [], length, IfOk, vec_capacity};
-ghost use Rattle.relay_live.specs.Locking.{HasLockRoom, HasLocks, HasPartRoom};
+ghost use Rattle.relay_live.specs.Locking.{HasLocks, HasRoom};
 
 use crate::claims::Claims;
 use crate::forgetting::Rounds;
@@ -12,60 +12,40 @@ use live_store::{NumberedBuffer, StorePremises};
 use std::alloc::{AllocError, Global};
 use std::sync::Mutex;
 
-/// Room for the locks of the parts of a relay.
+/// Room for the shards, the buffers and the groups of a relay.
 #[derive(Drop)]
-pub(crate) struct LockRooms<S: BlockStore + Drop, J: StorePremises> {
-    pub(crate) shards: Vec<Claims>,
-    pub(crate) buffers: Vec<Mutex<NumberedBuffer<S, J>>>,
-    pub(crate) placed_groups: Vec<Mutex<PlacedGroup>>,
+pub(crate) struct Room<A: Drop, B: Drop, C: Drop> {
+    pub(crate) shards: Vec<A>,
+    pub(crate) buffers: Vec<B>,
+    pub(crate) placed_groups: Vec<C>,
 }
 
-/// Room for the parts themselves.
-#[derive(Drop)]
-pub(crate) struct Parts<S: BlockStore + Drop, J: StorePremises> {
-    pub(crate) shards: Vec<Shard>,
-    pub(crate) buffers: Vec<NumberedBuffer<S, J>>,
-    pub(crate) placed_groups: Vec<PlacedGroup>,
-}
+/// Room for them behind their locks.
+pub(crate) type LockRoom<S, J> = Room<Claims, Mutex<NumberedBuffer<S, J>>, Mutex<PlacedGroup>>;
+
+/// Room for them without.
+pub(crate) type PartRoom<S, J> = Room<Shard, NumberedBuffer<S, J>, PlacedGroup>;
 
 /// Room for the locks of a relay's parts, with what stands beside these: a slot for each end, and
 /// what rounds go by.
 #[derive(Drop)]
 pub(crate) struct Locks<S: BlockStore + Drop, J: StorePremises> {
-    pub(crate) rooms: LockRooms<S, J>,
+    pub(crate) rooms: LockRoom<S, J>,
     pub(crate) slots: Vec<Slot<J>>,
     pub(crate) rounds: Mutex<Rounds>,
 }
 
-impl<S: BlockStore + Drop, J: StorePremises> LockRooms<S, J> {
-    /// Room for so many buffers and groups.
+impl<A: Drop, B: Drop, C: Drop> Room<A, B, C> {
+    /// Room for all shards, and for so many buffers and groups.
     pub(crate) fn new(
         alloc: Global,
         buffers: usize,
         placed_groups: usize,
-    ) -> Result<LockRooms<S, J>, AllocError>
-        ensures { IfOk result (HasLockRoom buffers placed_groups) }
+    ) -> Result<Room<A, B, C>, AllocError>
+        ensures { IfOk result (HasRoom buffers placed_groups) }
     {
         let (shards, buffers, placed_groups) = rooms(alloc, SHARD_COUNT, buffers, placed_groups)?;
-        Ok(LockRooms {
-            shards,
-            buffers,
-            placed_groups,
-        })
-    }
-}
-
-impl<S: BlockStore + Drop, J: StorePremises> Parts<S, J> {
-    /// Room for so many buffers and groups.
-    pub(crate) fn new(
-        alloc: Global,
-        buffers: usize,
-        placed_groups: usize,
-    ) -> Result<Parts<S, J>, AllocError>
-        ensures { IfOk result (HasPartRoom buffers placed_groups) }
-    {
-        let (shards, buffers, placed_groups) = rooms(alloc, SHARD_COUNT, buffers, placed_groups)?;
-        Ok(Parts {
+        Ok(Room {
             shards,
             buffers,
             placed_groups,
@@ -103,7 +83,7 @@ impl<S: BlockStore + Drop, J: StorePremises> Locks<S, J> {
     {
         let slots = new_slots(alloc, ends)?;
         let rounds = Rounds::new(alloc)?;
-        let rooms = LockRooms::new(alloc, buffers, placed_groups)?;
+        let rooms = Room::new(alloc, buffers, placed_groups)?;
         Ok(Locks {
             rooms,
             slots,

@@ -1,12 +1,15 @@
 //! All that the threads of a relay share.
 ghost use Rattle.std.specs.Prelude.{◌≡◌, ◌≤◌, length};
+ghost use Rattle.relay_live.specs.Locking.{HasRoom};
 ghost use Rattle.relay_model.specs.Terms.{shard_count};
 
 use crate::alone::Alone;
 use crate::claims::Claims;
 use crate::drawing::{Last, Number};
 use crate::forgetting::Rounds;
-use crate::locking::{LockRooms, Locks, Parts, free_all, free_shards, lock_all, lock_shards};
+use crate::locking::{
+    LockRoom, Locks, PartRoom, Room, free_all, free_shards, lock_all, lock_shards,
+};
 use crate::slot::Slot;
 use crate::stopping::Unstopped;
 use block_shelf::{BeginError, PlacedGroup, StopFault};
@@ -65,6 +68,14 @@ impl<S: BlockStore + Drop, J: StorePremises, L: Ledger> Drop for Shared<S, J, L>
     }
 }
 
+/// The parts of a relay, and room for their locks.
+struct Unlocked<S: BlockStore + Drop, J: StorePremises, L: Ledger> {
+    alone: Alone<S, J, L>,
+    locks: Locks<S, J>,
+    ghost room: { HasRoom (length alone.buffers.items) (length alone.placed_groups.items)
+        locks.rooms },
+}
+
 /// Why a relay isn't stopped, in the order of trial; want of memory comes last before the devices.
 pub enum Unshut<S: BlockStore + Drop, J: StorePremises, L: Ledger> {
     /// A message-id is being stored, or a write is open in a buffer. The relay goes on, and nothing
@@ -92,7 +103,6 @@ impl<S: BlockStore + Drop, J: StorePremises, L: Ledger> Shared<S, J, L> {
     ghost use Rattle.std.specs.Prelude.{◌≡◌, true, map, length, All, IfErr, IfOk};
     ghost use Rattle.block_shelf.specs.Filling.{IsBeginRefusal};
     ghost use Rattle.relay_live.specs.Making.{buffers_in, groups_in, feeds_in, ends_in};
-    ghost use Rattle.relay_live.specs.Locking.{HasLockRoom, HasPartRoom};
     ghost use Rattle.relay_live.specs.Making.{HasParts, last_stop, remember_in};
     ghost use Rattle.relay_live.specs.Starting.{HasStopOf, IsNotStarted, WereStopped};
     ghost use Rattle.relay_live.specs.Stopping.{AreShutWith, IsUnshut};
@@ -126,7 +136,7 @@ impl<S: BlockStore + Drop, J: StorePremises, L: Ledger> Shared<S, J, L> {
     {
         let locks = Locks::new(alloc, stores.len(), config.buffers.groups.len(), ends)?;
         match Alone::new(rt, alloc, config, stores, book) {
-            Ok(alone) => Ok(Shared::over(alone, locks)),
+            Ok(alone) => Ok(Shared::over(Unlocked { alone, locks })),
             Err(error) => {
                 drop(locks);
                 Err(error)
@@ -179,7 +189,7 @@ impl<S: BlockStore + Drop, J: StorePremises, L: Ledger> Shared<S, J, L> {
             }
         };
         match Alone::start_with(rt, alloc, hasher, config, register, stopped, book) {
-            Ok(alone) => Ok(Shared::over(alone, locks)),
+            Ok(alone) => Ok(Shared::over(Unlocked { alone, locks })),
             Err(unstarted) => {
                 drop(locks);
                 Err(NotStarted::Refused(unstarted))
@@ -207,8 +217,12 @@ impl<S: BlockStore + Drop, J: StorePremises, L: Ledger> Shared<S, J, L> {
                 drop(locks);
                 Ok(stopped)
             }
-            Err(Unstopped::NotIdle(alone)) => Err(Unshut::NotIdle(Shared::over(alone, locks))),
-            Err(Unstopped::Memory(alone)) => Err(Unshut::Memory(Shared::over(alone, locks))),
+            Err(Unstopped::NotIdle(alone)) => {
+                Err(Unshut::NotIdle(Shared::over(Unlocked { alone, locks })))
+            }
+            Err(Unstopped::Memory(alone)) => {
+                Err(Unshut::Memory(Shared::over(Unlocked { alone, locks })))
+            }
             Err(Unstopped::Device(number, stores)) => {
                 drop(locks);
                 Err(Unshut::Device(number, stores))
@@ -217,16 +231,16 @@ impl<S: BlockStore + Drop, J: StorePremises, L: Ledger> Shared<S, J, L> {
     }
 
     /// Room for its parts without their locks, and for their locks again.
-    fn room(&self, alloc: Global) -> Result<(Parts<S, J>, LockRooms<S, J>), AllocError>
+    fn room(&self, alloc: Global) -> Result<(PartRoom<S, J>, LockRoom<S, J>), AllocError>
         ensures parts { IfOk result (λ room.
-            HasPartRoom (buffers_in self.now) (groups_in self.now) room.0) }
+            HasRoom (buffers_in self.now) (groups_in self.now) room.0) }
         ensures locks { IfOk result (λ room.
-            HasLockRoom (buffers_in self.now) (groups_in self.now) room.1) }
+            HasRoom (buffers_in self.now) (groups_in self.now) room.1) }
     {
         let buffers = self.buffers.len();
         let groups = self.placed_groups.len();
-        let parts = Parts::new(alloc, buffers, groups)?;
-        match LockRooms::new(alloc, buffers, groups) {
+        let parts = Room::new(alloc, buffers, groups)?;
+        match Room::new(alloc, buffers, groups) {
             Ok(rooms) => Ok((parts, rooms)),
             Err(error) => {
                 drop(parts);
@@ -236,11 +250,10 @@ impl<S: BlockStore + Drop, J: StorePremises, L: Ledger> Shared<S, J, L> {
     }
 
     /// These parts, each behind its lock, put where there is room for them.
-    fn over(alone: Alone<S, J, L>, locks: Locks<S, J>) -> Shared<S, J, L>
-        requires { HasLockRoom (length alone.buffers.items)
-            (length alone.placed_groups.items) locks.rooms }
-        ensures { HasParts result alone (length locks.slots.items) }
+    fn over(unlocked: Unlocked<S, J, L>) -> Shared<S, J, L>
+        ensures { HasParts result unlocked.alone (length unlocked.locks.slots.items) }
     {
+        let Unlocked { alone, locks } = unlocked;
         let Alone {
             shards,
             desk,
@@ -267,8 +280,12 @@ impl<S: BlockStore + Drop, J: StorePremises, L: Ledger> Shared<S, J, L> {
 
     /// Its parts without their locks, put where there is room for them, and what stood beside
     /// these, with the room for new locks.
-    fn into_alone(self, parts: Parts<S, J>, rooms: LockRooms<S, J>) -> (Alone<S, J, L>, Locks<S, J>)
-        requires { HasPartRoom (buffers_in self) (groups_in self) parts }
+    fn into_alone(
+        self,
+        parts: PartRoom<S, J>,
+        rooms: LockRoom<S, J>,
+    ) -> (Alone<S, J, L>, Locks<S, J>)
+        requires { HasRoom (buffers_in self) (groups_in self) parts }
         ensures parts { HasParts self result.0 (length result.1.slots.items) }
         ensures rooms { result.1.rooms ≡ rooms }
     {

@@ -1,10 +1,11 @@
-use Rattle.std.proofs.Common.{◌≡◌, ◌∙◌, ◌<◌, ◌≤◌, Some, ap, arith, get_or, length, map, option_map}
+use Rattle.std.proofs.Common.{◌≡◌, ◌∙◌, ◌+◌, Some, ap, get_or, length, map, option_map}
 use Rattle.std.proofs.Common.{refl}
 use Rattle.std.proofs.Common.{slice_get, subst, sym}
 use Rattle.std.proofs.lemmas.List.{length-map}
 use Rattle.std.proofs.lemmas.Option.{slice_get-map, slice_get_read}
 use Rattle.cyc_buffer.specs.Agreement.{Agrees}
 use Rattle.live_store.specs.Started.{unopened_in}
+use Rattle.relay_live.proofs.Rooms.{below_as, no_more, still_fits}
 use Rattle.relay_live.proofs.Fills.{filled_all, filled_more}
 use Rattle.relay_live.proofs.filling.all_filled.Goals as goal
 
@@ -14,16 +15,16 @@ loop-unopened-preserved g c =
     let all = c.args.started.now.buffers.items in
     let k = c.loop-unopened.unopened-index in
     let one = c.unopened-item.result in
-    let within : k < length all =
-    omega (arith, c.loop-unopened-test.true, ap length c.deref-unopened-items.ensures.value) in
+    let within = below_as _ _ _ c.loop-unopened-test.true
+    (ap length c.deref-unopened-items.ensures.value) in
     let is : one ≡ get_or all k one = c.unopened-item.is
     ∙ ap (λ items. get_or items k one) c.deref-unopened-items.ensures.value in
     let here : slice_get (map unopened_in all) k ≡ Some (unopened_in one) =
     slice_get-map unopened_in all k
     ∙ ap (option_map unopened_in) (slice_get_read all (length all) k one refl within is) in
     record {
-      count = omega (arith, c.push_reserved.ensures.len, c.loop-unopened.invariant.count);
-      room = omega (arith, c.push_reserved.ensures.capacity, c.loop-unopened.invariant.room);
+      count = c.push_reserved.ensures.len ∙ ap (λ n. n + 1) c.loop-unopened.invariant.count;
+      room = still_fits _ _ _ c.loop-unopened.invariant.room c.push_reserved.ensures.capacity;
       said = λ w σ failures keeps.
           filled_more (map unopened_in all) w σ failures keeps k (unopened_in one)
           c.loop-unopened.filled.items c.push_reserved.new.self.items c.filled_of.result here
@@ -36,8 +37,9 @@ loop-unopened-preserved g c =
 pub returns : goal.returns
 returns g c = λ w σ failures keeps.
     let all = c.args.started.now.buffers.items in
-    let past : length all ≤ c.loop-unopened.unopened-index =
-    omega (arith, c.loop-unopened-test.false, ap length c.deref-unopened-items.ensures.value) in
+    let past = no_more _ _ _
+    (length-map all unopened_in ∙ sym (ap length c.deref-unopened-items.ensures.value))
+    c.loop-unopened-test.false in
     filled_all (map unopened_in all) w σ failures keeps c.loop-unopened.unopened-index
-    c.loop-unopened.filled.items (omega (arith, past, length-map all unopened_in))
+    c.loop-unopened.filled.items past
     (c.loop-unopened.invariant.said w σ failures keeps)

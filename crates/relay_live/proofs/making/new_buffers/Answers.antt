@@ -7,6 +7,7 @@ use Rattle.block_shelf.proofs.EachLemmas.{all_through, none_each, one_more_each}
 use Rattle.block_shelf.specs.Each.{AreEach}
 use Rattle.relay_live.proofs.Blamed.{blamed_at, memory_refuses}
 use Rattle.std.proofs.lemmas.Result.{IfOk-from_err}
+use Rattle.relay_live.proofs.Rooms.{next_fits, none_yet, one_came, room_of, still_fits}
 use Rattle.relay_live.specs.Beginning.{IsNewOver}
 use Rattle.relay_live.proofs.making.new_buffers.Goals as goal
 
@@ -17,13 +18,9 @@ loop-store-init g c =
       all = gives.0;
       over = subst (AreEach IsNewOver []) (sym c.in_ok-buffers.ensures.items)
           (none_each IsNewOver);
-      count = omega (arith, gives.1, ap length c.in_ok-buffers.ensures.items);
-      room = omega (
-        arith,
-        c.in_ok-buffers.ensures.capacity,
-        c.len.ensures,
-        c.args.stores.ok,
-      );
+      count = none_yet _ _ _ (ap length c.in_ok-buffers.ensures.items)
+          (gives.1 ∙ c.args.stores.ok.0);
+      room = room_of _ _ _ c.in_ok-buffers.ensures.capacity (c.len.ensures ∙ c.args.stores.ok.0);
       honest = λ trusted. subst (All g.S.BlockStore.honest) (sym gives.0)
           (c.requires.honest trusted);
     }
@@ -31,13 +28,8 @@ loop-store-init g c =
 -- there is room for one more, and its number fits
 pub push_reserved-requires : goal.push_reserved-requires
 push_reserved-requires g c =
-    omega (
-      arith,
-      c.loop-store.invariant.count,
-      c.loop-store.invariant.room,
-      c.in-Some.ensures.steps.1,
-      c.loop-store.buffers.ok,
-    )
+    next_fits _ _ _ _ _ _ c.loop-store.buffers.ok.0 c.in-Some.ensures.steps.1
+    c.loop-store.invariant.count c.loop-store.invariant.room
 
 pub overflow_cast-number : goal.overflow_cast-number
 overflow_cast-number g c =
@@ -53,12 +45,8 @@ overflow_cast-number g c =
 -- one buffer more
 pub loop-store-preserved : goal.loop-store-preserved
 loop-store-preserved g c =
-    let here : c.len-number.result ≡ length c.loop-store.yielded = omega (
-      arith,
-      c.len-number.ensures,
-      c.loop-store.buffers.ok,
-      c.loop-store.invariant.over.count,
-    ) in
+    let here = c.len-number.ensures ∙ c.loop-store.buffers.ok.0
+    ∙ c.loop-store.invariant.over.count in
     record {
       all = append_assoc c.loop-store.yielded (c.in-Some.store ∷ [])
           (into_iter_items c.next.new.self)
@@ -76,14 +64,11 @@ loop-store-preserved g c =
             free = c.in-Ok.ensures.free;
             unnumbered = c.in-Ok.ensures.numbers;
           })));
-      count = omega (
-        arith,
-        ap length c.push_reserved.ensures.items
-            ∙ length-append c.loop-store.buffers.items (c.in-Ok.buffer ∷ []),
-        c.loop-store.invariant.count,
-        c.in-Some.ensures.steps.1,
-      );
-      room = omega (arith, c.loop-store.invariant.room, c.push_reserved.ensures.capacity);
+      count = one_came _ _ _ _ _
+          (ap length c.push_reserved.ensures.items
+          ∙ length-append c.loop-store.buffers.items (c.in-Ok.buffer ∷ []))
+          c.in-Some.ensures.steps.1 c.loop-store.invariant.count;
+      room = still_fits _ _ _ c.loop-store.invariant.room c.push_reserved.ensures.capacity;
       honest = λ trusted. All-rest g.S.BlockStore.honest c.in-Some.store
           (into_iter_items c.next.new.self) (into_iter_items c.loop-store.store-iterator)
           c.in-Some.ensures.steps.0 (c.loop-store.invariant.honest trusted);
@@ -98,7 +83,7 @@ returns g c =
           c.args.stores.items
           c.loop-store.invariant.all
           (nil_from_length c.loop-store.store-iterator.rest.items
-          (omega (arith, c.in-None.ensures.steps.0, c.loop-store.store-iterator.rest.ok))))
+          (sym c.loop-store.store-iterator.rest.ok.0 ∙ c.in-None.ensures.steps.0)))
           c.loop-store.invariant.over;
       refusal = tt;
     }
@@ -113,12 +98,8 @@ returns-in-Err g c =
           c.unformatted.result
           (ap (λ rest. c.loop-store.yielded ++ rest) (sym c.in-Some.ensures.steps.0)
           ∙ c.loop-store.invariant.all)
-          (omega (
-            arith,
-            c.len-number.ensures,
-            c.loop-store.buffers.ok,
-            c.loop-store.invariant.over.count,
-          ))
+          (c.len-number.ensures ∙ c.loop-store.buffers.ok.0
+          ∙ c.loop-store.invariant.over.count)
           (c.unformatted.ensures c.in-Some.store c.in-Err.ensures.refusal);
     }
 

@@ -1,22 +1,19 @@
-use Rattle.std.proofs.Common.{◌∙◌, ◌+◌, ◌++◌, ◌∷◌, [], ap, ap₂, arith, length, map, refl, sym}
+use Rattle.std.proofs.Common.{◌∙◌, ◌+◌, ◌++◌, ◌∷◌, [], ap, ap₂, length, map, refl, sym}
 use Rattle.std.proofs.Common.{length-append, take}
 use Rattle.std.proofs.lemmas.List.{map-append, take_all, take_more}
 use Rattle.live_jobs.specs.Mismatches.{mismatched_receipts_in}
 use Rattle.live_jobs.specs.StoredAgain.{ids_stored_again_in}
 use Rattle.relay_live.specs.PeerServers.{kept_of}
+use Rattle.relay_live.proofs.Rooms.{index_fits, room_of, still_fits}
 use Rattle.relay_live.proofs.running.counted_of.Goals as goal
 
 pub loop-end-init : goal.loop-end-init
 loop-end-init g c =
     let none = c.in_ok-answers.ensures.items in
     record {
-      room = omega (
-        arith,
-        c.in_ok-answers.ensures.capacity,
-        c.len.ensures,
-        ap length c.as_slice-ends.ensures.value,
-        c.args.seats.now.services.ok,
-      );
+      room = room_of _ _ _ c.in_ok-answers.ensures.capacity
+          (c.len.ensures ∙ c.args.seats.now.services.ok.0
+          ∙ sym (ap length c.as_slice-ends.ensures.value));
       long = ap length none;
       finished = ap (map (λ a. a.now)) none;
     }
@@ -31,7 +28,7 @@ loop-end-preserved g c =
     let inv = c.loop-end.invariant in
     let pushed = c.push_reserved.ensures in
     record {
-      room = omega (arith, inv.room, pushed.capacity);
+      room = still_fits _ _ _ inv.room pushed.capacity;
       long = ap length pushed.items ∙ length-append c.loop-end.answers.items (c.kept.result ∷ [])
           ∙ ap (λ n. n + 1) inv.long;
       finished = ap (map (λ a. a.now)) pushed.items
@@ -44,13 +41,8 @@ loop-end-preserved g c =
 
 pub push_reserved-requires : goal.push_reserved-requires
 push_reserved-requires g c =
-    omega (
-      arith,
-      c.loop-end-test.true,
-      c.loop-end.invariant.room,
-      c.loop-end.invariant.long,
-      c.loop-end.answers.ok,
-    )
+    index_fits _ _ _ _ (c.loop-end.answers.ok.0 ∙ c.loop-end.invariant.long) c.loop-end-test.true
+    c.loop-end.invariant.room
 
 -- the lists of all ends are those that are compared
 pub returns : goal.returns

@@ -1,9 +1,10 @@
-use Rattle.std.proofs.Common.{◌++◌, ◌∙◌, ap, append-nil, arith, length, map, refl, sym}
+use Rattle.std.proofs.Common.{◌++◌, ◌∙◌, ap, append-nil, length, map, refl, sym}
 use Rattle.std.proofs.lemmas.List.{length-append, length-map, nil_from_length}
 use Rattle.cyc_buffer.specs.Agreement.{store_of}
 use Rattle.cyc_buffer.specs.Head.{inside}
 use Rattle.live_store.specs.Started.{unopened_in}
 use Rattle.block_shelf.proofs.EachLemmas.{all_through, count_through, made_more, one_through}
+use Rattle.relay_live.proofs.Rooms.{behind_fits}
 use Rattle.relay_live.proofs.started.give_back.Goals as goal
 
 pub loop-unopened-init : goal.loop-unopened-init
@@ -15,21 +16,16 @@ loop-unopened-init g c = record {
 
 pub push_reserved-requires : goal.push_reserved-requires
 push_reserved-requires g c =
-    omega (
-      arith,
-      c.requires,
-      c.loop-unopened.stores.ok,
-      c.args.room.ok,
-      c.loop-unopened.invariant.capacity,
-      ap length c.loop-unopened.invariant.items,
-      length-append c.args.room.items
-          (map (λ one. store_of (inside (unopened_in one))) c.loop-unopened.yielded),
-      length-map c.loop-unopened.yielded (λ one. store_of (inside (unopened_in one))),
-      count_through c.loop-unopened.yielded c.loop-unopened.unopened-iterator.rest.items
-          c.args.buffers.rest.items c.in-Some.unopened c.next.new.self.rest.items
-          c.loop-unopened.invariant.all
-          c.in-Some.ensures.steps.0,
-    )
+    behind_fits _ _ _ _ _ _ _ _ _ _
+    (c.loop-unopened.stores.ok.0 ∙ ap length c.loop-unopened.invariant.items
+    ∙ length-append c.args.room.items
+    (map (λ one. store_of (inside (unopened_in one))) c.loop-unopened.yielded))
+    c.args.room.ok.0
+    (length-map c.loop-unopened.yielded (λ one. store_of (inside (unopened_in one))))
+    (count_through c.loop-unopened.yielded c.loop-unopened.unopened-iterator.rest.items
+    c.args.buffers.rest.items c.in-Some.unopened c.next.new.self.rest.items
+    c.loop-unopened.invariant.all c.in-Some.ensures.steps.0)
+    refl c.requires c.loop-unopened.invariant.capacity
 
 pub loop-unopened-preserved : goal.loop-unopened-preserved
 loop-unopened-preserved g c = record {
@@ -54,6 +50,6 @@ returns g c =
           c.args.buffers.rest.items
           c.loop-unopened.invariant.all
           (nil_from_length c.loop-unopened.unopened-iterator.rest.items
-          (omega (arith, c.in-None.ensures.steps.0, c.loop-unopened.unopened-iterator.rest.ok))));
+          (sym c.loop-unopened.unopened-iterator.rest.ok.0 ∙ c.in-None.ensures.steps.0)));
       capacity = c.loop-unopened.invariant.capacity;
     }

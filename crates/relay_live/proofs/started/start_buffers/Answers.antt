@@ -1,5 +1,5 @@
-use Rattle.std.proofs.Common.{◌≡◌, ◌∙◌, ◌++◌, ◌∷◌, [], ap, arith, length, map, None, refl, subst}
-use Rattle.std.proofs.Common.{sym}
+use Rattle.std.proofs.Common.{◌≡◌, ◌∙◌, ◌++◌, ◌∷◌, ◌<◌, [], ap, arith, length, map}
+use Rattle.std.proofs.Common.{None, refl, subst, sym}
 use Rattle.std.proofs.lemmas.List.{length-append, length-map}
 use Rattle.cyc_buffer.specs.Agreement.{store_of}
 use Rattle.cyc_buffer.specs.Head.{inside}
@@ -8,6 +8,8 @@ use Rattle.block_shelf.proofs.Starts.{untouched_stores}
 use Rattle.block_shelf.specs.Starting.{CanStart, IsFirstOther, buffer_over}
 use Rattle.live_store.specs.Started.{WasStopped, unopened_in}
 use Rattle.news_terms.proofs.ListPlaces.{holds_at}
+use Rattle.relay_live.proofs.Rooms.{front_fits, more_fits, no_more, place_fits, rest_fits, room_of}
+use Rattle.relay_live.proofs.Rooms.{still_fits, whole_fits}
 use Rattle.relay_live.proofs.StartedBuffers.{StartedSoFar, mixed_start, refused_here, started_all}
 use Rattle.relay_live.proofs.StartedBuffers.{started_more, started_none}
 use Rattle.relay_live.specs.Starting.{IsUnstarted, stores_of}
@@ -32,7 +34,7 @@ loop-store-init g c =
           (subst (λ buffers. StartedSoFar c.args.stop c.args.stores.items c.args.stores.items
           buffers None) (sym c.in-Ok.ensures.none.0)
           (started_none c.args.stop c.args.stores.items));
-      room = omega (arith, room.0, c.len-count.ensures, c.args.stores.ok);
+      room = room_of _ _ _ room.0 (c.len-count.ensures ∙ c.args.stores.ok.0);
     }
 
 pub start-requires-clause-honest : goal.start-requires-clause-honest
@@ -47,8 +49,7 @@ pub start-requires-clause-stopped : goal.start-requires-clause-stopped
 start-requires-clause-stopped g c = λ trusted.
     let so_far = c.loop-store.invariant.so_far in
     let store = c.in-Some.store in
-    let number : c.len-number.result ≡ length so_far.gone =
-    omega (arith, c.len-number.ensures, c.loop-store.buffers.ok, so_far.over.count) in
+    let number = c.len-number.ensures ∙ c.loop-store.buffers.ok.0 ∙ so_far.over.count in
     subst
     (λ n. ∥ WasStopped (g.S.BlockStore.heads store) (g.S.BlockStore.blocks store)
     (buffer_over g.S.BlockStore n store) ∥₁)
@@ -61,27 +62,20 @@ start-requires-clause-stopped g c = λ trusted.
 pub overflow_cast-number : goal.overflow_cast-number
 overflow_cast-number g c =
     let so_far = c.loop-store.invariant.so_far in
-    omega (
-      arith,
-      c.len-number.ensures,
-      c.requires.few,
-      c.loop-store.buffers.ok,
-      so_far.over.count,
-      count_through so_far.gone c.loop-store.left.rest.items c.args.stores.items c.in-Some.store
-          c.next.new.self.rest.items so_far.all_is c.in-Some.ensures.cases.0,
-    )
+    let fits : c.len-number.result < 256 = place_fits _ _ _ _ _
+    (c.len-number.ensures ∙ c.loop-store.buffers.ok.0 ∙ so_far.over.count)
+    (count_through so_far.gone c.loop-store.left.rest.items c.args.stores.items c.in-Some.store
+    c.next.new.self.rest.items so_far.all_is c.in-Some.ensures.cases.0)
+    c.requires.few in
+    omega (arith, fits)
 
 pub push_reserved-requires : goal.push_reserved-requires
 push_reserved-requires g c =
     let so_far = c.loop-store.invariant.so_far in
-    omega (
-      arith,
-      c.loop-store.invariant.room,
-      c.loop-store.buffers.ok,
-      so_far.over.count,
-      count_through so_far.gone c.loop-store.left.rest.items c.args.stores.items c.in-Some.store
-          c.next.new.self.rest.items so_far.all_is c.in-Some.ensures.cases.0,
-    )
+    place_fits _ _ _ _ _ (c.loop-store.buffers.ok.0 ∙ so_far.over.count)
+    (count_through so_far.gone c.loop-store.left.rest.items c.args.stores.items c.in-Some.store
+    c.next.new.self.rest.items so_far.all_is c.in-Some.ensures.cases.0)
+    c.loop-store.invariant.room
 
 -- one buffer more is started
 pub loop-store-preserved : goal.loop-store-preserved
@@ -99,7 +93,7 @@ loop-store-preserved g c =
           (started_more c.args.stop c.args.stores.items c.loop-store.left.rest.items
           c.loop-store.buffers.items c.loop-store.mixed c.loop-store.invariant.so_far store left
           c.in-Some.ensures.cases.0 number
-          (omega (arith, c.len-number.ensures, c.loop-store.buffers.ok)) one c.in-Ok-start.found
+          (c.len-number.ensures ∙ c.loop-store.buffers.ok.0) one c.in-Ok-start.found
           (record {
             agrees = is.agrees;
             numbered = is.numbered;
@@ -114,67 +108,47 @@ loop-store-preserved g c =
             held = is.same;
           })
           is.under));
-      room = omega (arith, c.push_reserved.ensures.capacity, c.loop-store.invariant.room);
+      room = still_fits _ _ _ c.loop-store.invariant.room c.push_reserved.ensures.capacity;
     }
 
 -- there is room for the stores of all
 pub give_back-stores-requires : goal.give_back-stores-requires
 give_back-stores-requires g c =
     let so_far = c.loop-store.invariant.so_far in
-    omega (
-      arith,
-      c.in-Ok.ensures.room.2,
-      c.len-count.ensures,
-      c.args.stores.ok,
-      ap length c.in-Ok.ensures.none.2,
-      c.in-Ok.room.ok,
-      ap length c.into_iter.ensures.rest,
-      so_far.over.count,
-      count_through so_far.gone c.loop-store.left.rest.items c.args.stores.items c.in-Some.store
-          c.next.new.self.rest.items so_far.all_is c.in-Some.ensures.cases.0,
-    )
+    front_fits _ _ _ _ _ c.in-Ok.ensures.room.2 (c.len-count.ensures ∙ c.args.stores.ok.0)
+    (count_through so_far.gone c.loop-store.left.rest.items c.args.stores.items c.in-Some.store
+    c.next.new.self.rest.items so_far.all_is c.in-Some.ensures.cases.0)
+    _ _ (ap length c.into_iter.ensures.rest ∙ so_far.over.count)
+    (c.in-Ok.room.ok.0 ∙ ap length c.in-Ok.ensures.none.2)
 
 pub push_reserved-requires-in-Err : goal.push_reserved-requires-in-Err
 push_reserved-requires-in-Err g c =
     let so_far = c.loop-store.invariant.so_far in
-    omega (
-      arith,
-      c.in-Ok.ensures.room.2,
-      c.len-count.ensures,
-      c.args.stores.ok,
-      ap length c.in-Ok.ensures.none.2,
-      ap length c.into_iter.ensures.rest,
-      c.give_back-stores.ensures.capacity,
-      c.give_back-stores.result.ok,
-      ap length c.give_back-stores.ensures.items,
-      length-append c.in-Ok.room.items (stores_of c.into_iter.result.rest.items),
-      length-map c.into_iter.result.rest.items (λ one. store_of (inside (unopened_in one))),
-      so_far.over.count,
-      count_through so_far.gone c.loop-store.left.rest.items c.args.stores.items c.in-Some.store
-          c.next.new.self.rest.items so_far.all_is c.in-Some.ensures.cases.0,
-    )
+    more_fits _ _ _ _ _ c.in-Ok.ensures.room.2 (c.len-count.ensures ∙ c.args.stores.ok.0)
+    (count_through so_far.gone c.loop-store.left.rest.items c.args.stores.items c.in-Some.store
+    c.next.new.self.rest.items so_far.all_is c.in-Some.ensures.cases.0)
+    _ _ _ _
+    (c.give_back-stores.result.ok.0 ∙ ap length c.give_back-stores.ensures.items
+    ∙ length-append c.in-Ok.room.items (stores_of c.into_iter.result.rest.items))
+    (ap length c.in-Ok.ensures.none.2)
+    (length-map c.into_iter.result.rest.items (λ one. store_of (inside (unopened_in one)))
+    ∙ ap length c.into_iter.ensures.rest ∙ so_far.over.count)
+    c.give_back-stores.ensures.capacity
 
 pub with_rest-requires : goal.with_rest-requires
 with_rest-requires g c =
     let so_far = c.loop-store.invariant.so_far in
-    omega (
-      arith,
-      c.in-Ok.ensures.room.2,
-      c.len-count.ensures,
-      c.args.stores.ok,
-      ap length c.in-Ok.ensures.none.2,
-      ap length c.into_iter.ensures.rest,
-      c.push_reserved-in-Err.ensures.capacity,
-      c.push_reserved-in-Err.ensures.len,
-      c.give_back-stores.ensures.capacity,
-      c.give_back-stores.result.ok,
-      ap length c.give_back-stores.ensures.items,
-      length-append c.in-Ok.room.items (stores_of c.into_iter.result.rest.items),
-      length-map c.into_iter.result.rest.items (λ one. store_of (inside (unopened_in one))),
-      so_far.over.count,
-      count_through so_far.gone c.loop-store.left.rest.items c.args.stores.items c.in-Some.store
-          c.next.new.self.rest.items so_far.all_is c.in-Some.ensures.cases.0,
-    )
+    rest_fits _ _ _ _ _ c.in-Ok.ensures.room.2 (c.len-count.ensures ∙ c.args.stores.ok.0)
+    (count_through so_far.gone c.loop-store.left.rest.items c.args.stores.items c.in-Some.store
+    c.next.new.self.rest.items so_far.all_is c.in-Some.ensures.cases.0)
+    _ _ _ _
+    (c.give_back-stores.result.ok.0 ∙ ap length c.give_back-stores.ensures.items
+    ∙ length-append c.in-Ok.room.items (stores_of c.into_iter.result.rest.items))
+    (ap length c.in-Ok.ensures.none.2)
+    (length-map c.into_iter.result.rest.items (λ one. store_of (inside (unopened_in one)))
+    ∙ ap length c.into_iter.ensures.rest ∙ so_far.over.count)
+    c.give_back-stores.ensures.capacity _ _ c.push_reserved-in-Err.ensures.len
+    c.push_reserved-in-Err.ensures.capacity
 
 -- it is refused, and the stores behind it come back as they are
 pub returns-in-Err : goal.returns-in-Err
@@ -188,7 +162,7 @@ returns-in-Err g c =
       refusal = refused_here c.args.stop c.args.stores.items c.loop-store.left.rest.items buffers
           c.loop-store.mixed c.loop-store.invariant.so_far c.in-Some.store left
           c.in-Some.ensures.cases.0 c.len-number.result
-          (omega (arith, c.len-number.ensures, c.loop-store.buffers.ok)) error
+          (c.len-number.ensures ∙ c.loop-store.buffers.ok.0) error
           c.in-Err.refused.store c.fault_of.result c.blamed.result c.with_rest.result.items is.held
           is.failed is.reason is.refused c.fault_of.ensures c.blamed.ensures
           (c.with_rest.ensures
@@ -210,7 +184,7 @@ returns-in-Some-mixed g c =
           c.give_back.result.items c.in-Some-mixed.number
           (started_all c.args.stop c.args.stores.items c.loop-store.left.rest.items buffers
           c.loop-store.mixed c.loop-store.invariant.so_far
-          (omega (arith, c.in_default-next.ensures.cases.0, c.loop-store.left.rest.ok)))
+          (sym c.loop-store.left.rest.ok.0 ∙ c.in_default-next.ensures.cases.0))
           c.in-Ok.ensures.none.2
           (subst (IsFirstOther c.args.stop (map unopened_in buffers)) c.in-Some-mixed.is
           c.loop-store.invariant.so_far.first)
@@ -226,7 +200,7 @@ returns-in-None g c =
       started = record {
         over = started_all c.args.stop c.args.stores.items c.loop-store.left.rest.items
             c.loop-store.buffers.items c.loop-store.mixed c.loop-store.invariant.so_far
-            (omega (arith, c.in_default-next.ensures.cases.0, c.loop-store.left.rest.ok));
+            (sym c.loop-store.left.rest.ok.0 ∙ c.in_default-next.ensures.cases.0);
         under = subst (IsFirstOther c.args.stop (map unopened_in c.loop-store.buffers.items))
             c.in-None.is
             c.loop-store.invariant.so_far.first;
@@ -239,29 +213,23 @@ pub invariant_of-result : goal.invariant_of-result
 invariant_of-result g c =
     let count = (started_all c.args.stop c.args.stores.items c.loop-store.left.rest.items
     c.loop-store.buffers.items c.loop-store.mixed c.loop-store.invariant.so_far
-    (omega (arith, c.in_default-next.ensures.cases.0, c.loop-store.left.rest.ok))).count in
-    let long = c.len-count.ensures in
+    (sym c.loop-store.left.rest.ok.0 ∙ c.in_default-next.ensures.cases.0)).count in
+    let long = c.len-count.ensures ∙ c.args.stores.ok.0
+    ∙ sym (c.loop-store.buffers.ok.0 ∙ count) in
     let room = c.in-Ok.ensures.room in
     record {
-      few = omega (arith, count, c.loop-store.buffers.ok, c.requires.few);
+      few = no_more _ _ _ (c.loop-store.buffers.ok.0 ∙ count) c.requires.few;
       none_opened = c.in-Ok.ensures.none.1;
       none_back = c.in-Ok.ensures.none.2;
-      opened_room = omega (arith, count, c.loop-store.buffers.ok, room.1, long, c.args.stores.ok);
-      stores_room = omega (arith, count, c.loop-store.buffers.ok, room.2, long, c.args.stores.ok);
+      opened_room = room_of _ _ _ room.1 long;
+      stores_room = room_of _ _ _ room.2 long;
     }
 
 pub give_back-requires : goal.give_back-requires
 give_back-requires g c =
     let count = (started_all c.args.stop c.args.stores.items c.loop-store.left.rest.items
     c.loop-store.buffers.items c.loop-store.mixed c.loop-store.invariant.so_far
-    (omega (arith, c.in_default-next.ensures.cases.0, c.loop-store.left.rest.ok))).count in
-    omega (
-      arith,
-      count,
-      c.in-Ok.ensures.room.2,
-      c.len-count.ensures,
-      c.args.stores.ok,
-      ap length c.in-Ok.ensures.none.2,
-      c.in-Ok.room.ok,
-      ap length c.into_iter-in-Some-mixed.ensures.rest,
-    )
+    (sym c.loop-store.left.rest.ok.0 ∙ c.in_default-next.ensures.cases.0)).count in
+    whole_fits _ _ _ _ _ c.in-Ok.ensures.room.2 (c.len-count.ensures ∙ c.args.stores.ok.0)
+    (ap length c.into_iter-in-Some-mixed.ensures.rest ∙ count)
+    (c.in-Ok.room.ok.0 ∙ ap length c.in-Ok.ensures.none.2)

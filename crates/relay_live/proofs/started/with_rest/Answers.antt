@@ -1,7 +1,8 @@
-use Rattle.std.proofs.Common.{◌++◌, ◌∙◌, ◌∷◌, [], ap, append-nil, append_assoc, arith, length}
+use Rattle.std.proofs.Common.{◌++◌, ◌∙◌, ◌∷◌, [], ap, append-nil, append_assoc, length}
 use Rattle.std.proofs.Common.{refl, sym}
 use Rattle.std.proofs.lemmas.List.{length-append, nil_from_length}
 use Rattle.block_shelf.proofs.EachLemmas.{all_through, count_through, one_through}
+use Rattle.relay_live.proofs.Rooms.{behind_fits}
 use Rattle.relay_live.proofs.started.with_rest.Goals as goal
 
 pub loop-store-init : goal.loop-store-init
@@ -13,18 +14,14 @@ loop-store-init g c = record {
 
 pub push_reserved-requires : goal.push_reserved-requires
 push_reserved-requires g c =
-    omega (
-      arith,
-      c.requires,
-      c.loop-store.stores.ok,
-      c.args.stores.ok,
-      c.loop-store.invariant.capacity,
-      ap length c.loop-store.invariant.items,
-      length-append c.args.stores.items c.loop-store.yielded,
-      count_through c.loop-store.yielded c.loop-store.store-iterator.rest.items
-          c.args.left.rest.items c.in-Some.store c.next.new.self.rest.items
-          c.loop-store.invariant.all c.in-Some.ensures.steps.0,
-    )
+    behind_fits _ _ _ _ _ _ _ _ _ _
+    (c.loop-store.stores.ok.0 ∙ ap length c.loop-store.invariant.items
+    ∙ length-append c.args.stores.items c.loop-store.yielded)
+    c.args.stores.ok.0 refl
+    (count_through c.loop-store.yielded c.loop-store.store-iterator.rest.items
+    c.args.left.rest.items c.in-Some.store c.next.new.self.rest.items
+    c.loop-store.invariant.all c.in-Some.ensures.steps.0)
+    refl c.requires c.loop-store.invariant.capacity
 
 pub loop-store-preserved : goal.loop-store-preserved
 loop-store-preserved g c = record {
@@ -44,4 +41,4 @@ returns g c =
     (all_through c.loop-store.yielded c.loop-store.store-iterator.rest.items
     c.args.left.rest.items c.loop-store.invariant.all
     (nil_from_length c.loop-store.store-iterator.rest.items
-    (omega (arith, c.in-None.ensures.steps.0, c.loop-store.store-iterator.rest.ok))))
+    (sym c.loop-store.store-iterator.rest.ok.0 ∙ c.in-None.ensures.steps.0)))

@@ -5,6 +5,7 @@ use Rattle.block_shelf.proofs.EachLemmas.{all_through, count_through, none_each,
 use Rattle.block_shelf.specs.Each.{AreEach}
 use Rattle.block_shelf.specs.Stopping.{IsShutOver, IsStopped}
 use Rattle.live_store.specs.Steps.{buffer_of}
+use Rattle.relay_live.proofs.Rooms.{place_fits, room_of, still_fits}
 use Rattle.relay_live.proofs.Shuts.{idle_here, known_none}
 use Rattle.relay_live.specs.Stopping.{AreKnown}
 use Rattle.relay_live.proofs.stopping.shut_all.Goals as goal
@@ -16,20 +17,17 @@ loop-buffer-init g c = record {
       (none_each (IsShutOver c.args.stop));
   known = known_none g.S.BlockStore g.J.StorePremises c.args.stop None c.args.room.items
       c.requires.none;
-  count = omega (arith, ap length c.requires.none, c.args.room.ok);
-  room = omega (arith, c.requires.room, c.args.buffers.ok);
+  count = c.args.room.ok.0 ∙ ap length c.requires.none;
+  room = room_of _ _ _ c.requires.room c.args.buffers.ok.0;
 }
 
 pub shut_next-failed-requires : goal.shut_next-failed-requires
 shut_next-failed-requires g c =
-    omega (
-      arith,
-      c.loop-buffer.invariant.count,
-      c.loop-buffer.invariant.room,
-      count_through c.loop-buffer.yielded c.loop-buffer.buffer-iterator.rest.items
-          c.args.buffers.items c.in-Some.buffer c.next.new.self.rest.items
-          c.loop-buffer.invariant.all c.in-Some.ensures.steps.0,
-    )
+    place_fits _ _ _ _ _ c.loop-buffer.invariant.count
+    (count_through c.loop-buffer.yielded c.loop-buffer.buffer-iterator.rest.items
+    c.args.buffers.items c.in-Some.buffer c.next.new.self.rest.items
+    c.loop-buffer.invariant.all c.in-Some.ensures.steps.0)
+    c.loop-buffer.invariant.room
 
 pub loop-buffer-preserved : goal.loop-buffer-preserved
 loop-buffer-preserved g c = record {
@@ -49,7 +47,7 @@ loop-buffer-preserved g c = record {
   known = c.shut_next-failed.ensures.known c.loop-buffer.invariant.known;
   count = c.shut_next-failed.ensures.count ∙ ap (λ n. n + 1) c.loop-buffer.invariant.count
       ∙ sym (length-append c.loop-buffer.yielded (c.in-Some.buffer ∷ []));
-  room = omega (arith, c.shut_next-failed.ensures.room, c.loop-buffer.invariant.room);
+  room = still_fits _ _ _ c.loop-buffer.invariant.room c.shut_next-failed.ensures.room;
 }
 
 -- the device of a buffer has failed
@@ -58,7 +56,7 @@ returns-in-Some-failed g c = λ idle.
     let through = all_through c.loop-buffer.yielded c.loop-buffer.buffer-iterator.rest.items
     c.args.buffers.items c.loop-buffer.invariant.all
     (nil_from_length c.loop-buffer.buffer-iterator.rest.items
-    (omega (arith, c.in-None.ensures.steps.0, c.loop-buffer.buffer-iterator.rest.ok))) in
+    (sym c.loop-buffer.buffer-iterator.rest.ok.0 ∙ c.in-None.ensures.steps.0)) in
     let was =
     subst
     (λ items. IsStopped c.args.stop (map buffer_of items) (Some c.in-Some-failed.place)
@@ -87,7 +85,7 @@ returns-in-None-failed g c = λ idle.
     let through = all_through c.loop-buffer.yielded c.loop-buffer.buffer-iterator.rest.items
     c.args.buffers.items c.loop-buffer.invariant.all
     (nil_from_length c.loop-buffer.buffer-iterator.rest.items
-    (omega (arith, c.in-None.ensures.steps.0, c.loop-buffer.buffer-iterator.rest.ok))) in (
+    (sym c.loop-buffer.buffer-iterator.rest.ok.0 ∙ c.in-None.ensures.steps.0)) in (
       subst
           (λ items. IsStopped c.args.stop (map buffer_of items) None c.loop-buffer.stores.items)
           through

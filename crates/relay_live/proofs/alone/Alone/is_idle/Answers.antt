@@ -1,8 +1,9 @@
-use Rattle.std.proofs.Common.{◌≡◌, Some, ap, arith, length, map, slice_get, subst, sym}
+use Rattle.std.proofs.Common.{◌≡◌, ◌∙◌, Some, ap, length, map, slice_get, subst, sym}
 use Rattle.std.proofs.lemmas.Bool.{false≢true}
 use Rattle.id_history.specs.Shards.{EachKeeps}
 use Rattle.live_store.specs.Steps.{buffer_of}
 use Rattle.relay_live.proofs.Rest.{shard_within}
+use Rattle.relay_live.proofs.Rooms.{below_as}
 use Rattle.relay_live.specs.Stopping.{HasClaim, HasWrite}
 use Rattle.relay_live.proofs.alone.Alone.is_idle.Goals as goal
 
@@ -25,12 +26,8 @@ returns g c =
         claims = λ claims keeps id.
             c.none_is_stored.ensures.none c.if-not-none_is_stored.false claims
             (subst (λ items. EachKeeps items claims) (sym c.deref.ensures.value) keeps) id
-            (omega (
-              arith,
-              ap length c.deref.ensures.value,
-              c.args.self.now.sixteen,
-              shard_within id,
-            ));
+            (below_as _ _ _ (shard_within id)
+            (sym (ap length c.deref.ensures.value ∙ c.args.self.now.sixteen)));
         buffers = λ b code there.
             c.none_is_written.ensures.none e b code
             (subst (λ items. slice_get (map buffer_of items) b ≡ Some code)

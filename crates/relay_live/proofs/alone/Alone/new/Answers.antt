@@ -1,4 +1,4 @@
-use Rattle.std.proofs.Common.{◌∙◌, List, arith, map, refl, subst}
+use Rattle.std.proofs.Common.{◌∙◌, List, map, refl, subst}
 use Rattle.article_verdict.proofs.FewFeeds.{few_feeds}
 use Rattle.block_shelf.proofs.HostFaults.{host_refuses}
 use Rattle.block_shelf.proofs.NewBufferSet.{same_count}
@@ -6,6 +6,7 @@ use Rattle.feed_queue.specs.Feeds.{KeepsFeeds, no_feed, ring_size}
 use Rattle.live_jobs.specs.Desks.{desk_of}
 use Rattle.relay_conf.specs.declared.relay.Feed.{Feed}
 use Rattle.relay_live.proofs.Begins.{keeps_nothing}
+use Rattle.relay_live.proofs.Rooms.{no_more}
 use Rattle.std.proofs.lemmas.Result.{IfOk-from_err}
 use Rattle.relay_live.proofs.alone.Alone.new.Goals as goal
 
@@ -13,30 +14,22 @@ use Rattle.relay_live.proofs.alone.Alone.new.Goals as goal
 pub invariant_of-result : goal.invariant_of-result
 invariant_of-result g c = record {
   sixteen = c.into_shards-shards.ensures.sixteen;
-  few = omega (
-    arith,
-    c.in-Ok.ensures.over.count,
-    same_count g.S.BlockStore c.args.config.now.buffers c.args.stores.items c.requires.stores,
-    c.args.config.now.buffers.few_buffers,
-  );
+  few = no_more _ _ _
+      (c.in-Ok.ensures.over.count
+      ∙ same_count g.S.BlockStore c.args.config.now.buffers c.args.stores.items c.requires.stores)
+      c.args.config.now.buffers.few_buffers;
   few_placed_groups =
-      omega (arith, c.in_ok-placed_groups.ensures.count, c.args.config.now.buffers.few_groups);
-  few_feeds = omega (
-    arith,
-    few_feeds c.args.config.now,
-    c.len.ensures,
-    c.args.config.now.relay.feeds.ok,
-  );
+      no_more _ _ _ c.in_ok-placed_groups.ensures.count c.args.config.now.buffers.few_groups;
+  few_feeds = no_more _ _ _ (c.len.ensures ∙ c.args.config.now.relay.feeds.ok.0)
+      (few_feeds c.args.config.now);
 }
 
 -- the stores are honest where they are trusted, and no more than a configuration has
 pub new_buffers-requires-clause-few : goal.new_buffers-requires-clause-few
 new_buffers-requires-clause-few g c =
-    omega (
-      arith,
-      same_count g.S.BlockStore c.args.config.now.buffers c.args.stores.items c.requires.stores,
-      c.args.config.now.buffers.few_buffers,
-    )
+    no_more _ _ _
+    (same_count g.S.BlockStore c.args.config.now.buffers c.args.stores.items c.requires.stores)
+    c.args.config.now.buffers.few_buffers
 
 pub new_buffers-requires-clause-honest : goal.new_buffers-requires-clause-honest
 new_buffers-requires-clause-honest g c = c.requires.honest

@@ -1,4 +1,5 @@
-use Rattle.std.proofs.Common.{Option, arith, refl, subst}
+use Rattle.std.proofs.Common.{Option, refl, subst}
+use Rattle.relay_live.proofs.Rooms.{no_more, room_of}
 use Rattle.relay_live.proofs.Shuts.{shut_partly, shuts}
 use Rattle.relay_live.specs.Stopping.{IsShutAll}
 use Rattle.relay_live.proofs.alone.Alone.shut.Goals as goal
@@ -25,19 +26,14 @@ returns-in_default g c = record {
 
 -- there is room for the stores of all buffers
 pub shut_all-requires-clause-few : goal.shut_all-requires-clause-few
-shut_all-requires-clause-few g c = omega (arith, c.args.self.few, c.args.self.buffers.ok)
+shut_all-requires-clause-few g c = no_more _ _ _ c.args.self.buffers.ok.0 c.args.self.few
 
 pub shut_all-requires-clause-none : goal.shut_all-requires-clause-none
 shut_all-requires-clause-none g c = c.in-Ok-with_capacity.ensures.items
 
 pub shut_all-requires-clause-room : goal.shut_all-requires-clause-room
 shut_all-requires-clause-room g c =
-    omega (
-      arith,
-      c.in-Ok-with_capacity.ensures.capacity,
-      c.len.ensures,
-      c.args.self.buffers.ok,
-    )
+    room_of _ _ _ c.in-Ok-with_capacity.ensures.capacity c.len.ensures
 
 -- it is stopped
 pub returns-in-None-default : goal.returns-in-None-default

@@ -1,4 +1,4 @@
-use Rattle.std.proofs.Common.{◌∙◌, List, None, ap, arith, map, subst, sym}
+use Rattle.std.proofs.Common.{◌∙◌, List, None, ap, map, subst, sym}
 use Rattle.block_shelf.proofs.NewBufferSet.{same_count}
 use Rattle.block_shelf.specs.Each.{AreEach}
 use Rattle.block_shelf.specs.Starting.{IsUnwritten}
@@ -7,6 +7,7 @@ use Rattle.id_history.specs.Views.{history_view}
 use Rattle.relay_core.specs.Ahead.{filled_view, is_ahead}
 use Rattle.relay_core.specs.declared.ahead.Filled as code
 use Rattle.relay_live.proofs.OpenedBuffers.{not_opened}
+use Rattle.relay_live.proofs.Rooms.{no_more}
 use Rattle.relay_live.proofs.StartedBuffers.{started_stores}
 use Rattle.relay_live.proofs.StartedRelay.{ahead_as, ahead_of, no_head, no_room, not_started}
 use Rattle.relay_live.proofs.StartedRelay.{starts, unread_or_room}
@@ -32,12 +33,10 @@ returns-in-Err g c =
 
 pub start_buffers-requires-clause-few : goal.start_buffers-requires-clause-few
 start_buffers-requires-clause-few g c =
-    omega (
-      arith,
-      same_count g.S.BlockStore c.args.config.now.buffers c.args.stopped.stores.items
-          c.requires.stores,
-      c.args.config.now.buffers.few_buffers,
-    )
+    no_more _ _ _
+    (same_count g.S.BlockStore c.args.config.now.buffers c.args.stopped.stores.items
+    c.requires.stores)
+    c.args.config.now.buffers.few_buffers
 
 -- a buffer isn't started
 pub returns-in-Err-start_buffers : goal.returns-in-Err-start_buffers
@@ -172,9 +171,6 @@ returns-in-Ok-over g c =
 
 pub over-requires : goal.over-requires
 over-requires g c = record {
-  few = omega (
-    arith,
-    c.in-Ok-resume.ensures.placed_group_count,
-    c.args.config.now.buffers.few_groups,
-  );
+  few = no_more _ _ _ c.in-Ok-resume.ensures.placed_group_count
+      c.args.config.now.buffers.few_groups;
 }

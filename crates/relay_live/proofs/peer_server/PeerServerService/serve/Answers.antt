@@ -14,7 +14,14 @@ loop-preserved g c =
       kept = served.kept before.kept;
     }
 
--- its peer and its configuration stay
-pub returns-in_default-clause-mark : goal.returns-in_default-clause-mark
-returns-in_default-clause-mark g c = λ i.
-    (c.loop.invariant.peer i, (c.loop.invariant.config i).now)
+pub serve_next-seat-requires-clause-seat : goal.serve_next-seat-requires-clause-seat
+serve_next-seat-requires-clause-seat g c = c.loop.invariant.seat
+
+-- the seat comes back with right accounts; its peer and its configuration stay
+pub returns-in_default : goal.returns-in_default
+returns-in_default g c = record {
+  seat = c.loop.invariant.seat;
+  end = c.loop.invariant.end;
+  kept = c.loop.invariant.kept;
+  mark = λ i. (c.loop.invariant.peer i, (c.loop.invariant.config i).now);
+}

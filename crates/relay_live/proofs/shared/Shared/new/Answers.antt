@@ -1,28 +1,19 @@
-use Rattle.std.proofs.Common.{◌∙◌, arith}
+use Rattle.std.proofs.Common.{◌∙◌, sym}
 use Rattle.block_shelf.proofs.HostFaults.{host_refuses}
 use Rattle.block_shelf.proofs.NewBufferSet.{same_count}
 use Rattle.std.proofs.lemmas.Result.{IfOk-from_err}
+use Rattle.relay_live.proofs.Parts.{room_for}
 use Rattle.relay_live.proofs.shared.Shared.new.Goals as goal
 
 -- there is room for as many locks
-pub over-requires : goal.over-requires
-over-requires g c =
-    let room = c.in_ok-locks.ensures.rooms in
+pub invariant_of-over : goal.invariant_of-over
+invariant_of-over g c =
     let begins = c.in-Ok.ensures.begins in
     record {
-      no_shards = room.no_shards;
-      no_buffers = room.no_buffers;
-      no_placed_groups = room.no_placed_groups;
-      shards_room = room.shards_room;
-      buffers_room =
-          omega (arith, room.buffers_room, begins.buffers.count, c.len.ensures, c.args.stores.ok);
-      placed_groups_room = omega (
-        arith,
-        room.placed_groups_room,
-        begins.placed_group_count,
-        c.len-2.ensures,
-        c.args.config.now.buffers.groups.ok,
-      );
+      room = room_for c.in_ok-locks.locks.rooms _ _ _ _ c.in_ok-locks.ensures.rooms
+          (begins.buffers.count ∙ sym (c.len.ensures ∙ c.args.stores.ok.0))
+          (begins.placed_group_count
+          ∙ sym (c.len-2.ensures ∙ c.args.config.now.buffers.groups.ok.0));
     }
 
 -- a buffer for each store, and so for each of the configuration

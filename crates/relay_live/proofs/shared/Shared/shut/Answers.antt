@@ -3,7 +3,7 @@ use Rattle.std.proofs.lemmas.List.{length-map}
 use Rattle.live_store.specs.Steps.{buffer_of}
 use Rattle.relay_core.specs.Stopping.{next_stop}
 use Rattle.relay_live.specs.Stopping.{AreShutWith, ComesBack}
-use Rattle.relay_live.proofs.Parts.{as_many, room_again}
+use Rattle.relay_live.proofs.Parts.{as_many, failed_within, room_again}
 use Rattle.relay_live.proofs.shared.Shared.shut.Goals as goal
 
 -- there is no room for its parts
@@ -32,21 +32,27 @@ returns-in-Ok-shut g c =
     }
 
 -- parts that came back as they were go behind locks again
-pub over-requires : goal.over-requires
-over-requires g c =
+pub invariant_of-over : goal.invariant_of-over
+invariant_of-over g c =
     let parts = c.into_alone-alone in
     let back = subst (ComesBack parts.result.0) c.in-Err-NotIdle.field-0-is
     c.in-Err-NotIdle.ensures.back in
-    room_again c.args.self parts.result.0 c.in-Err-NotIdle.alone _ parts.ensures.parts back.0
-    c.in-Ok.rooms parts.result.1.rooms parts.ensures.rooms c.in-Ok.ensures.locks
+    record {
+      room =
+          room_again c.args.self parts.result.0 c.in-Err-NotIdle.alone _ parts.ensures.parts
+          back.0 c.in-Ok.rooms parts.result.1.rooms parts.ensures.rooms c.in-Ok.ensures.locks;
+    }
 
-pub over-requires-in-Err-Memory : goal.over-requires-in-Err-Memory
-over-requires-in-Err-Memory g c =
+pub invariant_of-over-in-Err-Memory : goal.invariant_of-over-in-Err-Memory
+invariant_of-over-in-Err-Memory g c =
     let parts = c.into_alone-alone in
     let back = subst (ComesBack parts.result.0) c.in-Err-Memory.field-0-is
     c.in-Err-Memory.ensures.back in
-    room_again c.args.self parts.result.0 c.in-Err-Memory.alone _ parts.ensures.parts back.0
-    c.in-Ok.rooms parts.result.1.rooms parts.ensures.rooms c.in-Ok.ensures.locks
+    record {
+      room =
+          room_again c.args.self parts.result.0 c.in-Err-Memory.alone _ parts.ensures.parts
+          back.0 c.in-Ok.rooms parts.result.1.rooms parts.ensures.rooms c.in-Ok.ensures.locks;
+    }
 
 pub returns-in-Err-NotIdle : goal.returns-in-Err-NotIdle
 returns-in-Err-NotIdle g c =
@@ -72,4 +78,17 @@ returns-in-Err-Memory g c =
       refused = as_many c.args.self parts.result.0 c.in-Err-Memory.alone _ parts.ensures.parts
           back.0
           c.over-in-Err-Memory.result c.over-in-Err-Memory.ensures;
+    }
+
+-- a device failed, and all stores come back
+pub returns-in-Err-Device : goal.returns-in-Err-Device
+returns-in-Err-Device g c =
+    let parts = c.into_alone-alone in
+    let back = subst (ComesBack parts.result.0) c.in-Err-Device.field-0-is
+    c.in-Err-Device.ensures.back in
+    record {
+      stores = tt;
+      known = tt;
+      refused = failed_within c.args.self parts.result.0 _ parts.ensures.parts
+          c.in-Err-Device.number c.in-Err-Device.stores.items back.1;
     }

@@ -1,6 +1,7 @@
-use Rattle.std.proofs.Common.{◌∙◌, ap, arith, refl}
+use Rattle.std.proofs.Common.{◌∙◌, ap, refl, sym}
 use Rattle.block_shelf.proofs.NewBufferSet.{same_count}
 use Rattle.block_shelf.specs.declared.starting.Unstarted.{Unstarted}
+use Rattle.relay_live.proofs.Parts.{room_for}
 use Rattle.relay_live.proofs.StartedRelay.{no_room_before}
 use Rattle.relay_live.proofs.shared.Shared.start.Goals as goal
 
@@ -23,30 +24,15 @@ returns-in_default g c =
     }
 
 -- there is room for as many locks
-pub over-requires : goal.over-requires
-over-requires g c =
-    let room = c.in-Ok.ensures.rooms in
+pub invariant_of-over : goal.invariant_of-over
+invariant_of-over g c =
     let started = c.in-Ok-start_with.ensures.started in
     record {
-      no_shards = room.no_shards;
-      no_buffers = room.no_buffers;
-      no_placed_groups = room.no_placed_groups;
-      shards_room = room.shards_room;
-      buffers_room = omega (
-        arith,
-        room.buffers_room,
-        started.opened.count,
-        started.from_stores.over.count,
-        c.len.ensures,
-        c.args.stopped.stores.ok,
-      );
-      placed_groups_room = omega (
-        arith,
-        room.placed_groups_room,
-        started.placed_group_count,
-        c.len-groups.ensures,
-        c.args.config.now.buffers.groups.ok,
-      );
+      room = room_for c.in-Ok.locks.rooms _ _ _ _ c.in-Ok.ensures.rooms
+          (started.opened.count ∙ started.from_stores.over.count
+          ∙ sym (c.len.ensures ∙ c.args.stopped.stores.ok.0))
+          (started.placed_group_count
+          ∙ sym (c.len-groups.ensures ∙ c.args.config.now.buffers.groups.ok.0));
     }
 
 -- a buffer for each store, and so for each of the configuration; it goes on from the stop of its

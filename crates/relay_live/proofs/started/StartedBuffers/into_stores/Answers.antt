@@ -1,4 +1,5 @@
-use Rattle.std.proofs.Common.{◌∙◌, ◌++◌, ap, arith, length}
+use Rattle.std.proofs.Common.{◌∙◌, ◌++◌, ap, length}
+use Rattle.relay_live.proofs.Rooms.{whole_fits}
 use Rattle.relay_live.specs.Starting.{stores_of}
 use Rattle.relay_live.proofs.started.StartedBuffers.into_stores.Goals as goal
 
@@ -11,11 +12,5 @@ returns g c =
 
 pub give_back-requires : goal.give_back-requires
 give_back-requires g c =
-    omega (
-      arith,
-      c.args.self.stores_room,
-      ap length c.args.self.none_back,
-      c.args.self.stores.ok,
-      ap length c.into_iter.ensures.rest,
-      c.args.self.buffers.ok,
-    )
+    whole_fits _ _ _ _ _ c.args.self.stores_room c.args.self.buffers.ok.0
+    (ap length c.into_iter.ensures.rest) (c.args.self.stores.ok.0 ∙ ap length c.args.self.none_back)

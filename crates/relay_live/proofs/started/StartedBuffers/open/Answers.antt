@@ -1,4 +1,4 @@
-use Rattle.std.proofs.Common.{◌∙◌, ◌++◌, ◌∷◌, [], Some, ap, arith, length, map, refl, subst, sym}
+use Rattle.std.proofs.Common.{◌∙◌, ◌++◌, ◌∷◌, [], Some, ap, length, map, refl, subst, sym}
 use Rattle.std.proofs.lemmas.List.{length-append, length-map}
 use Rattle.cyc_buffer.specs.Agreement.{store_of}
 use Rattle.cyc_buffer.specs.Head.{inside}
@@ -7,6 +7,8 @@ use Rattle.block_shelf.specs.Each.{AreEach}
 use Rattle.live_store.specs.Started.{unopened_in}
 use Rattle.live_store.specs.Steps.{buffer_of}
 use Rattle.relay_live.proofs.OpenedBuffers.{OpenSoFar, failed_here, opened_all, opened_more}
+use Rattle.relay_live.proofs.Rooms.{below_as, below_most, front_fits, more_fits, place_fits}
+use Rattle.relay_live.proofs.Rooms.{rest_fits, room_of, still_fits}
 use Rattle.relay_live.specs.Starting.{IsOpenedFrom, stores_of}
 use Rattle.relay_live.proofs.started.StartedBuffers.open.Goals as goal
 
@@ -18,20 +20,16 @@ loop-unopened-init g c = record {
     are = subst (λ opened. AreEach IsOpenedFrom [] opened) (sym c.args.self.none_opened)
         (none_each IsOpenedFrom);
   };
-  room = omega (arith, c.args.self.opened_room, c.args.self.buffers.ok);
+  room = room_of _ _ _ c.args.self.opened_room c.args.self.buffers.ok.0;
 }
 
 pub push_reserved-requires : goal.push_reserved-requires
 push_reserved-requires g c =
     let so_far = c.loop-unopened.invariant.so_far in
-    omega (
-      arith,
-      c.loop-unopened.invariant.room,
-      c.loop-unopened.opened.ok,
-      so_far.are.count,
-      count_through so_far.gone c.loop-unopened.left.rest.items c.args.self.buffers.items
-          c.in-Some.unopened c.next.new.self.rest.items so_far.all_is c.in-Some.ensures.cases.0,
-    )
+    place_fits _ _ _ _ _ (c.loop-unopened.opened.ok.0 ∙ so_far.are.count)
+    (count_through so_far.gone c.loop-unopened.left.rest.items c.args.self.buffers.items
+    c.in-Some.unopened c.next.new.self.rest.items so_far.all_is c.in-Some.ensures.cases.0)
+    c.loop-unopened.invariant.room
 
 pub loop-unopened-preserved : goal.loop-unopened-preserved
 loop-unopened-preserved g c =
@@ -55,7 +53,7 @@ loop-unopened-preserved g c =
             free = is.free;
             numbers = is.numbers;
           }));
-      room = omega (arith, c.push_reserved.ensures.capacity, c.loop-unopened.invariant.room);
+      room = still_fits _ _ _ c.loop-unopened.invariant.room c.push_reserved.ensures.capacity;
     }
 
 pub returns : goal.returns
@@ -63,7 +61,7 @@ returns g c =
     record {
       opened = opened_all c.args.self.buffers.items c.loop-unopened.left.rest.items
           c.loop-unopened.opened.items c.loop-unopened.invariant.so_far
-          (omega (arith, c.in_default.ensures.cases.0, c.loop-unopened.left.rest.ok));
+          (sym c.loop-unopened.left.rest.ok.0 ∙ c.in_default.ensures.cases.0);
       refusal = tt;
     }
 
@@ -71,57 +69,42 @@ returns g c =
 pub give_up-stores-requires : goal.give_up-stores-requires
 give_up-stores-requires g c =
     let so_far = c.loop-unopened.invariant.so_far in
-    omega (
-      arith,
-      c.args.self.stores_room,
-      c.args.self.buffers.ok,
-      ap length c.args.self.none_back,
-      c.args.self.stores.ok,
-      c.loop-unopened.opened.ok,
-      so_far.are.count,
-      count_through so_far.gone c.loop-unopened.left.rest.items c.args.self.buffers.items
-          c.in-Some.unopened c.next.new.self.rest.items so_far.all_is c.in-Some.ensures.cases.0,
-    )
+    front_fits _ _ _ _ _ c.args.self.stores_room c.args.self.buffers.ok.0
+    (count_through so_far.gone c.loop-unopened.left.rest.items c.args.self.buffers.items
+    c.in-Some.unopened c.next.new.self.rest.items so_far.all_is c.in-Some.ensures.cases.0)
+    _ _ (c.loop-unopened.opened.ok.0 ∙ so_far.are.count)
+    (c.args.self.stores.ok.0 ∙ ap length c.args.self.none_back)
 
 pub push_reserved-requires-in-Err : goal.push_reserved-requires-in-Err
 push_reserved-requires-in-Err g c =
     let so_far = c.loop-unopened.invariant.so_far in
-    omega (
-      arith,
-      c.args.self.stores_room,
-      c.args.self.buffers.ok,
-      ap length c.args.self.none_back,
-      c.give_up-stores.ensures.capacity,
-      c.give_up-stores.result.ok,
-      ap length c.give_up-stores.ensures.items,
-      length-append c.args.self.stores.items
-          (map (λ buffer. store_of (buffer_of buffer)) c.loop-unopened.opened.items),
-      length-map c.loop-unopened.opened.items (λ buffer. store_of (buffer_of buffer)),
-      so_far.are.count,
-      count_through so_far.gone c.loop-unopened.left.rest.items c.args.self.buffers.items
-          c.in-Some.unopened c.next.new.self.rest.items so_far.all_is c.in-Some.ensures.cases.0,
-    )
+    more_fits _ _ _ _ _ c.args.self.stores_room c.args.self.buffers.ok.0
+    (count_through so_far.gone c.loop-unopened.left.rest.items c.args.self.buffers.items
+    c.in-Some.unopened c.next.new.self.rest.items so_far.all_is c.in-Some.ensures.cases.0)
+    _ _ _ _
+    (c.give_up-stores.result.ok.0 ∙ ap length c.give_up-stores.ensures.items
+    ∙ length-append c.args.self.stores.items
+    (map (λ buffer. store_of (buffer_of buffer)) c.loop-unopened.opened.items))
+    (ap length c.args.self.none_back)
+    (length-map c.loop-unopened.opened.items (λ buffer. store_of (buffer_of buffer))
+    ∙ so_far.are.count)
+    c.give_up-stores.ensures.capacity
 
 pub give_back-requires : goal.give_back-requires
 give_back-requires g c =
     let so_far = c.loop-unopened.invariant.so_far in
-    omega (
-      arith,
-      c.args.self.stores_room,
-      c.args.self.buffers.ok,
-      ap length c.args.self.none_back,
-      c.push_reserved-in-Err.ensures.capacity,
-      c.push_reserved-in-Err.ensures.len,
-      c.give_up-stores.ensures.capacity,
-      c.give_up-stores.result.ok,
-      ap length c.give_up-stores.ensures.items,
-      length-append c.args.self.stores.items
-          (map (λ buffer. store_of (buffer_of buffer)) c.loop-unopened.opened.items),
-      length-map c.loop-unopened.opened.items (λ buffer. store_of (buffer_of buffer)),
-      so_far.are.count,
-      count_through so_far.gone c.loop-unopened.left.rest.items c.args.self.buffers.items
-          c.in-Some.unopened c.next.new.self.rest.items so_far.all_is c.in-Some.ensures.cases.0,
-    )
+    rest_fits _ _ _ _ _ c.args.self.stores_room c.args.self.buffers.ok.0
+    (count_through so_far.gone c.loop-unopened.left.rest.items c.args.self.buffers.items
+    c.in-Some.unopened c.next.new.self.rest.items so_far.all_is c.in-Some.ensures.cases.0)
+    _ _ _ _
+    (c.give_up-stores.result.ok.0 ∙ ap length c.give_up-stores.ensures.items
+    ∙ length-append c.args.self.stores.items
+    (map (λ buffer. store_of (buffer_of buffer)) c.loop-unopened.opened.items))
+    (ap length c.args.self.none_back)
+    (length-map c.loop-unopened.opened.items (λ buffer. store_of (buffer_of buffer))
+    ∙ so_far.are.count)
+    c.give_up-stores.ensures.capacity _ _ c.push_reserved-in-Err.ensures.len
+    c.push_reserved-in-Err.ensures.capacity
 
 -- the device of one fails, and all stores come back
 pub returns-in-Err : goal.returns-in-Err
@@ -136,17 +119,17 @@ returns-in-Err g c =
     let was = failed_here c.args.self.buffers.items c.loop-unopened.left.rest.items
     c.loop-unopened.opened.items c.loop-unopened.invariant.so_far c.in-Some.unopened more
     c.in-Some.ensures.cases.0 c.len-place.result c.in-Err.unopened c.give_back.result.items
-    (omega (arith, c.len-place.ensures, c.loop-unopened.opened.ok)) c.in-Err.ensures.failed
+    (c.len-place.ensures ∙ c.loop-unopened.opened.ok.0) c.in-Err.ensures.failed
     (c.give_back.ensures.items ∙ ap (λ items. items ++ stores_of more) stores) in
     record {
       opened = tt;
       refusal = record {
         device = refl;
         place = c.len-place.result;
-        within = omega (arith, was.0, length-map c.args.self.buffers.items unopened_in);
+        within = below_as _ _ _ was.0 (sym (length-map c.args.self.buffers.items unopened_in));
         told = ap Some
             (c.number_of.ensures
-            (omega (arith, was.0, c.args.self.few, c.args.self.buffers.ok)));
+            (below_most _ _ _ _ was.0 c.args.self.buffers.ok.0 c.args.self.few));
         left = was.1;
       };
     }
