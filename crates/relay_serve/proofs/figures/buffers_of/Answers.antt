@@ -1,6 +1,7 @@
-use Rattle.std.proofs.Common.{◌∙◌, ◌+◌, ◌≤◌, ap, arith, length, map, subst, sym}
+use Rattle.std.proofs.Common.{◌∙◌, ◌+◌, ◌≤◌, ap, length, map, subst, sym}
 use Rattle.std.proofs.lemmas.List.{take_all}
 use Rattle.relay_report.specs.declared.figures.NamedBuffer.{NamedBuffer}
+use Rattle.relay_live.proofs.Rooms.{index_fits_as, no_more, room_of}
 use Rattle.relay_serve.proofs.Rows.{longer, one_more_made}
 use Rattle.relay_serve.proofs.figures.buffers_of.Goals as goal
 
@@ -8,12 +9,8 @@ pub loop-number-init : goal.loop-number-init
 loop-number-init g c =
     let none = c.in_ok-named.ensures.items in
     record {
-      room = omega (
-        arith,
-        c.in_ok-named.ensures.capacity,
-        c.len.ensures,
-        c.args.config.now.buffers.buffers.ok,
-      );
+      room = room_of _ _ _ c.in_ok-named.ensures.capacity
+          (c.len.ensures ∙ c.args.config.now.buffers.buffers.ok.0);
       count = ap length none;
       names = ap (map (λ one. one.name)) none;
     }
@@ -21,14 +18,9 @@ loop-number-init g c =
 -- there is room for one more,
 pub push_reserved-requires : goal.push_reserved-requires
 push_reserved-requires g c =
-    omega (
-      arith,
-      c.loop-number.invariant.room,
-      c.loop-number.invariant.count,
-      c.loop-number-test.true,
-      ap length c.deref-buffer-items.ensures.value,
-      c.loop-number.named.ok,
-    )
+    index_fits_as _ _ _ _ _ (c.loop-number.named.ok.0 ∙ c.loop-number.invariant.count)
+    c.loop-number-test.true (ap length c.deref-buffer-items.ensures.value)
+    c.loop-number.invariant.room
 
 -- which has the name of its buffer
 pub loop-number-preserved : goal.loop-number-preserved
@@ -56,8 +48,5 @@ pub returns : goal.returns
 returns g c =
     c.loop-number.invariant.names
     ∙ ap (map (λ buffer. buffer.name))
-    (take_all c.loop-number.number c.args.config.now.buffers.buffers.items (omega (
-      arith,
-      c.loop-number-test.false,
-      ap length c.deref-buffer-items.ensures.value,
-    )))
+    (take_all c.loop-number.number c.args.config.now.buffers.buffers.items
+    (no_more _ _ _ (sym (ap length c.deref-buffer-items.ensures.value)) c.loop-number-test.false))

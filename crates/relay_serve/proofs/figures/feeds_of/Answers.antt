@@ -4,6 +4,7 @@ use Rattle.std.specs.Prelude.{slice_get}
 use Rattle.article_verdict.proofs.FewFeeds.{few_feeds}
 use Rattle.relay_report.specs.Figures.{name_of}
 use Rattle.relay_report.specs.declared.figures.NamedFeed.{NamedFeed}
+use Rattle.relay_live.proofs.Rooms.{index_fits_as, no_more, room_of}
 use Rattle.relay_serve.proofs.Rows.{longer, one_more_made}
 use Rattle.relay_serve.proofs.figures.feeds_of.Goals as goal
 
@@ -11,12 +12,8 @@ pub loop-number-init : goal.loop-number-init
 loop-number-init g c =
     let none = c.in_ok-named.ensures.items in
     record {
-      room = omega (
-        arith,
-        c.in_ok-named.ensures.capacity,
-        c.len.ensures,
-        c.args.config.now.relay.feeds.ok,
-      );
+      room = room_of _ _ _ c.in_ok-named.ensures.capacity
+          (c.len.ensures ∙ c.args.config.now.relay.feeds.ok.0);
       count = ap length none;
       names = ap (map (λ one. one.peer)) none;
     }
@@ -34,14 +31,9 @@ overflow_cast-number g c =
 -- there is room for one more,
 pub push_reserved-requires : goal.push_reserved-requires
 push_reserved-requires g c =
-    omega (
-      arith,
-      c.loop-number.invariant.room,
-      c.loop-number.invariant.count,
-      c.loop-number-test.true,
-      ap length c.deref-feed-items.ensures.value,
-      c.loop-number.named.ok,
-    )
+    index_fits_as _ _ _ _ _ (c.loop-number.named.ok.0 ∙ c.loop-number.invariant.count)
+    c.loop-number-test.true (ap length c.deref-feed-items.ensures.value)
+    c.loop-number.invariant.room
 
 -- which has the name of its feed's peer
 pub loop-number-preserved : goal.loop-number-preserved
@@ -73,8 +65,5 @@ pub returns : goal.returns
 returns g c =
     c.loop-number.invariant.names
     ∙ ap (map (λ feed. name_of (slice_get c.args.config.now.relay.peers.items feed.peer)))
-    (take_all c.loop-number.number c.args.config.now.relay.feeds.items (omega (
-      arith,
-      c.loop-number-test.false,
-      ap length c.deref-feed-items.ensures.value,
-    )))
+    (take_all c.loop-number.number c.args.config.now.relay.feeds.items
+    (no_more _ _ _ (sym (ap length c.deref-feed-items.ensures.value)) c.loop-number-test.false))

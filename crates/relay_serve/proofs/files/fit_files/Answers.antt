@@ -1,8 +1,9 @@
-use Rattle.std.proofs.Common.{◌∙◌, ap, arith, length, map}
+use Rattle.std.proofs.Common.{◌∙◌, ◌+◌, ap, arith, length, map, sym}
 use Rattle.std.proofs.lemmas.List.{take_all}
 use Rattle.std.proofs.lemmas.Result.{err_from_is_err_and}
 use Rattle.run_blocks.specs.Store.{count_of}
 use Rattle.relay_serve.proofs.FileFaults.{fault_at}
+use Rattle.relay_live.proofs.Rooms.{index_fits_as, no_more, room_of, still_fits}
 use Rattle.relay_serve.proofs.Rows.{longer, one_more_made}
 use Rattle.relay_serve.proofs.files.fit_files.Goals as goal
 
@@ -10,12 +11,8 @@ pub loop-buffer-init : goal.loop-buffer-init
 loop-buffer-init c =
     let none = c.in_ok-stores.ensures.items in
     record {
-      room = omega (
-        arith,
-        c.in_ok-stores.ensures.capacity,
-        c.len.ensures,
-        c.args.settings.now.buffers.ok,
-      );
+      room = room_of _ _ _ c.in_ok-stores.ensures.capacity
+          (c.len.ensures ∙ c.args.settings.now.buffers.ok.0);
       count = ap length none;
       files = omega (arith, c.into_iter-rest.ensures.len, c.requires);
       blocks = ap (map count_of) none;
@@ -45,14 +42,9 @@ returns-in_err-store-clause-fault c =
 -- and room for one store more
 pub push_reserved-requires : goal.push_reserved-requires
 push_reserved-requires c =
-    omega (
-      arith,
-      c.loop-buffer.invariant.room,
-      c.loop-buffer.invariant.count,
-      c.loop-buffer-test.true,
-      ap length c.deref-buffer-items.ensures.value,
-      c.loop-buffer.stores.ok,
-    )
+    index_fits_as _ _ _ _ _ (c.loop-buffer.stores.ok.0 ∙ c.loop-buffer.invariant.count)
+    c.loop-buffer-test.true (ap length c.deref-buffer-items.ensures.value)
+    c.loop-buffer.invariant.room
 
 pub loop-buffer-preserved : goal.loop-buffer-preserved
 loop-buffer-preserved c =
@@ -61,8 +53,9 @@ loop-buffer-preserved c =
     let before = c.loop-buffer.invariant in
     let pushed = c.push_reserved.ensures in
     record {
-      room = omega (arith, before.room, pushed.capacity);
-      count = omega (arith, longer count_of old new c.in_ok-store.store pushed.items, before.count);
+      room = still_fits _ _ _ before.room pushed.capacity;
+      count = longer count_of old new c.in_ok-store.store pushed.items
+          ∙ ap (λ n. n + 1) before.count;
       files = omega (arith, before.files, c.in-Some.ensures.len);
       blocks = one_more_made count_of old new c.in_ok-store.store pushed.items
           (λ buffer. buffer.blocks)
@@ -76,8 +69,5 @@ pub returns-clause-blocks : goal.returns-clause-blocks
 returns-clause-blocks c =
     let all = c.args.settings.now.buffers.items in
     c.loop-buffer.invariant.blocks
-    ∙ ap (map (λ buffer. buffer.blocks)) (take_all c.loop-buffer.buffer-index all (omega (
-      arith,
-      c.loop-buffer-test.false,
-      ap length c.deref-buffer-items.ensures.value,
-    )))
+    ∙ ap (map (λ buffer. buffer.blocks)) (take_all c.loop-buffer.buffer-index all
+    (no_more _ _ _ (sym (ap length c.deref-buffer-items.ensures.value)) c.loop-buffer-test.false))

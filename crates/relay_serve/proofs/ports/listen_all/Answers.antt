@@ -1,4 +1,4 @@
-use Rattle.std.proofs.Common.{◌≡◌, ◌∙◌, ◌++◌, ◌<◌, ◌≤◌, ◌+◌, ℕ, List, length, map}
+use Rattle.std.proofs.Common.{◌≡◌, ◌∙◌, ◌++◌, ◌≤◌, ◌+◌, ℕ, List, length, map}
 use Rattle.std.proofs.Common.{drop, get_or, refl, ap, sym, subst, arith}
 use Rattle.std.proofs.lemmas.Bool.{eq-eqb, ne_eqb}
 use Rattle.std.proofs.lemmas.Result.{err_from_is_err_and}
@@ -7,6 +7,7 @@ use Rattle.relay_conf.specs.declared.relay.Peer.{Peer}
 use Rattle.relay_live.specs.declared.running.PeerSource.{PeerSource}
 use Rattle.relay_serve.specs.Ports.{IsPortFault, ends_from}
 use Rattle.relay_serve.proofs.PeerSources.{after_peer, drop_peer, of_all, without_port}
+use Rattle.relay_live.proofs.Rooms.{below_as, no_more}
 use Rattle.relay_serve.proofs.ports.listen_all.Goals as goal
 
 pub returns-in-Err-clause-fault : goal.returns-in-Err-clause-fault
@@ -14,8 +15,8 @@ returns-in-Err-clause-fault g c =
     let peers = c.args.relay.now.peers.items in
     let peer = c.peer-item.result in
     let k = c.loop-number.number in
-    let within : k < length peers =
-    omega (arith, c.loop-number-test.true, ap length c.deref-peer-items.ensures.value) in
+    let within = below_as _ _ _ c.loop-number-test.true
+    (ap length c.deref-peer-items.ensures.value) in
     let same : peer ≡ get_or peers k peer =
     c.peer-item.is
     ∙ ap (λ (all : List Peer). get_or all k peer) c.deref-peer-items.ensures.value in
@@ -28,8 +29,8 @@ returns-in_err-add_peer_sources-in-Ok-clause-fault g c =
     let peers = c.args.relay.now.peers.items in
     let peer = c.peer-item.result in
     let k = c.loop-number.number in
-    let within : k < length peers =
-    omega (arith, c.loop-number-test.true, ap length c.deref-peer-items.ensures.value) in
+    let within = below_as _ _ _ c.loop-number-test.true
+    (ap length c.deref-peer-items.ensures.value) in
     let same : peer ≡ get_or peers k peer =
     c.peer-item.is
     ∙ ap (λ (all : List Peer). get_or all k peer) c.deref-peer-items.ensures.value in
@@ -45,8 +46,8 @@ loop-number-preserved-then-peer-eq0 g c =
     let k = c.loop-number.number in
     let made : List ℕ =
     map (λ (peer_source : PeerSource Port). peer_source.peer) c.loop-number.peer_sources.items in
-    let within : k < length peers =
-    omega (arith, c.loop-number-test.true, ap length c.deref-peer-items.ensures.value) in
+    let within = below_as _ _ _ c.loop-number-test.true
+    (ap length c.deref-peer-items.ensures.value) in
     let same : peer ≡ get_or peers k peer =
     c.peer-item.is
     ∙ ap (λ (all : List Peer). get_or all k peer) c.deref-peer-items.ensures.value in
@@ -66,8 +67,8 @@ loop-number-preserved g c =
     let peer = c.peer-item.result in
     let k = c.loop-number.number in
     let peer_of : PeerSource Port → ℕ = λ peer_source. peer_source.peer in
-    let within : k < length peers =
-    omega (arith, c.loop-number-test.true, ap length c.deref-peer-items.ensures.value) in
+    let within = below_as _ _ _ c.loop-number-test.true
+    (ap length c.deref-peer-items.ensures.value) in
     let same : peer ≡ get_or peers k peer =
     c.peer-item.is
     ∙ ap (λ (all : List Peer). get_or all k peer) c.deref-peer-items.ensures.value in
@@ -93,5 +94,5 @@ returns-clause-peers g c =
     let peers = c.args.relay.now.peers.items in
     of_all (map (λ (one : PeerSource Port). one.peer) c.loop-number.peer_sources.items)
     (ends_from 0 peers) c.loop-number.number peers
-    (omega (arith, c.loop-number-test.false, ap length c.deref-peer-items.ensures.value))
+    (no_more _ _ _ (sym (ap length c.deref-peer-items.ensures.value)) c.loop-number-test.false)
     c.loop-number.invariant.peers

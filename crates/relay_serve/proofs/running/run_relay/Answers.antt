@@ -38,3 +38,14 @@ returns-in-Ok g c =
     finished_gives c.args.config.now c.in_ok-shared.shared c.args.beginning.stores.items
     c.args.beginning.origin (map (λ (one : PeerSource Port). one.peer) c.args.peer_sources.items)
     c.in-Ok.counted c.finish.result c.in-Ok.ensures.ran c.finish.ensures
+
+-- there is a buffer for each of the configuration,
+pub finish-requires-clause-buffers : goal.finish-requires-clause-buffers
+finish-requires-clause-buffers g c = c.in_ok-shared.ensures.buffers
+
+pub attended-counted-requires-clause-buffers : goal.attended-counted-requires-clause-buffers
+attended-counted-requires-clause-buffers g c κs within = c.in_ok-shared.ensures.buffers
+
+-- and as many posts were counted as jobs
+pub finish-requires-clause-posted : goal.finish-requires-clause-posted
+finish-requires-clause-posted g c = c.in-Ok.ensures.ran.posted

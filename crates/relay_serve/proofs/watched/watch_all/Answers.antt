@@ -1,6 +1,7 @@
-use Rattle.std.proofs.Common.{◌++◌, ap, arith, length, map}
+use Rattle.std.proofs.Common.{◌∙◌, ◌++◌, ap, length, map, sym}
 use Rattle.std.proofs.lemmas.List.{nil_from_length}
 use Rattle.std.specs.Vec.Iter.{into_iter_items}
+use Rattle.relay_live.proofs.Rooms.{next_fits, none_yet, one_came, room_of, still_fits}
 use Rattle.relay_serve.proofs.Rows.{longer, none_left, one_more_read}
 use Rattle.relay_serve.specs.Watched.{store_in}
 use Rattle.relay_serve.proofs.watched.watch_all.Goals as goal
@@ -10,21 +11,16 @@ loop-store-init g c =
     let gives = c.into_iter-store-iterator.ensures.into_iter_gives in
     let none = c.in_ok-all.ensures.items in
     record {
-      count = omega (arith, gives.1, ap length none);
-      room = omega (arith, c.in_ok-all.ensures.capacity, c.len.ensures, c.args.stores.ok);
+      count = none_yet _ _ _ (ap length none) (gives.1 ∙ c.args.stores.ok.0);
+      room = room_of _ _ _ c.in_ok-all.ensures.capacity (c.len.ensures ∙ c.args.stores.ok.0);
       stores = λ i. map store_in (none i) ++ gives.0 i;
     }
 
 -- there is room for one more
 pub push_reserved-requires : goal.push_reserved-requires
 push_reserved-requires g c =
-    omega (
-      arith,
-      c.loop-store.invariant.count,
-      c.loop-store.invariant.room,
-      c.in-Some.ensures.steps.1,
-      c.loop-store.all.ok,
-    )
+    next_fits _ _ _ _ _ _ c.loop-store.all.ok.0 c.in-Some.ensures.steps.1
+    c.loop-store.invariant.count c.loop-store.invariant.room
 
 -- one store more
 pub loop-store-preserved : goal.loop-store-preserved
@@ -35,13 +31,9 @@ loop-store-preserved g c =
     let steps = c.in-Some.ensures.steps in
     let pushed = c.push_reserved.ensures in
     record {
-      count = omega (
-        arith,
-        longer store_in old new c.new.result pushed.items,
-        before.count,
-        steps.1,
-      );
-      room = omega (arith, before.room, pushed.capacity);
+      count = one_came _ _ _ _ _ (longer store_in old new c.new.result pushed.items) steps.1
+          before.count;
+      room = still_fits _ _ _ before.room pushed.capacity;
       stores = one_more_read store_in old new c.new.result pushed.items c.args.stores.items
           (into_iter_items c.loop-store.store-iterator) (into_iter_items c.next.new.self)
           c.in-Some.store steps.0 c.new.ensures before.stores;
@@ -55,6 +47,6 @@ returns g c =
       stores = none_left (map store_in c.loop-store.all.items) (into_iter_items rest)
           c.args.stores.items
           (nil_from_length rest.rest.items
-          (omega (arith, c.in-None.ensures.steps.0, rest.rest.ok)))
+          (sym rest.rest.ok.0 ∙ c.in-None.ensures.steps.0))
           c.loop-store.invariant.stores;
     }
