@@ -1,1 +1,1 @@
-mod Made
+pub mod Made

@@ -1,7 +1,7 @@
 use Rattle.std.proofs.Common.{◌∙◌, arith}
 use Rattle.relay_conf.specs.declared.cycbuff.BufferConf.{BufferConf}
 use Rattle.relay_report.specs.declared.figures.NamedBuffer.{NamedBuffer}
-use Rattle.relay_rows.proofs.Named.{all_made, one_more}
+use Rattle.thread_rows.proofs.Made.{all_made, one_more}
 use Rattle.relay_rows.proofs.drills.server.buffers_of.Goals as goal
 
 pub loop-buffer-preserved : goal.loop-buffer-preserved

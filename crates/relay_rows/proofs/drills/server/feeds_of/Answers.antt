@@ -3,7 +3,7 @@ use Rattle.std.specs.Prelude.{slice_get}
 use Rattle.relay_conf.specs.declared.relay.Feed.{Feed}
 use Rattle.relay_report.specs.Figures.{name_of}
 use Rattle.relay_report.specs.declared.figures.NamedFeed.{NamedFeed}
-use Rattle.relay_rows.proofs.Named.{all_made, one_more}
+use Rattle.thread_rows.proofs.Made.{all_made, one_more}
 use Rattle.relay_rows.proofs.drills.server.feeds_of.Goals as goal
 
 pub loop-feed-preserved : goal.loop-feed-preserved
