@@ -6,4 +6,5 @@ pub mod Pieces
 pub mod Plays
 pub mod Prints
 pub mod Scripts
+pub mod Stores
 pub mod Todos

@@ -1,6 +1,6 @@
 -- The pieces of octets: more turns than octets change nothing.
 use Rattle.std.proofs.Common.{◌≡◌, ℕ, zero, suc, ◌<◌, ◌≤◌, List, [], ◌∷◌, length, take, drop, refl}
-use Rattle.std.proofs.Common.{ap, arith, length-drop, min, ◌∙◌}
+use Rattle.std.proofs.Common.{ap, arith, false, length-drop, min, ◌+◌, ◌==◌, ◌∙◌}
 use Rattle.std.proofs.lemmas.List.{take_min, drop_min}
 use Rattle.relay_drill.specs.Todo.{pieces_in}
 
@@ -36,6 +36,17 @@ next_pieces size mid rest piece after some h m p a =
     let front : piece ≡ take size rest = p ∙ ap (λ n. take n rest) m ∙ take_min size rest in
     let back : after ≡ drop size rest = a ∙ ap (λ n. drop n rest) m ∙ drop_min size rest in
     rw (front, back) (next_piece size rest some h)
+
+-- Where octets are left they are some.
+pub some_left : (octets : List ℕ) → false ≡ (length octets == 0) → 0 < length octets
+some_left [] e = absurd (cc e)
+some_left (c ∷ cs) e = omega arith
+
+-- Behind a cut at the size or at the end are fewer.
+pub fewer_behind : (size mid : ℕ) (rest after : List ℕ) → 0 < size → 0 < length rest
+    → mid ≡ min size (length rest) → length after + mid ≡ length rest
+    → length after < length rest
+fewer_behind size mid rest after some h m p = omega (arith, m, p)
 
 -- Octets of no length are none.
 pub no_octets : (octets : List ℕ) → length octets ≡ 0 → octets ≡ []

@@ -1,5 +1,6 @@
 -- What the reader of a script answers (docs/PROTOCOL.md, Program).
 use Rattle.std.specs.Prelude.{◌≡◌, ℕ, List, map, Option, None, Some, IfSome, Result, Ok, Err}
+use Rattle.std.specs.Prelude.{[], ◌∷◌, bytes_eq, if◌then◌else◌}
 use Rattle.std.specs.declared.alloc.AllocError.{AllocError}
 use Rattle.std.specs.declared.io.ErrorKind.{ErrorKind}
 use Rattle.std.specs.declared.io.ErrorKind.TheVariants.{OutOfMemory}
@@ -30,6 +31,12 @@ keyword_view keywords.Expire = script.EXPIRE
 keyword_view keywords.Fail = script.FAIL
 keyword_view keywords.Restart = script.RESTART
 keyword_view keywords.Report = script.REPORT
+
+-- the keyword that is spelled so, of these
+abbrev pub keyword_among : List (List ℕ × script.Keyword) → List ℕ → Option script.Keyword
+keyword_among [] word = None
+keyword_among (one ∷ more) word =
+    if bytes_eq word one.0 then Some one.1 else keyword_among more word
 
 -- a line as the format has it
 abbrev pub line_view : Line → script.Line

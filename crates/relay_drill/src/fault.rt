@@ -11,7 +11,7 @@ use std::fmt::{Display, Formatter};
 
 /// Why a drill ended before its script did (docs/PROTOCOL.md, The call `drill`). Its text is what
 /// the program prints.
-#[derive(Debug, Drop)]
+#[derive(Drop)]
 pub enum DrillError {
     /// Memory was refused outside an event. What was written before stands.
     Memory,
@@ -31,14 +31,21 @@ impl Display for DrillError {
     ghost output = { λ error. Some (text_of error) };
 
     fn fmt<W: fmt::Write>(&self, formatter: &mut Formatter<W>) -> fmt::Result {
-        match self {
-            DrillError::Memory => formatter.write_str("out of memory"),
-            DrillError::Line(line) => write!(formatter, "script:{line}: fault"),
-            DrillError::Unreadable => formatter.write_str("script: unreadable"),
-            DrillError::Unwritten => formatter.write_str("stdout: unwritten"),
-            DrillError::Unseeded => formatter.write_str("relay: no random numbers to be had"),
-            DrillError::Device => formatter.write_str("relay: a device failed"),
-        }
+        let told = match self {
+            DrillError::Line(line) => return write!(formatter, "script:{line}: fault"),
+            DrillError::Memory => "out of memory",
+            DrillError::Unreadable => "script: unreadable",
+            DrillError::Unwritten => "stdout: unwritten",
+            DrillError::Unseeded => "relay: no random numbers to be had",
+            DrillError::Device => "relay: a device failed",
+        };
+        formatter.write_str(told)
+    }
+}
+
+impl fmt::Debug for DrillError {
+    fn fmt<W: fmt::Write>(&self, formatter: &mut Formatter<W>) -> fmt::Result {
+        Display::fmt(self, formatter)
     }
 }
 

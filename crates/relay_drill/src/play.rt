@@ -21,8 +21,11 @@ use relay_report::put;
 use std::alloc::Global;
 use std::io::Write;
 
-/// The relay over blocks in memory, any call of which can be made to fail.
-pub type Relay = System<FailAt<MemoryBlocks>>;
+/// Blocks in memory, any call of which can be made to fail.
+pub type Store = FailAt<MemoryBlocks>;
+
+/// The relay over such blocks.
+pub type Relay = System<Store>;
 
 /// How a drill stands.
 #[derive(Drop)]

@@ -11,7 +11,8 @@ ghost use Rattle.relay_drill.specs.Script.{rounds_line, script_of, send_line, sp
 ghost use Rattle.relay_drill.specs.Script.{turn_line, write_line};
 ghost use Rattle.relay_drill.specs.Script as terms;
 ghost use Rattle.relay_drill.specs.Words as words;
-ghost use Rattle.relay_drill.specs.Fault.{LineGives, ScriptGives, keyword_view, line_view};
+ghost use Rattle.relay_drill.specs.Fault.{LineGives, ScriptGives, keyword_among, keyword_view};
+ghost use Rattle.relay_drill.specs.Fault.{line_view};
 
 use crate::fault::DrillError;
 use crate::line::{Line, PieceSize};
@@ -42,6 +43,7 @@ pub fn read_script(alloc: Global, config: &Config, text: &[u8]) -> Result<Vec<Li
 }
 
 /// The first words of lines.
+#[derive(Clone, Copy)]
 enum Keyword {
     Open,
     Send,
@@ -56,6 +58,22 @@ enum Keyword {
     Restart,
     Report,
 }
+
+/// How each keyword is spelled.
+const KEYWORDS: [(&[u8], Keyword); 12] = [
+    (b"open", Keyword::Open),
+    (b"send", Keyword::Send),
+    (b"raw", Keyword::Raw),
+    (b"split", Keyword::Split),
+    (b"turn", Keyword::Turn),
+    (b"write", Keyword::Write),
+    (b"rounds", Keyword::Rounds),
+    (b"break", Keyword::Break),
+    (b"expire", Keyword::Expire),
+    (b"fail", Keyword::Fail),
+    (b"restart", Keyword::Restart),
+    (b"report", Keyword::Report),
+];
 
 /// Reads a line, or answers `None` where it is bad.
 fn read_line(alloc: Global, config: &Config, line: &[u8]) -> Result<Option<Line>, AllocError>
@@ -83,41 +101,18 @@ fn read_line(alloc: Global, config: &Config, line: &[u8]) -> Result<Option<Line>
 fn keyword_of(word: &[u8]) -> Option<Keyword>
     ensures { option_map keyword_view result ≡ terms.keyword_of word.now }
 {
-    if is(word, b"open") {
-        return Some(Keyword::Open);
-    }
-    if is(word, b"send") {
-        return Some(Keyword::Send);
-    }
-    if is(word, b"raw") {
-        return Some(Keyword::Raw);
-    }
-    if is(word, b"split") {
-        return Some(Keyword::Split);
-    }
-    if is(word, b"turn") {
-        return Some(Keyword::Turn);
-    }
-    if is(word, b"write") {
-        return Some(Keyword::Write);
-    }
-    if is(word, b"rounds") {
-        return Some(Keyword::Rounds);
-    }
-    if is(word, b"break") {
-        return Some(Keyword::Break);
-    }
-    if is(word, b"expire") {
-        return Some(Keyword::Expire);
-    }
-    if is(word, b"fail") {
-        return Some(Keyword::Fail);
-    }
-    if is(word, b"restart") {
-        return Some(Keyword::Restart);
-    }
-    if is(word, b"report") {
-        return Some(Keyword::Report);
+    keyword_among(&KEYWORDS, word)
+}
+
+/// The keyword that is spelled so, of these.
+fn keyword_among(spelled: &[(&[u8], Keyword)], word: &[u8]) -> Option<Keyword>
+    ensures { option_map keyword_view result
+        ≡ keyword_among (map (λ one. (one.0.now, keyword_view one.1)) spelled.now) word.now }
+{
+    for (spelling, keyword) in spelled {
+        if is(word, spelling) {
+            return Some(*keyword);
+        }
     }
     None
 }
@@ -128,7 +123,8 @@ fn open(peers: &[Peer], rest: Option<&[u8]>) -> Option<Line>
         (open_line (map (λ peer. peer.name) peers.now)) (two_of (parts_after 32 rest.entry)) }
 {
     let (session, peer) = two_parts(rest, b' ')?;
-    Some(Line::Open(number(session)?, peer_of(peers, peer)?))
+    let (session, peer) = number(session).zip(peer_of(peers, peer))?;
+    Some(Line::Open(session, peer))
 }
 
 /// `send S TEXT`, by what follows the keyword: the text is all that follows the space after S.
@@ -198,7 +194,7 @@ fn two_numbers(least: u64, most: u64, rest: Option<&[u8]>) -> Option<(u64, u64)>
         (words.number two.1)) (two_of (parts_after 32 rest.entry)) }
 {
     let (first, second) = two_parts(rest, b' ')?;
-    Some((number_within(least, most, first)?, number(second)?))
+    number_within(least, most, first).zip(number(second))
 }
 
 /// `turn S MOMENT`, by what follows the keyword.
@@ -251,10 +247,8 @@ fn fail(buffers: &[BufferConf], rest: Option<&[u8]>) -> Option<Line>
         (fail_line (map (λ buffer. buffer.name) buffers.now)) (two_of (parts_after 32 rest.entry)) }
 {
     let (buffer, call) = two_parts(rest, b' ')?;
-    Some(Line::Fail(
-        buffer_of(buffers, buffer)?,
-        number_within(1, 1_000_000, call)?,
-    ))
+    let (buffer, call) = buffer_of(buffers, buffer).zip(number_within(1, 1_000_000, call))?;
+    Some(Line::Fail(buffer, call))
 }
 
 /// `restart` and `report`, by what follows the keyword: nothing.

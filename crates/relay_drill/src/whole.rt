@@ -7,7 +7,7 @@ ghost use Rattle.relay_drill.specs.Stores.{AreStoresOf};
 ghost use Rattle.relay_drill.specs.declared.whole.Unread.TheVariants as reasons;
 
 use crate::fault::DrillError;
-use crate::play::play;
+use crate::play::{Store, play};
 use crate::script::read_script;
 use block_shelf::BeginError;
 use cyc_block::{BlockStore, FailAt, MemoryBlocks};
@@ -82,7 +82,7 @@ pub fn drill_failing<R: Read, W: Write>(
 }
 
 /// Why a drill ends whose relay doesn't begin.
-fn refused<S: BlockStore + Drop>(error: BeginError<S>) -> DrillError
+fn refused(error: BeginError<Store>) -> DrillError
     ensures { result ≡ told_as error }
 {
     match error {
@@ -102,17 +102,14 @@ fn unbegun(kind: ErrorKind) -> DrillError
 }
 
 /// A store in memory for each of the buffers, of its blocks, of which this call is to fail.
-fn new_stores(
-    alloc: Global,
-    buffers: &[BufferConf],
-    failing: u64,
-) -> Result<Vec<FailAt<MemoryBlocks>>, AllocError>
+fn new_stores(alloc: Global, buffers: &[BufferConf], failing: u64) -> Result<Vec<Store>, AllocError>
     ensures { IfOk result (λ stores.
         AreStoresOf ⟦<FailAt<MemoryBlocks> as BlockStore>⟧ buffers.now stores.items) }
 {
     let mut stores = Vec::with_capacity(alloc, buffers.len())?;
     for buffer in buffers {
-        stores.push(FailAt::new(MemoryBlocks::new(alloc, buffer.blocks)?, failing))?;
+        let blocks = MemoryBlocks::new(alloc, buffer.blocks)?;
+        stores.push_reserved(FailAt::new(blocks, failing));
     }
     Ok(stores)
 }

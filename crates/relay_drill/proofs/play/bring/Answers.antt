@@ -1,33 +1,34 @@
-use Rattle.std.proofs.Common.{◌<◌, length, arith, rules}
+use Rattle.std.proofs.Common.{length, rules}
 use Rattle.relay_drill.specs.Todo.{bring_each, pieces_in}
 use Rattle.relay_drill.proofs.Courses.{fails_next, goes_next, goes_none, goes_to, wants_memory}
+use Rattle.relay_drill.proofs.Pieces.{fewer_behind, some_left}
 use Rattle.relay_drill.proofs.Todos.{piece_last, piece_next}
 use Rattle.relay_drill.proofs.play.bring.Goals as goal
 
 pub loop-rest-init : goal.loop-rest-init
 loop-rest-init g c = record {
-  within = omega arith;
+  some = c.requires;
   goes = λ more. goes_none (bring_each c.args.session
       (pieces_in (length c.args.octets.now) c.args.size c.args.octets.now) more) c.args.relay.now _;
 }
 
 pub loop-rest-smaller : goal.loop-rest-smaller
 loop-rest-smaller g c =
-    let some : 0 < length c.loop-rest.rest.now = search rules in
-    let size : 0 < c.args.size = c.requires (omega (arith, c.loop-rest.invariant.within)) in
-    omega (arith, c.split_at.ensures.back_len, c.min.ensures)
+    let some = some_left c.loop-rest.rest.now c.loop-rest-test.ensures in
+    fewer_behind c.args.size c.min.result c.loop-rest.rest.now c.split_at.result.1.now
+    (c.loop-rest.invariant.some some) some c.min.ensures c.split_at.ensures.back_len
 
 pub loop-rest-preserved : goal.loop-rest-preserved
 loop-rest-preserved g c =
-    let some : 0 < length c.loop-rest.rest.now = search rules in
-    let size : 0 < c.args.size = c.requires (omega (arith, c.loop-rest.invariant.within)) in
+    let some = some_left c.loop-rest.rest.now c.loop-rest-test.ensures in
+    let size = c.loop-rest.invariant.some some in
     record {
-      within = omega (arith, c.split_at.ensures.back_len, c.loop-rest.invariant.within);
+      some = λ left. size;
       goes = λ more.
           goes_next _ _ _ _ _ _ _ _ _ _
           (rw (← c.in_ok-piece.ensures) at (piece_next c.args.session c.args.size c.min.result
           c.loop-rest.rest.now c.split_at.result.0.now c.split_at.result.1.now more size some
-          (search rules) c.split_at.ensures.front c.split_at.ensures.back))
+          c.min.ensures c.split_at.ensures.front c.split_at.ensures.back))
           (c.loop-rest.invariant.goes more) (c.in_ok-perform.ensures _);
     }
 
@@ -44,11 +45,11 @@ returns-in_err-piece g c = λ more.
 
 pub returns-in_err-perform : goal.returns-in_err-perform
 returns-in_err-perform g c = λ more.
-    let some : 0 < length c.loop-rest.rest.now = search rules in
-    let size : 0 < c.args.size = c.requires (omega (arith, c.loop-rest.invariant.within)) in
+    let some = some_left c.loop-rest.rest.now c.loop-rest-test.ensures in
+    let size = c.loop-rest.invariant.some some in
     fails_next _ c.from_residual-in_err-perform.result _ _ _ more _ _ _ _ _ _
     c.from_residual-in_err-perform.ensures.0 c.from_residual-in_err-perform.ensures.1
     (rw (← c.in_ok-piece.ensures) at (piece_next c.args.session c.args.size c.min.result
     c.loop-rest.rest.now c.split_at.result.0.now c.split_at.result.1.now more size some
-    (search rules) c.split_at.ensures.front c.split_at.ensures.back))
+    c.min.ensures c.split_at.ensures.front c.split_at.ensures.back))
     (c.loop-rest.invariant.goes more) (c.in_err-perform.ensures _)

@@ -1,4 +1,5 @@
-use Rattle.std.proofs.Common.{take}
+use Rattle.std.proofs.Common.{◌≡◌, ◌≤◌, length, take}
+use Rattle.std.specs.Prelude.{vec_capacity}
 use Rattle.cyc_block.specs.contracts.failing.FailAtBlockStore.TheImpl as failing
 use Rattle.cyc_block.specs.contracts.memory.MemoryBlocks.{the_row}
 use Rattle.cyc_block.specs.contracts.memory.MemoryBlocksBlockStore.TheImpl as memory
@@ -12,6 +13,10 @@ use Rattle.relay_drill.proofs.whole.new_stores.Given as goal
 abbrev pub seen : Ghosts (FailAt MemoryBlocks)
 seen = failing.ghosts the_row memory.ghosts memory.dict
 
--- the stores so far are those of the buffers so far
+-- the stores so far are those of the buffers so far, and there is room for the others
 abbrev pub invariant-loop-buffer : goal.invariant-loop-buffer
-invariant-loop-buffer l = AreStoresOf seen (take l.buffer-index l.buffers) l.stores.items
+invariant-loop-buffer l = record {
+  room : length l.buffers ≤ vec_capacity l.stores;
+  count : length l.stores.items ≡ l.buffer-index;
+  made : AreStoresOf seen (take l.buffer-index l.buffers) l.stores.items;
+}

@@ -1,0 +1,29 @@
+use Rattle.std.proofs.Common.{◌+◌, ◌∙◌, ◌∷◌, [], ap, length, length-append}
+use Rattle.std.proofs.lemmas.List.{length-replicate, take_all}
+use Rattle.relay_drill.proofs.Stores.{one_more_store}
+use Rattle.relay_drill.proofs.whole.new_stores.Invariants.{seen}
+use Rattle.relay_drill.proofs.whole.new_stores.Goals as goal
+
+-- one more buffer has its store
+pub loop-buffer-preserved : goal.loop-buffer-preserved
+loop-buffer-preserved c =
+    let made = c.new-in-loop-buffer.ensures in
+    record {
+      room = rw c.push_reserved.ensures.capacity c.loop-buffer.invariant.room;
+      count = rw c.push_reserved.ensures.items
+          (length-append c.loop-buffer.stores.items (c.new-in-loop-buffer.result ∷ [])
+          ∙ ap (λ n. n + 1) c.loop-buffer.invariant.count);
+      made = rw c.push_reserved.ensures.items
+          (one_more_store seen c.args.buffers.now c.loop-buffer.buffer-index
+          c.buffer-item.result c.loop-buffer.stores.items c.new-in-loop-buffer.result
+          c.loop-buffer-test.true c.buffer-item.is c.loop-buffer.invariant.made
+          (ap length made.blocks ∙ ap length c.in_ok-blocks.ensures.blocks
+          ∙ length-replicate c.buffer-item.result.blocks _)
+          (made.honest c.in_ok-blocks.ensures.honest) (ap (λ n. 0 + n) made.spent));
+    }
+
+-- no buffer is left
+pub returns : goal.returns
+returns c =
+    rw (take_all c.loop-buffer.buffer-index c.args.buffers.now c.loop-buffer-test.false)
+    at c.loop-buffer.invariant.made
