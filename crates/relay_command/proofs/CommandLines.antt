@@ -1,6 +1,7 @@
 -- Commands that are built word by word, and what clap answers of them.
 use Rattle.std.proofs.Common.{◌≡◌, ◌∙◌, ap, ap₂, false, true, Bool, Option, List, [], ℕ}
-use Rattle.std.proofs.Common.{refl, sym, subst}
+use Rattle.std.proofs.Common.{◌+◌, ◌<◌, Some, drop, get_or, length, map, refl, sym, subst}
+use Rattle.std.proofs.lemmas.List.{at_drop_more}
 use Rattle.std.specs.Prelude.{◌||◌}
 use denote.Ref.{Bor}
 use Rattle.clap.specs.Simple.{app_of_fields}
@@ -12,8 +13,10 @@ use Rattle.clap.specs.declared.builder.Command.{Command}
 use Rattle.clap.specs.declared.error.Error.{Error}
 use Rattle.clap.specs.declared.builder.Command.TheViews.{out-Command as fields_of}
 use Rattle.relay_command.specs.CommandLine.{Asked, IsAskedBy, IsRefusedBy}
-use Rattle.relay_command.specs.CommandLine.{Reads, asked_by, needed, program_words}
-use Rattle.relay_command.specs.Questions.{optional}
+use Rattle.relay_command.specs.CommandLine.{Reads, asked_by, program_words}
+use Rattle.relay_command.specs.WordTable.{app_of_words, rule_of_word, with_commands, with_rules}
+use Rattle.relay_command.specs.declared.words.Word.{Word}
+use Rattle.relay_command.specs.declared.words.Words.{Words}
 
 -- A command with one more word reads that too.
 pub with_word : (old new : Command) (a : Arg) (app : App) (rule : Rule) → Reads old app
@@ -40,12 +43,31 @@ told_reads old new app told before made = record {
   own = rw made before.own;
 }
 
--- A word that has to be there is one that may be left out and is asked for.
-pub asked_for : (old new : Arg) (name : Text) → rule_of old ≡ optional name
-    → new ≡ record old { required = true } → rule_of new ≡ needed name
-asked_for old new name of made =
-    let required : Rule → Rule = λ r. record r { required = true } in
-    ap rule_of made ∙ ap required of
+-- One that has a version reads the word for that too.
+pub version_reads : (old new : Command) (app : App) (version : Bor (List ℕ)) → Reads old app
+    → fields_of new ≡ record (fields_of old) { version = Some version }
+    → Reads new (record app { top = record app.top { has_version = true } })
+version_reads old new app version before made = record {
+  words = ap app_of_fields made
+      ∙ ap (λ (a : App). record a { top = record a.top { has_version = true } }) before.words;
+  own = rw made before.own;
+}
+
+-- One more word of a command.
+pub word_next : (words : List Word) (at : ℕ) (word : Word) (app : App) → at < length words
+    → with_rules app (map rule_of_word (drop at words))
+    ≡ with_rules (with_rule app (rule_of_word (get_or words at word)))
+    (map rule_of_word (drop (at + 1) words))
+word_next words at word app h =
+    at_drop_more (λ left. with_rules app (map rule_of_word left)) words at word h
+
+-- One more command.
+pub command_next : (below : List Words) (at : ℕ) (words : Words) (app : App) → at < length below
+    → with_commands app (map app_of_words (drop at below))
+    ≡ with_commands (with_subcommand app (app_of_words (get_or below at words)).top)
+    (map app_of_words (drop (at + 1) below))
+command_next below at words app h =
+    at_drop_more (λ left. with_commands app (map app_of_words left)) below at words h
 
 -- The program's words are of the plain kind of which clap states all.
 words_are_plain : is_simple_and_free program_words ≡ true

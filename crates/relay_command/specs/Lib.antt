@@ -12,3 +12,4 @@ pub mod Serving
 pub mod Sources
 pub mod Tell
 pub mod Version
+pub mod WordTable

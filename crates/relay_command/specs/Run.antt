@@ -55,6 +55,20 @@ DrillsFolder folder script (Err (Check error)) input before after =
     HasError folder error × Keeps before after
 DrillsFolder folder script (Err failure) input before after = ⊥
 
+-- the configuration in a folder was told, or that failed so
+abbrev pub ChecksFolder : (folder : List ℕ) → Result (Unit {0}) Failure
+    → (before after : Option (List ℕ)) → Type 0
+ChecksFolder folder (Ok done) before after = CheckGives (Ok done) folder before after
+ChecksFolder folder (Err (Check error)) before after = CheckGives (Err error) folder before after
+ChecksFolder folder (Err failure) before after = ⊥
+
+-- what this text of a token stands for was told, or that failed so
+abbrev pub TellsText : (text : List ℕ) → Result (Unit {0}) Failure
+    → (before after : Option (List ℕ)) → Type 0
+TellsText text (Ok done) before after = TellGives (Ok done) text before after
+TellsText text (Err (Token fault)) before after = TellGives (Err fault) text before after
+TellsText text (Err failure) before after = ⊥
+
 -- What serving a relay with the configuration in a folder answers: what came is what serving comes
 -- to with that configuration, that folder, that number of connections and whether all is formatted,
 -- and what serving a relay of the configuration gives.
@@ -92,23 +106,18 @@ abbrev pub Performs : Serving → Asking → Asked → Result (Unit {0}) Failure
     → (input before after : Option (List ℕ)) → Type 0
 Performs serving asking (Drills folder script) result input before after =
     DrillsFolder folder script result input before after
-Performs serving asking (Checks folder) (Ok done) input before after =
-    CheckGives (Ok done) folder before after
-Performs serving asking (Checks folder) (Err (Check error)) input before after =
-    CheckGives (Err error) folder before after
+Performs serving asking (Checks folder) result input before after =
+    ChecksFolder folder result before after
 Performs serving asking (Explains folder question) result input before after =
     ExplainsFolder folder question result before after
-Performs serving asking (Tells text) (Ok done) input before after =
-    TellGives (Ok done) text before after
-Performs serving asking (Tells text) (Err (Token fault)) input before after =
-    TellGives (Err fault) text before after
+Performs serving asking (Tells text) result input before after =
+    TellsText text result before after
 Performs serving asking (Serves folder sessions fresh) result input before after =
     ServesFolder serving folder sessions fresh result before after
 Performs serving asking (Stops folder) result input before after =
     AsksFolder asking folder Stop result before after
 Performs serving asking (Reports folder) result input before after =
     AsksFolder asking folder Report result before after
-Performs serving asking asked (Err failure) input before after = ⊥
 
 -- what the words ask for is done or failed; or they ask for nothing, and nothing was written
 abbrev pub RunGives : Serving → Asking → List Text → Result (Unit {0}) Failure

@@ -1,8 +1,10 @@
 //! Saying what a configuration has (docs/PROTOCOL.md, Program).
 ghost use Rattle.std.specs.Prelude.{◌≡◌, decimal};
 ghost use Rattle.relay_report.specs.Written.{Writes};
-ghost use Rattle.relay_command.specs.Check.{CheckGives, counted};
+ghost use Rattle.relay_command.specs.Check.{counted};
+ghost use Rattle.relay_command.specs.Run.{ChecksFolder};
 
+use crate::failure::Failure;
 use crate::load::{CheckError, load};
 use itoa::Buffer;
 use relay_conf::Config;
@@ -18,8 +20,8 @@ pub fn check<R: Files, W: Write>(
     alloc: Global,
     folder: &str,
     writer: &mut W,
-) -> Result<(), CheckError>
-    ensures { CheckGives result folder.now (W.contents writer.old) (W.contents writer.new) }
+) -> Result<(), Failure>
+    ensures { ChecksFolder folder.now result (W.contents writer.old) (W.contents writer.new) }
 {
     match load(rt, alloc, folder) {
         Ok(config) => {
@@ -27,10 +29,10 @@ pub fn check<R: Files, W: Write>(
             drop(config);
             match printed {
                 Ok(()) => Ok(()),
-                Err(_) => Err(CheckError::Unwritten),
+                Err(_) => Err(Failure::Check(CheckError::Unwritten)),
             }
         }
-        Err(error) => Err(error),
+        Err(error) => Err(Failure::Check(error)),
     }
 }
 

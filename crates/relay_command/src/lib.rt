@@ -22,6 +22,7 @@ mod serve;
 mod sources;
 mod token;
 mod version;
+mod words;
 
 pub use ask::{AskError, Request};
 pub use explain::Unexplained;

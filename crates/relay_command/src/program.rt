@@ -147,15 +147,9 @@ where
 {
     match job {
         Job::Drill { folder, script } => drill_in(rt, alloc, folder, script, reader, writer),
-        Job::Check(folder) => match check(rt, alloc, folder, writer) {
-            Ok(()) => Ok(()),
-            Err(error) => Err(Failure::Check(error)),
-        },
+        Job::Check(folder) => check(rt, alloc, folder, writer),
         Job::Explain { folder, question } => explain_folder(rt, alloc, folder, question, writer),
-        Job::Token(text) => match tell(text.as_bytes(), writer) {
-            Ok(()) => Ok(()),
-            Err(fault) => Err(Failure::Token(fault)),
-        },
+        Job::Token(text) => tell(text.as_bytes(), writer),
         Job::Serve {
             folder,
             sessions,

@@ -1,11 +1,10 @@
 //! Reading of which article it is asked where it goes (docs/PROTOCOL.md, Commands).
-ghost use Rattle.std.specs.Prelude.{◌≡◌, false, IfOk};
-ghost use Rattle.clap.specs.Words.{found_of, rows_of, rule_of};
-ghost use Rattle.relay_command.specs.CommandLine.{Reads, explain_words};
-ghost use Rattle.relay_command.specs.Questions.{question_given, question_of, size_rule};
+ghost use Rattle.std.specs.Prelude.{◌≡◌, IfOk};
+ghost use Rattle.clap.specs.Words.{found_of, rows_of};
+ghost use Rattle.relay_command.specs.Questions.{question_given, question_of};
 
-use crate::command_line::{CONFIGURED, number, of_word, optional, with_word};
-use clap::{Arg, ArgMatches, Command, value_parser};
+use crate::command_line::number;
+use clap::ArgMatches;
 use std::alloc::{AllocError, Global};
 
 /// The octets of an article that is asked about without a size.
@@ -36,28 +35,4 @@ pub(crate) fn question_in(
             Ok(Some(Question { newsgroups, size }))
         }
     }
-}
-
-/// `explain DIR [NEWSGROUPS] [SIZE]`.
-pub(crate) fn explain<'a>(alloc: Global) -> Result<Command<'a>, AllocError>
-    ensures { IfOk result (λ command. Reads command explain_words) }
-{
-    let newsgroups = optional(
-        alloc,
-        "NEWSGROUPS",
-        "Says where an article goes of these newsgroups, with commas between them",
-    );
-    let told = "Says what a configuration does, and what in it is odd";
-    let command = of_word(alloc, "explain", told, "DIR", CONFIGURED);
-    let command = with_word(command, newsgroups);
-    with_word(command, size_word(alloc))
-}
-
-/// SIZE.
-fn size_word<'a>(alloc: Global) -> Arg<'a>
-    ensures rule { rule_of result ≡ size_rule }
-    ensures own { result.global ≡ false }
-{
-    let told = "The octets of that article, 2000 without it";
-    optional(alloc, "SIZE", told).value_parser(value_parser!(u32).range(1..16_777_357))
 }

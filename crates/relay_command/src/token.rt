@@ -2,10 +2,12 @@
 ghost use Rattle.std.specs.Prelude.{◌≡◌, Some};
 ghost use Rattle.cyc_token.specs.Token.{token_view};
 ghost use Rattle.relay_report.specs.Written.{Writes};
-ghost use Rattle.relay_command.specs.Tell.{TellGives, fault_view};
+ghost use Rattle.relay_command.specs.Run.{TellsText};
+ghost use Rattle.relay_command.specs.Tell.{fault_view};
 ghost use Rattle.relay_command.specs.Tell as terms;
 
 use crate::check::digits;
+use crate::failure::Failure;
 use cyc_token::{Token, TokenError};
 use itoa::Buffer;
 use relay_report::{Unwritten, put_all};
@@ -65,13 +67,16 @@ impl From<TokenError> for TokenFault {
 }
 
 /// Writes the parts of the token that has this text, in one line; of any other text nothing.
-pub fn tell<W: Write>(text: &[u8], writer: &mut W) -> Result<(), TokenFault>
-    ensures { TellGives result text.now (W.contents writer.old) (W.contents writer.new) }
+pub fn tell<W: Write>(text: &[u8], writer: &mut W) -> Result<(), Failure>
+    ensures { TellsText text.now result (W.contents writer.old) (W.contents writer.new) }
 {
-    let token = Token::parse(text)?;
+    let token = match Token::parse(text) {
+        Ok(token) => token,
+        Err(error) => return Err(Failure::Token(TokenFault::from(error))),
+    };
     match print_parts(writer, &token) {
         Ok(()) => Ok(()),
-        Err(_) => Err(TokenFault::Unwritten),
+        Err(_) => Err(Failure::Token(TokenFault::Unwritten)),
     }
 }
 

@@ -1,13 +1,6 @@
-use Rattle.std.proofs.Common.{List, ℕ, Ok, string_bytes, subst}
-use Rattle.relay_command.specs.Check.{CheckGives}
+use Rattle.std.proofs.Common.{List, ℕ, string_bytes, subst}
 use Rattle.relay_command.specs.Run.{DrillsFolder}
 use Rattle.relay_command.proofs.program.perform.Goals as goal
-
-pub returns-in-Ok : goal.returns-in-Ok
-returns-in-Ok g c =
-    let told : List ℕ → Type 0 = λ folder. CheckGives (Ok tt) folder
-    (g.W.Write.contents c.args.writer.now) (g.W.Write.contents c.check.new.writer) in
-    rw c.in-Check.is (subst told c.deref-in-Check.ensures c.in-Ok.ensures)
 
 pub returns-in-Drill : goal.returns-in-Drill
 returns-in-Drill g c =

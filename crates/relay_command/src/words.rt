@@ -1,0 +1,196 @@
+//! The words of the command line as data, and the command that reads them (docs/PROTOCOL.md,
+//! Commands).
+ghost use Rattle.std.specs.Prelude.{◌≡◌, map, IfOk};
+ghost use Rattle.clap.specs.Words.{App, rule_of};
+ghost use Rattle.std.specs.Prelude.{false};
+ghost use Rattle.relay_command.specs.CommandLine.{Reads, program_words};
+ghost use Rattle.relay_command.specs.WordTable.{app_of_words, rule_of_word, with_commands};
+ghost use Rattle.relay_command.specs.WordTable.{with_number};
+
+use crate::version::VERSION;
+use clap::{Arg, ArgAction, Command, value_parser};
+use std::alloc::{AllocError, Global};
+
+/// How a word of a command is given.
+enum Kind {
+    /// It has to be there.
+    Needed,
+    /// It may be left out.
+    Optional,
+    /// It is a number from 1 on that is less than this one, and may be left out.
+    Number(i64),
+    /// It is such a number behind the word's name.
+    Named(i64),
+    /// It is its name alone, and may be left out.
+    Flag,
+}
+
+/// A word of a command, and what is told of it.
+struct Word {
+    name: &'static str,
+    told: &'static str,
+    kind: Kind,
+}
+
+/// A command, what it does, and its words.
+struct Words {
+    name: &'static str,
+    does: &'static str,
+    words: &'static [Word],
+}
+
+/// The folder whose configuration is read.
+const CONFIGURED: Word = Word {
+    name: "DIR",
+    told: "The folder of the configuration: K1 is the built-in one",
+    kind: Kind::Needed,
+};
+
+/// The folder of a relay that is asked.
+const SERVED: Word = Word {
+    name: "DIR",
+    told: "The folder in which the relay is served",
+    kind: Kind::Needed,
+};
+
+/// The script of a drill.
+const SCRIPT: Word = Word {
+    name: "SCRIPT",
+    told: "The script's file: stdin is standard input",
+    kind: Kind::Needed,
+};
+
+/// The newsgroups of an article that is asked about.
+const NEWSGROUPS: Word = Word {
+    name: "NEWSGROUPS",
+    told: "Says where an article goes of these newsgroups, with commas between them",
+    kind: Kind::Optional,
+};
+
+/// The size of that article.
+const SIZE: Word = Word {
+    name: "SIZE",
+    told: "The octets of that article, 2000 without it",
+    kind: Kind::Number(16_777_357),
+};
+
+/// After how many connections each port ends.
+const SESSIONS: Word = Word {
+    name: "sessions",
+    told: "Each port ends after so many connections: 1 to 1000000",
+    kind: Kind::Named(1_000_001),
+};
+
+/// That all buffers are formatted.
+const FRESH: Word = Word {
+    name: "fresh",
+    told: "Begins with empty buffers, whatever the files have",
+    kind: Kind::Flag,
+};
+
+/// The text of a token.
+const TEXT: Word = Word {
+    name: "TEXT",
+    told: "The text of the token",
+    kind: Kind::Needed,
+};
+
+/// The commands, in the order of the help.
+const COMMANDS: [Words; 7] = [
+    Words {
+        name: "check",
+        does: "Reads a configuration and says what it has",
+        words: &[CONFIGURED],
+    },
+    Words {
+        name: "drill",
+        does: "Runs a script over memory",
+        words: &[CONFIGURED, SCRIPT],
+    },
+    Words {
+        name: "explain",
+        does: "Says what a configuration does, and what in it is odd",
+        words: &[CONFIGURED, NEWSGROUPS, SIZE],
+    },
+    Words {
+        name: "report",
+        does: "Prints the report of a relay that is served",
+        words: &[SERVED],
+    },
+    Words {
+        name: "serve",
+        does: "Serves a configuration on its peers' ports",
+        words: &[CONFIGURED, SESSIONS, FRESH],
+    },
+    Words {
+        name: "stop",
+        does: "Ends a relay that is served",
+        words: &[SERVED],
+    },
+    Words {
+        name: "token",
+        does: "Says what a token stands for",
+        words: &[TEXT],
+    },
+];
+
+/// The words that there are.
+pub(crate) fn command<'a>(alloc: Global) -> Result<Command<'a>, AllocError>
+    ensures { IfOk result (λ command. Reads command program_words) }
+{
+    let program = Command::new(alloc, "cnrelay")
+        .version(VERSION)
+        .about("The incoming side of a Netnews transit server");
+    with_commands(alloc, program, &COMMANDS)
+}
+
+/// A command with these below it.
+fn with_commands<'a>(
+    alloc: Global,
+    command: Command<'a>,
+    below: &[Words],
+) -> Result<Command<'a>, AllocError>
+    ensures { (app : App) → Reads command.entry app
+        → IfOk result (λ one. Reads one (with_commands app (map app_of_words below.now))) }
+{
+    let mut command = command;
+    for words in below {
+        command = command.subcommand(command_of(alloc, words)?)?;
+    }
+    Ok(command)
+}
+
+/// The command of these words.
+fn command_of<'a>(alloc: Global, words: &Words) -> Result<Command<'a>, AllocError>
+    ensures { IfOk result (λ one. Reads one (app_of_words words.now)) }
+{
+    let mut command = Command::new(alloc, words.name).about(words.does);
+    for word in words.words {
+        command = command.arg(arg_of(alloc, word))?;
+    }
+    Ok(command)
+}
+
+/// The argument that a word is.
+fn arg_of<'a>(alloc: Global, word: &Word) -> Arg<'a>
+    ensures rule { rule_of result ≡ rule_of_word word.now }
+    ensures own { result.global ≡ false }
+{
+    let arg = Arg::new(alloc, word.name).help(word.told);
+    match word.kind {
+        Kind::Needed => arg.action(ArgAction::Set).required(true),
+        Kind::Optional => arg.action(ArgAction::Set),
+        Kind::Number(end) => numbered(arg, end),
+        Kind::Named(end) => numbered(arg, end).long(word.name).value_name("N"),
+        Kind::Flag => arg.long(word.name).action(ArgAction::SetTrue),
+    }
+}
+
+/// The argument as a number from 1 on that is less than this one.
+fn numbered<'a>(arg: Arg<'a>, end: i64) -> Arg<'a>
+    ensures rule { rule_of result ≡ with_number end (rule_of arg.entry) }
+    ensures own { result.global ≡ arg.entry.global }
+{
+    arg.action(ArgAction::Set)
+        .value_parser(value_parser!(u32).range(1..end))
+}
