@@ -2,6 +2,7 @@
 use Rattle.std.proofs.Common.{◌≡◌, ◌≢◌, ◌⊎◌, ◌≤◌, ℕ, ◌*◌, ◌++◌, Bool, true, false, List, []}
 use Rattle.std.proofs.Common.{◌∷◌, Option}
 use Rattle.std.proofs.Common.{None, Some, refl, sym, ap, subst, ◌∙◌, take, length, arith, inl, inr}
+use Rattle.std.proofs.Common.{⊎_elim}
 use Rattle.std.proofs.Math.Logic.{∥∥₁_map, ∥∥₁_elim, ∥∥₁_prop}
 use Rattle.std.proofs.lemmas.List.{append-nil, append_assoc}
 use Rattle.std.specs.Option.{IsSomeAnd}
@@ -16,8 +17,10 @@ use Rattle.live_session.specs.Course.{Turn, after_turn, broken_off, greeted, oct
 use Rattle.live_session.specs.Course.{parted_by, with_piece}
 use Rattle.live_session.specs.Going.{AskFits, FrontFits, HearsAnswer, IsFrontOf, IsReadOf}
 use Rattle.live_session.specs.Going.{KeepsButSession, KeepsPlace, LetsGo, SharesFor}
-use Rattle.live_session.specs.Going.{StaysSame, WentOn, chunk_in, hands_of, parted_after}
+use Rattle.live_session.specs.Going.{StaysSame, WentOn, chunk_in, hands_of, parted_after, said_in}
 use Rattle.live_session.specs.declared.live.LiveSession.{LiveSession}
+use Rattle.live_session.specs.declared.live.Turned.{Turned}
+use Rattle.live_session.specs.declared.live.Turned.TheVariants as turns
 use Rattle.live_session.specs.declared.wire.Finish.{Finish}
 use Rattle.live_session.specs.declared.wire.Finish.TheVariants as finishes
 use Rattle.live_store.specs.Tied.{text_in}
@@ -100,6 +103,11 @@ asks_fit w m gathered shown (asks.Pushes job) is front = tt
 asks_fit w m gathered shown (asks.LooksInSlot transfer id) is front = tt
 asks_fit w m gathered shown (asks.Releases id) is front = tt
 asks_fit w m gathered shown asks.Ends is front = tt
+
+-- a turn that rests or is held says nothing
+pub unsaid : (turned : Turned) → (turned ≡ turns.Rests) ⊎ (turned ≡ turns.Held)
+    → said_in turned ≡ []
+unsaid turned = ⊎_elim (ap said_in) (ap said_in)
 
 -- want of memory is told from every other answer
 memory_or_not : (answer : Answer) → (answer ≡ answers.Memory) ⊎ (answer ≢ answers.Memory)

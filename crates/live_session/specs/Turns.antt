@@ -23,12 +23,12 @@ use Rattle.relay_model.specs.Terms.{Terms}
 
 -- the step was done on the same seat, and the session is of the same number; where memory was
 -- refused nothing was done
-pub record DidStep {J : Type 0} {g : Ghosts J} (w : Terms) (channels : List JobChannel)
-    (step : Step) (old : LiveSession J g) (answer : Answer) (new : LiveSession J g)
+pub record DidStep {J : Type 0} {g : Ghosts J} (channels : List JobChannel) (step : Step)
+    (old : LiveSession J g) (answer : Answer) (new : LiveSession J g)
     : Type 0 where
   pub seat : IsSeatOf channels new.seat
   pub place : KeepsPlace old new
-  pub shared : SharesFor w step old answer new
+  pub shared : (w : Terms) → SharesFor w step old answer new
   pub memory : answer ≡ answers.Memory → StaysSame old new
 
 -- the outcome of the job that was handed over last was looked for, on the same seat; where memory

@@ -7,11 +7,10 @@ ghost use Rattle.live_session.specs.Turns.{HadLastTurn, LeftClosed};
 ghost use Rattle.relay_model.specs.Terms.{Terms};
 
 use crate::commands::Commands;
-use crate::counts::Counts;
-use crate::live::{LiveSession, SessionContext, Turned};
+use crate::live::{Conversation, LiveSession, SessionContext, Turned};
 use crate::shares::{Clock, Gate, Shares};
 use crate::turn::turn;
-use crate::wire::{Wire, say};
+use crate::wire::say;
 use live_store::StorePremises;
 use live_wire::{Hears, Says};
 use std::alloc::Global;
@@ -28,27 +27,21 @@ pub(crate) fn leave<
     H: Hears,
     W: Says,
     R: Wait,
->(
-    rt: &R,
-    alloc: Global,
-    context: &SessionContext<S, C, G>,
-    live: &mut LiveSession<J>,
-    wire: &mut Wire<H, W>,
-    counts: &mut Counts,
-)
+>(rt: &R, alloc: Global, context: &SessionContext<S, C, G>, talk: &mut Conversation<J, H, W>)
     requires register { context.now.register.now ≡ J.register }
-    requires seat { IsSeatOf context.now.channels.now live.old.seat }
+    requires seat { IsSeatOf context.now.channels.now talk.old.live.seat }
     ensures { LeftClosed (terms_of context.now.config.now) context.now.channels.now
-        live.old live.new
-        (carried (H.heard wire.old.reader) (W.said wire.old.writer) wire.old.outbox wire.old.finish)
-        (carried (H.heard wire.new.reader) (W.said wire.new.writer)
-        wire.new.outbox wire.new.finish) counts.old counts.new }
+        talk.old.live talk.new.live
+        (carried (H.heard talk.old.wire.reader) (W.said talk.old.wire.writer)
+        talk.old.wire.outbox talk.old.wire.finish)
+        (carried (H.heard talk.new.wire.reader) (W.said talk.new.wire.writer)
+        talk.new.wire.outbox talk.new.wire.finish) talk.old.counts talk.new.counts }
 {
     for _ in rt.forever() {
-        if !live.session.is_running() {
+        if !talk.live.session.is_running() {
             return;
         }
-        last_turn(rt, alloc, context, live, wire, counts);
+        last_turn(rt, alloc, context, talk);
     }
     unreachable!()
 }
@@ -58,23 +51,21 @@ fn last_turn<S: Shares<J, R>, C: Clock, G: Gate<R>, J: StorePremises, H: Hears, 
     rt: &R,
     alloc: Global,
     context: &SessionContext<S, C, G>,
-    live: &mut LiveSession<J>,
-    wire: &mut Wire<H, W>,
-    counts: &mut Counts,
+    talk: &mut Conversation<J, H, W>,
 )
     requires register { context.now.register.now ≡ J.register }
-    requires seat { IsSeatOf context.now.channels.now live.old.seat }
+    requires seat { IsSeatOf context.now.channels.now talk.old.live.seat }
     ensures { HadLastTurn (terms_of context.now.config.now) context.now.channels.now
-        live.old live.new
-        (carried (H.heard wire.old.reader) (W.said wire.old.writer) wire.old.outbox wire.old.finish)
-        (carried (H.heard wire.new.reader) (W.said wire.new.writer)
-        wire.new.outbox wire.new.finish) counts.old counts.new }
+        talk.old.live talk.new.live
+        (carried (H.heard talk.old.wire.reader) (W.said talk.old.wire.writer)
+        talk.old.wire.outbox talk.old.wire.finish)
+        (carried (H.heard talk.new.wire.reader) (W.said talk.new.wire.writer)
+        talk.new.wire.outbox talk.new.wire.finish) talk.old.counts talk.new.counts }
 {
-    let mut commands = Commands::of(live.number);
-    match turn(rt, alloc, context, live, &mut commands) {
-        Turned::Says(said) => say(live, wire, counts, said),
-        Turned::Rests => {}
-        Turned::Held => {}
+    let mut commands = Commands::of(talk.live.number);
+    match turn(rt, alloc, context, &mut talk.live, &mut commands) {
+        Turned::Says(said) => say(talk, said),
+        Turned::Rests | Turned::Held => {}
         Turned::Memory => thread::yield_now(),
     }
 }

@@ -1,11 +1,13 @@
 //! A session with what its end has handed over, what it is served over and what is left of it.
+use crate::counts::Counts;
 use crate::shares::{Clock, Gate, Shares};
-use crate::wire::Finish;
+use crate::wire::{Finish, Wire};
 use live_jobs::{JobChannel, KeptJob, SessionSeat};
 use live_store::{ArticleLog, OneRecord, StorePremises};
 use live_wire::{Hears, Says, Tally};
 use peer_session::Session;
 use relay_conf::Config;
+use std::alloc::Global;
 
 /// What the sessions of a relay have in common.
 #[derive(Drop)]
@@ -16,6 +18,16 @@ pub struct SessionContext<'a, S, C, G> {
     pub config: &'a Config,
     pub clock: &'a C,
     pub gate: &'a G,
+}
+
+/// What a step that a session planned is done with, and at which moment.
+#[derive(Drop)]
+pub(crate) struct StepContext<'a, S> {
+    pub(crate) alloc: Global,
+    pub(crate) shares: &'a S,
+    pub(crate) register: &'a ArticleLog,
+    pub(crate) channels: &'a [JobChannel],
+    pub(crate) moment: u64,
 }
 
 /// A connection that is to be served, as a session of this number.
@@ -54,6 +66,14 @@ pub(crate) struct LiveSession<J: StorePremises> {
     pub(crate) reads: OneRecord<J>,
     pub(crate) seat: SessionSeat,
     pub(crate) kept: Vec<KeptJob<J>>,
+}
+
+/// A session on its connection, with what is counted of it.
+#[derive(Drop)]
+pub(crate) struct Conversation<J: StorePremises, H: Hears, W: Says> {
+    pub(crate) live: LiveSession<J>,
+    pub(crate) wire: Wire<H, W>,
+    pub(crate) counts: Counts,
 }
 
 /// What came of a turn.

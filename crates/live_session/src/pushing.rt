@@ -4,7 +4,6 @@ ghost use Rattle.live_jobs.specs.Seats.{IsSeatOf};
 ghost use Rattle.live_session.specs.Turns.{DidStep, LookedInSlot};
 ghost use Rattle.peer_session.specs.declared.steps.Answer.TheVariants as answers;
 ghost use Rattle.peer_session.specs.declared.steps.Step.TheVariants as steps;
-ghost use Rattle.relay_model.specs.Terms.{Terms};
 
 use crate::live::LiveSession;
 use crate::shares::Shares;
@@ -25,7 +24,7 @@ pub(crate) fn push<J: StorePremises, R: Wait>(
     group: usize,
 ) -> Answer
     requires seat { IsSeatOf channels.now live.old.seat }
-    ensures did { (w : Terms) → DidStep w channels.now (steps.Push group) live.old result live.new }
+    ensures did { DidStep channels.now (steps.Push group) live.old result live.new }
     ensures memory { result ≡ answers.Memory → ⊥ }
 {
     if group >= channels.len() || live.seat.handed() >= JOB_NUMBERS {
@@ -61,7 +60,6 @@ pub(crate) fn look_in_slot<S: Shares<J, R>, J: StorePremises, R: Wait>(
     match receipt {
         Some(receipt) => {
             live.kept.push_reserved(KeptJob::new(number, &receipt));
-            drop(receipt);
             Answer::Slot(Some(Outcome::Kept))
         }
         None => Answer::Slot(Some(Outcome::Failed)),

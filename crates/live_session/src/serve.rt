@@ -15,7 +15,7 @@ ghost use Rattle.relay_model.specs.Run.{is_running};
 use crate::commands::{Command, Commands};
 use crate::counts::Counts;
 use crate::leaving::{break_off, leave};
-use crate::live::{Connection, LiveSession, Served, SessionContext, Turned};
+use crate::live::{Connection, Conversation, LiveSession, Served, SessionContext, Turned};
 use crate::shares::{Clock, Gate, Shares};
 use crate::turn::turn;
 use crate::wire::{Finish, Wire, flush, say, stop};
@@ -118,22 +118,25 @@ fn served<S: Shares<J, R>, C: Clock, G: Gate<R>, J: StorePremises, H: Hears, W: 
     ensures spent { result.finish ≡ finishes.TurnsSpent → result.turns ≡ most_turns }
     ensures held { result.finish ≡ finishes.Held → Refusal (G.refuses context.now.gate.now) }
 {
-    let mut live = LiveSession {
-        number: connection.number,
-        session: opened.session,
-        reads: OneRecord::new(),
-        seat,
-        kept,
+    let mut talk = Conversation {
+        live: LiveSession {
+            number: connection.number,
+            session: opened.session,
+            reads: OneRecord::new(),
+            seat,
+            kept,
+        },
+        wire: Wire {
+            reader: connection.reader,
+            writer: connection.writer,
+            outbox: opened.greeting,
+            piece: opened.piece,
+            finish: None,
+        },
+        counts: Counts::of(connection.peer),
     };
-    let mut wire = Wire {
-        reader: connection.reader,
-        writer: connection.writer,
-        outbox: opened.greeting,
-        piece: opened.piece,
-        finish: None,
-    };
-    let mut counts = Counts::of(connection.peer);
-    serve_through(rt, alloc, context, &mut live, &mut wire, &mut counts);
+    serve_through(rt, alloc, context, &mut talk);
+    let Conversation { live, wire, counts } = talk;
     drop(live.session);
     drop(live.reads);
     Served {
@@ -156,30 +159,24 @@ fn serve_through<
     H: Hears,
     W: Says,
     R: Wait,
->(
-    rt: &R,
-    alloc: Global,
-    context: &SessionContext<S, C, G>,
-    live: &mut LiveSession<J>,
-    wire: &mut Wire<H, W>,
-    counts: &mut Counts,
-)
+>(rt: &R, alloc: Global, context: &SessionContext<S, C, G>, talk: &mut Conversation<J, H, W>)
     requires register { context.now.register.now ≡ J.register }
-    requires seat { IsSeatOf context.now.channels.now live.old.seat }
-    requires none { turns_in counts.old ≡ 0 }
-    requires begun { wire.old.finish ≡ None }
+    requires seat { IsSeatOf context.now.channels.now talk.old.live.seat }
+    requires none { turns_in talk.old.counts ≡ 0 }
+    requires begun { talk.old.wire.finish ≡ None }
     ensures { ServedThrough (terms_of context.now.config.now) (G.refuses context.now.gate.now)
-        context.now.channels.now live.old live.new
-        (carried (H.heard wire.old.reader) (W.said wire.old.writer) wire.old.outbox wire.old.finish)
-        (carried (H.heard wire.new.reader) (W.said wire.new.writer)
-        wire.new.outbox wire.new.finish) counts.new }
+        context.now.channels.now talk.old.live talk.new.live
+        (carried (H.heard talk.old.wire.reader) (W.said talk.old.wire.writer)
+        talk.old.wire.outbox talk.old.wire.finish)
+        (carried (H.heard talk.new.wire.reader) (W.said talk.new.wire.writer)
+        talk.new.wire.outbox talk.new.wire.finish) talk.new.counts }
 {
-    converse(rt, alloc, context, live, wire, counts);
-    break_off(live);
-    leave(rt, alloc, context, live, wire, counts);
-    flush(wire);
-    stop(wire, Finish::TurnsSpent);
-    counts.tell(rt, context.gate);
+    converse(rt, alloc, context, talk);
+    break_off(&mut talk.live);
+    leave(rt, alloc, context, talk);
+    flush(&mut talk.wire);
+    stop(&mut talk.wire, Finish::TurnsSpent);
+    talk.counts.tell(rt, context.gate);
 }
 
 /// What is left of a connection that is broken before its greeting.
@@ -258,27 +255,26 @@ fn converse<S: Shares<J, R>, C: Clock, G: Gate<R>, J: StorePremises, H: Hears, W
     rt: &R,
     alloc: Global,
     context: &SessionContext<S, C, G>,
-    live: &mut LiveSession<J>,
-    wire: &mut Wire<H, W>,
-    counts: &mut Counts,
+    talk: &mut Conversation<J, H, W>,
 )
     requires register { context.now.register.now ≡ J.register }
-    requires seat { IsSeatOf context.now.channels.now live.old.seat }
-    requires none { turns_in counts.old ≡ 0 }
+    requires seat { IsSeatOf context.now.channels.now talk.old.live.seat }
+    requires none { turns_in talk.old.counts ≡ 0 }
     ensures conversed { Conversed (terms_of context.now.config.now)
-        (G.refuses context.now.gate.now) context.now.channels.now live.old live.new
-        (carried (H.heard wire.old.reader) (W.said wire.old.writer) wire.old.outbox wire.old.finish)
-        (carried (H.heard wire.new.reader) (W.said wire.new.writer)
-        wire.new.outbox wire.new.finish) }
-    ensures turns { wire.new.finish ≡ None → turns_in counts.new ≡ most_turns }
+        (G.refuses context.now.gate.now) context.now.channels.now talk.old.live talk.new.live
+        (carried (H.heard talk.old.wire.reader) (W.said talk.old.wire.writer)
+        talk.old.wire.outbox talk.old.wire.finish)
+        (carried (H.heard talk.new.wire.reader) (W.said talk.new.wire.writer)
+        talk.new.wire.outbox talk.new.wire.finish) }
+    ensures turns { talk.new.wire.finish ≡ None → turns_in talk.new.counts ≡ most_turns }
 {
-    let mut commands = Commands::of(live.number);
+    let mut commands = Commands::of(talk.live.number);
     for _ in 0..TURNS {
-        if wire.finish.is_some() {
+        if talk.wire.finish.is_some() {
             break;
         }
-        counts.turn();
-        round(rt, alloc, context, live, wire, &mut commands, counts);
+        talk.counts.turn();
+        round(rt, alloc, context, talk, &mut commands);
     }
 }
 
@@ -287,33 +283,32 @@ fn round<S: Shares<J, R>, C: Clock, G: Gate<R>, J: StorePremises, H: Hears, W: S
     rt: &R,
     alloc: Global,
     context: &SessionContext<S, C, G>,
-    live: &mut LiveSession<J>,
-    wire: &mut Wire<H, W>,
+    talk: &mut Conversation<J, H, W>,
     commands: &mut Commands,
-    counts: &mut Counts,
 )
     requires register { context.now.register.now ≡ J.register }
-    requires seat { IsSeatOf context.now.channels.now live.old.seat }
+    requires seat { IsSeatOf context.now.channels.now talk.old.live.seat }
     ensures { HadRound (terms_of context.now.config.now) (G.refuses context.now.gate.now)
-        context.now.channels.now live.old live.new
-        (carried (H.heard wire.old.reader) (W.said wire.old.writer) wire.old.outbox wire.old.finish)
-        (carried (H.heard wire.new.reader) (W.said wire.new.writer)
-        wire.new.outbox wire.new.finish) counts.old counts.new }
+        context.now.channels.now talk.old.live talk.new.live
+        (carried (H.heard talk.old.wire.reader) (W.said talk.old.wire.writer)
+        talk.old.wire.outbox talk.old.wire.finish)
+        (carried (H.heard talk.new.wire.reader) (W.said talk.new.wire.writer)
+        talk.new.wire.outbox talk.new.wire.finish) talk.old.counts talk.new.counts }
 {
-    match turn(rt, alloc, context, live, commands) {
+    match turn(rt, alloc, context, &mut talk.live, commands) {
         Turned::Says(said) => {
-            say(live, wire, counts, said);
-            write_on(rt, context.gate, wire, commands.newest());
+            say(talk, said);
+            write_on(rt, context.gate, &mut talk.wire, commands.newest());
         }
         Turned::Rests => {
-            counts.tell(rt, context.gate);
-            flush(wire);
-            receive(live, wire, counts);
+            talk.counts.tell(rt, context.gate);
+            flush(&mut talk.wire);
+            receive(talk);
         }
-        Turned::Held => stop(wire, Finish::Held),
+        Turned::Held => stop(&mut talk.wire, Finish::Held),
         Turned::Memory => {
-            flush(wire);
-            stop(wire, Finish::Broken);
+            flush(&mut talk.wire);
+            stop(&mut talk.wire, Finish::Broken);
         }
     }
 }
@@ -348,32 +343,28 @@ fn write_on<G: Gate<R>, H: Hears, W: Says, R>(
 
 /// Reads once, where the session reads. The connection is broken where the input has ended or
 /// fails, or there is no memory for what came.
-fn receive<J: StorePremises, H: Hears, W: Says>(
-    live: &mut LiveSession<J>,
-    wire: &mut Wire<H, W>,
-    counts: &mut Counts,
-)
-    ensures { HasRead live.old live.new
-        (carried (H.heard wire.old.reader) (W.said wire.old.writer) wire.old.outbox wire.old.finish)
-        (carried (H.heard wire.new.reader) (W.said wire.new.writer)
-        wire.new.outbox wire.new.finish) counts.old counts.new }
+fn receive<J: StorePremises, H: Hears, W: Says>(talk: &mut Conversation<J, H, W>)
+    ensures { HasRead talk.old.live talk.new.live
+        (carried (H.heard talk.old.wire.reader) (W.said talk.old.wire.writer)
+        talk.old.wire.outbox talk.old.wire.finish)
+        (carried (H.heard talk.new.wire.reader) (W.said talk.new.wire.writer)
+        talk.new.wire.outbox talk.new.wire.finish) talk.old.counts talk.new.counts }
 {
-    if wire.finish.is_some() || !live.session.is_reading() {
+    if talk.wire.finish.is_some() || !talk.live.session.is_reading() {
         return;
     }
-    match wire.reader.hear(&mut wire.piece) {
-        Ok(0) => wire.finish = Some(Finish::Broken),
+    match talk.wire.reader.hear(&mut talk.wire.piece) {
+        Ok(0) => talk.wire.finish = Some(Finish::Broken),
         Ok(n) => {
-            counts.read(n);
-            match live.session.feed(&wire.piece[..n]) {
+            talk.counts.read(n);
+            match talk.live.session.feed(&talk.wire.piece[..n]) {
                 Ok(()) => {}
-                Err(_) => wire.finish = Some(Finish::Broken),
+                Err(_) => talk.wire.finish = Some(Finish::Broken),
             }
         }
-        Err(error) => {
-            if error.kind() != ErrorKind::Interrupted {
-                wire.finish = Some(Finish::Broken);
-            }
-        }
+        Err(error) => match error.kind() {
+            ErrorKind::Interrupted => {}
+            _ => talk.wire.finish = Some(Finish::Broken),
+        },
     }
 }

@@ -1,6 +1,5 @@
 //! The one step of what is shared that a turn takes, by each of its kinds.
 ghost use Rattle.std.specs.Prelude.{◌≡◌, ◌≢◌, ℕ, Bool, List, true, IfOk};
-ghost use Rattle.article_verdict.specs.Config.{terms_of};
 ghost use Rattle.cyc_token.specs.Token.{token_view};
 ghost use Rattle.id_history.specs.declared.claims.Take.TheVariants as takes;
 ghost use Rattle.live_jobs.specs.Seats.{IsSeatOf};
@@ -8,9 +7,9 @@ ghost use Rattle.live_session.specs.Going.{IsFrontOf, ReadsFor};
 ghost use Rattle.live_session.specs.Turns.{DidStep};
 ghost use Rattle.peer_session.specs.Session.{holds_article};
 
-use crate::live::{LiveSession, SessionContext};
+use crate::live::{LiveSession, StepContext};
 use crate::pushing::{look_in_slot, push};
-use crate::shares::{Clock, Gate, Shares};
+use crate::shares::Shares;
 use article_fetch::Chunk;
 use cyc_block::CHUNK_OCTETS;
 use cyc_token::Token;
@@ -18,54 +17,48 @@ use id_history::Take;
 use live_store::{ArticleLog, OneRecord, StorePremises};
 use nntp_text::MsgId;
 use peer_session::{Answer, Step};
-use std::alloc::{AllocError, Global};
+use std::alloc::AllocError;
 use std::sync::Wait;
 
 /// Does the step that the session planned. Where memory is refused nothing is done.
-pub(crate) fn share<S: Shares<J, R>, C, G, J: StorePremises, R: Wait>(
+pub(crate) fn share<S: Shares<J, R>, J: StorePremises, R: Wait>(
     rt: &R,
-    alloc: Global,
-    context: &SessionContext<S, C, G>,
+    context: &StepContext<S>,
     live: &mut LiveSession<J>,
     step: &Step,
-    now: u64,
 ) -> Answer
     requires register { context.now.register.now ≡ J.register }
     requires seat { IsSeatOf context.now.channels.now live.old.seat }
-    ensures { DidStep (terms_of context.now.config.now) context.now.channels.now step.now
-        live.old result live.new }
+    ensures { DidStep context.now.channels.now step.now live.old result live.new }
 {
+    let shares = context.shares;
+    let session = live.number;
     match step {
         Step::Nothing => Answer::Nothing,
-        Step::Offer(id) => match context.shares.offer(rt, id, live.number) {
+        Step::Offer(id) => match shares.offer(rt, id, session) {
             Ok(offer) => Answer::Offer(offer),
             Err(_) => Answer::Memory,
         },
-        Step::Look(id) => Answer::Look(context.shares.look(rt, id)),
-        Step::Read(token, k) => Answer::Chunk(read(
-            rt,
-            context.shares,
-            context.register,
-            &mut live.reads,
-            token,
-            *k,
-        )),
-        Step::TakeQueue(feed, most) => match context.shares.take_queue(rt, alloc, *feed, *most) {
+        Step::Look(id) => Answer::Look(shares.look(rt, id)),
+        Step::Read(token, k) => {
+            Answer::Chunk(read(rt, shares, context.register, &mut live.reads, token, *k))
+        }
+        Step::TakeQueue(feed, most) => match shares.take_queue(rt, context.alloc, *feed, *most) {
             Ok(taken) => Answer::Queue(taken),
             Err(_) => Answer::Memory,
         },
-        Step::Refuse(id) => match context.shares.refuse(rt, id, live.number, now) {
+        Step::Refuse(id) => match shares.refuse(rt, id, session, context.moment) {
             Ok(()) => Answer::Nothing,
             Err(_) => Answer::Memory,
         },
-        Step::Take(id) => match take(rt, context.shares, live, id) {
+        Step::Take(id) => match take(rt, shares, live, id) {
             Ok(told) => Answer::Take(told),
             Err(_) => Answer::Memory,
         },
         Step::Push(group) => push(rt, context.channels, live, usize::from(*group)),
-        Step::Slot => look_in_slot(rt, context.shares, live),
+        Step::Slot => look_in_slot(rt, shares, live),
         Step::Release(id) => {
-            context.shares.release(rt, id, live.number);
+            shares.release(rt, id, session);
             Answer::Nothing
         }
     }

@@ -7,10 +7,10 @@ ghost use Rattle.live_session.specs.Going.{KeepsButSession, LetsGo};
 ghost use Rattle.live_session.specs.Going.{TakesPlanned, said_in};
 ghost use Rattle.live_session.specs.Turns.{HadTurn, HasHeard};
 ghost use Rattle.live_session.specs.declared.live.Turned.TheVariants as turns;
-ghost use Rattle.relay_model.specs.Terms.{last_moment};
+ghost use Rattle.relay_model.specs.Terms.{Terms, last_moment};
 
 use crate::commands::Commands;
-use crate::live::{LiveSession, SessionContext, Turned};
+use crate::live::{LiveSession, SessionContext, StepContext, Turned};
 use crate::shares::{Clock, Gate, Shares};
 use crate::sharing::share;
 use live_store::StorePremises;
@@ -44,28 +44,33 @@ pub(crate) fn turn<S: Shares<J, R>, C: Clock, G: Gate<R>, J: StorePremises, R: W
         give_up(live, step);
         return Turned::Held;
     }
-    take_planned(rt, alloc, context, live, step, now)
+    let context = StepContext {
+        alloc,
+        shares: context.shares,
+        register: context.register,
+        channels: context.channels,
+        moment: now,
+    };
+    take_planned(rt, &context, live, step)
 }
 
-/// The step that the session planned at this moment is done, and it hears the answer.
-fn take_planned<S: Shares<J, R>, C, G, J: StorePremises, R: Wait>(
+/// The step that the session planned at the moment is done, and it hears the answer.
+fn take_planned<S: Shares<J, R>, J: StorePremises, R: Wait>(
     rt: &R,
-    alloc: Global,
-    context: &SessionContext<S, C, G>,
+    context: &StepContext<S>,
     live: &mut LiveSession<J>,
     step: Step,
-    now: u64,
 ) -> Turned
     requires register { context.now.register.now ≡ J.register }
     requires seat { IsSeatOf context.now.channels.now live.old.seat }
-    requires moment { now ≤ last_moment }
+    requires moment { context.now.moment ≤ last_moment }
     ensures seat { IsSeatOf context.now.channels.now live.new.seat }
     ensures end { end_of live.new.seat ≡ end_of live.old.seat }
-    ensures went { TakesPlanned (terms_of context.now.config.now) now step live.old
+    ensures went { (w : Terms) → TakesPlanned w context.now.moment step live.old
         (said_in result) live.new }
     ensures let_in { result ≢ turns.Held }
 {
-    let answer = share(rt, alloc, context, live, &step, now);
+    let answer = share(rt, context, live, &step);
     drop(step);
     hear(live, answer)
 }

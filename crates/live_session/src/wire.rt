@@ -6,8 +6,7 @@ ghost use Rattle.live_session.specs.Carried as words;
 ghost use Rattle.live_session.specs.Counts.{turns_in};
 ghost use Rattle.peer_session.specs.Session.{has_parted};
 
-use crate::counts::Counts;
-use crate::live::LiveSession;
+use crate::live::Conversation;
 use live_store::StorePremises;
 use live_wire::{Hears, Says, say_all};
 
@@ -87,20 +86,21 @@ fn put<H: Hears, W: Says>(wire: &mut Wire<H, W>, said: Vec<u8>, leaves: bool)
 
 /// What a session said is counted, and is to be written.
 pub(crate) fn say<J: StorePremises, H: Hears, W: Says>(
-    live: &LiveSession<J>,
-    wire: &mut Wire<H, W>,
-    counts: &mut Counts,
+    talk: &mut Conversation<J, H, W>,
     said: Vec<u8>,
 )
     ensures on { CarriesOn
-        (carried (H.heard wire.old.reader) (W.said wire.old.writer) wire.old.outbox wire.old.finish)
-        (carried (H.heard wire.new.reader) (W.said wire.new.writer) wire.new.outbox wire.new.finish)
-        [] said.items (has_parted live.now.session) }
-    ensures ends { Lasts wire.old.finish wire.new.finish }
-    ensures turns { turns_in counts.new ≡ turns_in counts.old }
+        (carried (H.heard talk.old.wire.reader) (W.said talk.old.wire.writer)
+        talk.old.wire.outbox talk.old.wire.finish)
+        (carried (H.heard talk.new.wire.reader) (W.said talk.new.wire.writer)
+        talk.new.wire.outbox talk.new.wire.finish)
+        [] said.items (has_parted talk.old.live.session) }
+    ensures ends { Lasts talk.old.wire.finish talk.new.wire.finish }
+    ensures live { talk.new.live ≡ talk.old.live }
+    ensures turns { turns_in talk.new.counts ≡ turns_in talk.old.counts }
 {
-    counts.say(&said);
-    put(wire, said, live.session.has_parted());
+    talk.counts.say(&said);
+    put(&mut talk.wire, said, talk.live.session.has_parted());
 }
 
 /// How the connection ends once the last reply is said.

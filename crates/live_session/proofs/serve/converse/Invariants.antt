@@ -8,10 +8,10 @@ use Rattle.live_session.proofs.serve.converse.Given as goal
 abbrev pub invariant-loop : goal.invariant-loop
 invariant-loop g l = record {
   conversed : Conversed (terms_of l.context.config.now) (g.G.Gate.refuses l.context.gate.now)
-      l.context.channels.now l.fn.live l.live
-      (carried (g.H.Hears.heard l.fn.wire.reader) (g.W.Says.said l.fn.wire.writer)
-      l.fn.wire.outbox l.fn.wire.finish)
-      (carried (g.H.Hears.heard l.wire.reader) (g.W.Says.said l.wire.writer)
-      l.wire.outbox l.wire.finish);
-  turns : turns_in l.counts ≡ l.counter;
+      l.context.channels.now l.fn.talk.live l.talk.live
+      (carried (g.H.Hears.heard l.fn.talk.wire.reader) (g.W.Says.said l.fn.talk.wire.writer)
+      l.fn.talk.wire.outbox l.fn.talk.wire.finish)
+      (carried (g.H.Hears.heard l.talk.wire.reader) (g.W.Says.said l.talk.wire.writer)
+      l.talk.wire.outbox l.talk.wire.finish);
+  turns : turns_in l.talk.counts ≡ l.counter;
 }

@@ -9,8 +9,8 @@ use Rattle.cyc_buffer.proofs.StopLemmas.{none_of}
 
 pub returns-in-Ok-eq0 : goal.returns-in-Ok-eq0
 returns-in-Ok-eq0 g c =
-    let live = c.args.live.now in
-    let wire = c.args.wire.now in
+    let live = c.args.talk.now.live in
+    let wire = c.args.talk.now.wire in
     let old = carried (g.H.Hears.heard wire.reader) (g.W.Says.said wire.writer) wire.outbox
     wire.finish in
     let heard = g.H.Hears.heard c.hear.new.self in
@@ -28,8 +28,8 @@ returns-in-Ok-eq0 g c =
 
 pub returns-in-Ok-feed : goal.returns-in-Ok-feed
 returns-in-Ok-feed g c =
-    let live = c.args.live.now in
-    let wire = c.args.wire.now in
+    let live = c.args.talk.now.live in
+    let wire = c.args.talk.now.wire in
     let old = carried (g.H.Hears.heard wire.reader) (g.W.Says.said wire.writer) wire.outbox
     wire.finish in
     let heard = g.H.Hears.heard c.hear.new.self in
@@ -50,8 +50,8 @@ returns-in-Ok-feed g c =
 
 pub returns-in-Err-feed : goal.returns-in-Err-feed
 returns-in-Err-feed g c =
-    let live = c.args.live.now in
-    let wire = c.args.wire.now in
+    let live = c.args.talk.now.live in
+    let wire = c.args.talk.now.wire in
     let old = carried (g.H.Hears.heard wire.reader) (g.W.Says.said wire.writer) wire.outbox
     wire.finish in
     let heard = g.H.Hears.heard c.hear.new.self in
@@ -69,10 +69,10 @@ returns-in-Err-feed g c =
       turns = c.read.ensures.rest.2;
     }
 
-pub returns-then-ne : goal.returns-then-ne
-returns-then-ne g c =
-    let live = c.args.live.now in
-    let wire = c.args.wire.now in
+pub returns-in_default : goal.returns-in_default
+returns-in_default g c =
+    let live = c.args.talk.now.live in
+    let wire = c.args.talk.now.wire in
     let old = carried (g.H.Hears.heard wire.reader) (g.W.Says.said wire.writer) wire.outbox
     wire.finish in
     let heard = g.H.Hears.heard c.hear.new.self in
@@ -88,10 +88,10 @@ returns-then-ne g c =
       turns = refl;
     }
 
-pub returns-else-ne : goal.returns-else-ne
-returns-else-ne g c =
-    let live = c.args.live.now in
-    let wire = c.args.wire.now in
+pub returns-in-Interrupted : goal.returns-in-Interrupted
+returns-in-Interrupted g c =
+    let live = c.args.talk.now.live in
+    let wire = c.args.talk.now.wire in
     let old = carried (g.H.Hears.heard wire.reader) (g.W.Says.said wire.writer) wire.outbox
     wire.finish in
     let heard = g.H.Hears.heard c.hear.new.self in

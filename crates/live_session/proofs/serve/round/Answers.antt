@@ -7,15 +7,16 @@ use Rattle.live_session.proofs.Differs.{held-spent}
 use Rattle.live_session.proofs.LiveSessions.{served_still, served_turn, then_on, then_same}
 use Rattle.live_session.proofs.serve.round.Goals as goal
 use Rattle.live_session.specs.Carried.{carried}
+use Rattle.live_session.specs.Turns.{HadRound}
 use Rattle.live_session.specs.declared.wire.Finish.TheVariants as finishes
 
 pub returns-in-Says : goal.returns-in-Says
 returns-in-Says g c =
     let w = terms_of c.args.context.now.config.now in
-    let live = c.args.live.now in
+    let live = c.args.talk.now.live in
     let new = c.turn.new.live in
-    let wire = c.args.wire.now in
-    let said = c.say.new.wire in
+    let wire = c.args.talk.now.wire in
+    let said = c.say.new.talk.wire in
     let last = c.write_on.new.wire in
     let before = carried (g.H.Hears.heard wire.reader) (g.W.Says.said wire.writer) wire.outbox
     wire.finish in
@@ -23,7 +24,10 @@ returns-in-Says g c =
     said.finish in
     let after = carried (g.H.Hears.heard last.reader) (g.W.Says.said last.writer) last.outbox
     last.finish in
-    record {
+    subst (λ l. HadRound w (g.G.Gate.refuses c.args.context.now.gate.now)
+    c.args.context.now.channels.now live l before after c.args.talk.now.counts
+    c.say.new.talk.counts) (sym c.say.ensures.live)
+    (record {
       conversed = record {
         seat = c.turn.ensures.seat;
         end = c.turn.ensures.end;
@@ -35,16 +39,16 @@ returns-in-Says g c =
             c.write_on.ensures.ends;
       };
       turns = c.say.ensures.turns;
-    }
+    })
 
 pub returns-in-Rests : goal.returns-in-Rests
 returns-in-Rests g c =
     let w = terms_of c.args.context.now.config.now in
-    let live = c.args.live.now in
+    let live = c.args.talk.now.live in
     let mid = c.turn.new.live in
-    let wire = c.args.wire.now in
+    let wire = c.args.talk.now.wire in
     let flushed = c.flush.new.wire in
-    let last = c.receive.new.wire in
+    let last = c.receive.new.talk.wire in
     let before = carried (g.H.Hears.heard wire.reader) (g.W.Says.said wire.writer) wire.outbox
     wire.finish in
     let between = carried (g.H.Hears.heard flushed.reader) (g.W.Says.said flushed.writer)
@@ -56,7 +60,7 @@ returns-in-Rests g c =
       conversed = record {
         seat = subst P (sym c.receive.ensures.seat) c.turn.ensures.seat;
         end = ap end_of c.receive.ensures.seat ∙ c.turn.ensures.end;
-        served = then_on w live mid c.receive.new.live before between after
+        served = then_on w live mid c.receive.new.talk.live before between after
             (served_still w live mid c.in-Rests.ensures.went before between c.flush.ensures.same)
             (c.receive.ensures.served w);
         ends = lasts_on wire.finish flushed.finish last.finish c.flush.ensures.ends
@@ -68,13 +72,13 @@ returns-in-Rests g c =
 -- the gate said no
 pub returns-in-Held : goal.returns-in-Held
 returns-in-Held g c =
-    let wire = c.args.wire.now in
+    let wire = c.args.talk.now.wire in
     let last = c.stop.new.wire in
     record {
       conversed = record {
         seat = c.turn.ensures.seat;
         end = c.turn.ensures.end;
-        served = served_still (terms_of c.args.context.now.config.now) c.args.live.now
+        served = served_still (terms_of c.args.context.now.config.now) c.args.talk.now.live
             c.turn.new.live c.in-Held.ensures.went
             (carried (g.H.Hears.heard wire.reader) (g.W.Says.said wire.writer) wire.outbox
             wire.finish)
@@ -95,9 +99,9 @@ returns-in-Held g c =
 pub returns-in-Memory : goal.returns-in-Memory
 returns-in-Memory g c =
     let w = terms_of c.args.context.now.config.now in
-    let live = c.args.live.now in
+    let live = c.args.talk.now.live in
     let new = c.turn.new.live in
-    let wire = c.args.wire.now in
+    let wire = c.args.talk.now.wire in
     let flushed = c.flush-in-Memory.new.wire in
     let last = c.stop-in-Memory.new.wire in
     let before = carried (g.H.Hears.heard wire.reader) (g.W.Says.said wire.writer) wire.outbox

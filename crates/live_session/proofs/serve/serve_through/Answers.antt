@@ -15,11 +15,11 @@ leave-requires-clause-seat g c =
 pub returns : goal.returns
 returns g c =
     let w = terms_of c.args.context.now.config.now in
-    let live = c.args.live.now in
-    let new = c.leave.new.live in
-    let wire = c.args.wire.now in
-    let one = c.converse.new.wire in
-    let two = c.leave.new.wire in
+    let live = c.args.talk.now.live in
+    let new = c.leave.new.talk.live in
+    let wire = c.args.talk.now.wire in
+    let one = c.converse.new.talk.wire in
+    let two = c.leave.new.talk.wire in
     let flushed = c.flush.new.wire.finish in
     let last = c.stop.new.wire in
     let begins = carried (g.H.Hears.heard wire.reader) (g.W.Says.said wire.writer) wire.outbox
@@ -38,8 +38,8 @@ returns g c =
       seat = leaves.seat;
       end = leaves.end ∙ ap end_of c.break_off.ensures.seat ∙ turns.end;
       served = then_same w live new begins left over
-          (then_on w live c.converse.new.live new begins conversed left turns.served
-          (then_on w c.converse.new.live c.break_off.new.live new conversed conversed left
+          (then_on w live c.converse.new.talk.live new begins conversed left turns.served
+          (then_on w c.converse.new.talk.live c.break_off.new.live new conversed conversed left
           (c.break_off.ensures.gone w conversed) leaves.served))
           (λ came replies parted carries. c.stop.ensures.same came replies parted
           (c.flush.ensures.same came replies parted carries));

@@ -18,7 +18,7 @@ returns g c =
       kept = c.args.kept;
     } in
     let through = c.serve_through in
-    let wire = through.new.wire in
+    let wire = through.new.talk.wire in
     let over = carried (g.H.Hears.heard wire.reader) (g.W.Says.said wire.writer) wire.outbox
     wire.finish in
     let ended : wire.finish ≡ Some c.unwrap_or.result =
@@ -28,7 +28,7 @@ returns g c =
       seat = through.ensures.seat;
       end = through.ensures.end;
       served = λ honest trust.
-          whole (terms_of c.args.context.now.config.now) honest trust live through.new.live
+          whole (terms_of c.args.context.now.config.now) honest trust live through.new.talk.live
           c.args.connection.peer (g.H.Hears.heard c.args.connection.reader)
           (g.W.Says.said c.args.connection.writer) opened.greeting.items over over
           c.unwrap_or.result c.requires.begins through.ensures.served

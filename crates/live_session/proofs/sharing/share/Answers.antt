@@ -1,5 +1,4 @@
 use Rattle.std.proofs.Common.{refl, subst, sym}
-use Rattle.article_verdict.specs.Config.{terms_of}
 use Rattle.live_jobs.specs.Seats.{IsSeatOf}
 use Rattle.live_jobs.specs.declared.session.SessionSeat.{SessionSeat}
 use Rattle.live_session.proofs.Differs.{chunk-memory}
@@ -11,57 +10,57 @@ use Rattle.live_session.specs.Turns.{DidStep}
 use Rattle.peer_session.specs.declared.steps.Answer.TheVariants as answers
 use Rattle.peer_session.specs.declared.steps.Step.{Step}
 use Rattle.peer_session.specs.declared.steps.Step.TheVariants as steps
+use Rattle.relay_model.specs.Terms.{Terms}
 
 pub returns-in-Nothing : goal.returns-in-Nothing
 returns-in-Nothing g c =
-    let w = terms_of c.args.context.now.config.now in
     let live = c.args.live.now in
-    let P : Step → Type 0 = λ s. SharesFor w s live answers.Nothing live in
+    let P : Step → Type 0 = λ s. (w : Terms) → SharesFor w s live answers.Nothing live in
     record {
       seat = c.requires.seat;
       place = record { number = refl; end_is = refl };
       shared = subst P (sym c.in-Nothing.is)
-          (nothing w live);
+          (λ w. nothing w live);
       memory = λ same. record { session = refl; reads = refl; hands = refl };
     }
 
 pub returns-in-Ok : goal.returns-in-Ok
 returns-in-Ok g c =
-    let w = terms_of c.args.context.now.config.now in
     let live = c.args.live.now in
-    let P : Step → Type 0 = λ s. SharesFor w s live (answers.Offer c.in-Ok.offer) live in
+    let P : Step → Type 0 =
+    λ s. (w : Terms) → SharesFor w s live (answers.Offer c.in-Ok.offer) live in
     record {
       seat = c.requires.seat;
       place = record { number = refl; end_is = refl };
       shared = subst P (sym c.in-Offer.is)
-          (offered w live c.in-Offer.id c.in-Ok.offer);
+          (λ w. offered w live c.in-Offer.id c.in-Ok.offer);
       memory = λ same. record { session = refl; reads = refl; hands = refl };
     }
 
 pub returns-in-Look : goal.returns-in-Look
 returns-in-Look g c =
-    let w = terms_of c.args.context.now.config.now in
     let live = c.args.live.now in
-    let P : Step → Type 0 = λ s. SharesFor w s live (answers.Look c.look.result) live in
+    let P : Step → Type 0 =
+    λ s. (w : Terms) → SharesFor w s live (answers.Look c.look.result) live in
     record {
       seat = c.requires.seat;
       place = record { number = refl; end_is = refl };
       shared = subst P (sym c.in-Look.is)
-          (looked w live c.in-Look.id c.look.result);
+          (λ w. looked w live c.in-Look.id c.look.result);
       memory = λ same. record { session = refl; reads = refl; hands = refl };
     }
 
 pub returns-in-Read : goal.returns-in-Read
 returns-in-Read g c =
-    let w = terms_of c.args.context.now.config.now in
     let live = c.args.live.now in
     let new = record live { reads = c.read.new.reads } in
-    let P : Step → Type 0 = λ s. SharesFor w s live (answers.Chunk c.read.result) new in
+    let P : Step → Type 0 =
+    λ s. (w : Terms) → SharesFor w s live (answers.Chunk c.read.result) new in
     record {
       seat = c.requires.seat;
       place = record { number = refl; end_is = refl };
       shared = subst P (sym c.in-Read.is)
-          (was_read w live c.in-Read.token c.in-Read.k c.read.result new
+          (λ w. was_read w live c.in-Read.token c.in-Read.k c.read.result new
           (record { session = refl; hands = refl; place = record { number = refl; end_is = refl } })
           c.read.ensures);
       memory = λ is. absurd (chunk-memory c.read.result is);
@@ -69,54 +68,52 @@ returns-in-Read g c =
 
 pub returns-in-Ok-take_queue : goal.returns-in-Ok-take_queue
 returns-in-Ok-take_queue g c =
-    let w = terms_of c.args.context.now.config.now in
     let live = c.args.live.now in
-    let P : Step → Type 0 = λ s. SharesFor w s live (answers.Queue c.in-Ok-take_queue.taken) live in
+    let P : Step → Type 0 =
+    λ s. (w : Terms) → SharesFor w s live (answers.Queue c.in-Ok-take_queue.taken) live in
     record {
       seat = c.requires.seat;
       place = record { number = refl; end_is = refl };
       shared = subst P (sym c.in-TakeQueue.is)
-          (queued w live c.in-TakeQueue.feed c.in-TakeQueue.most c.in-Ok-take_queue.taken
+          (λ w. queued w live c.in-TakeQueue.feed c.in-TakeQueue.most c.in-Ok-take_queue.taken
           c.in-Ok-take_queue.ensures);
       memory = λ same. record { session = refl; reads = refl; hands = refl };
     }
 
 pub returns-in-Ok-refuse : goal.returns-in-Ok-refuse
 returns-in-Ok-refuse g c =
-    let w = terms_of c.args.context.now.config.now in
     let live = c.args.live.now in
-    let P : Step → Type 0 = λ s. SharesFor w s live answers.Nothing live in
+    let P : Step → Type 0 = λ s. (w : Terms) → SharesFor w s live answers.Nothing live in
     record {
       seat = c.requires.seat;
       place = record { number = refl; end_is = refl };
       shared = subst P (sym c.in-Refuse.is)
-          (refused w live c.in-Refuse.id);
+          (λ w. refused w live c.in-Refuse.id);
       memory = λ same. record { session = refl; reads = refl; hands = refl };
     }
 
 pub returns-in-Ok-take : goal.returns-in-Ok-take
 returns-in-Ok-take g c =
-    let w = terms_of c.args.context.now.config.now in
     let live = c.args.live.now in
-    let P : Step → Type 0 = λ s. SharesFor w s live (answers.Take c.in-Ok-take.told) live in
+    let P : Step → Type 0 =
+    λ s. (w : Terms) → SharesFor w s live (answers.Take c.in-Ok-take.told) live in
     record {
       seat = c.requires.seat;
       place = record { number = refl; end_is = refl };
       shared = subst P (sym c.in-Take.is)
-          (taken_up w live c.in-Take.id c.in-Ok-take.told c.in-Ok-take.ensures.once);
+          (λ w. taken_up w live c.in-Take.id c.in-Ok-take.told c.in-Ok-take.ensures.once);
       memory = λ same. record { session = refl; reads = refl; hands = refl };
     }
 
 pub returns-in-Release : goal.returns-in-Release
 returns-in-Release g c =
-    let w = terms_of c.args.context.now.config.now in
     let live = c.args.live.now in
-    let P : Step → Type 0 = λ s. SharesFor w s live answers.Nothing live in
+    let P : Step → Type 0 = λ s. (w : Terms) → SharesFor w s live answers.Nothing live in
     record {
       seat = c.requires.seat;
       place = record { number = refl; end_is = refl };
       shared = subst P (sym c.in-Release.is)
-          (released w live c.in-Release.id);
+          (λ w. released w live c.in-Release.id);
       memory = λ same. record { session = refl; reads = refl; hands = refl };
     }
 
@@ -125,7 +122,7 @@ pub returns-in-Err : goal.returns-in-Err
 returns-in-Err g c = record {
   seat = c.requires.seat;
   place = record { number = refl; end_is = refl };
-  shared = λ honest trusts m d gathered planned is fits other. absurd (other refl);
+  shared = λ w honest trusts m d gathered planned is fits other. absurd (other refl);
   memory = λ same. record { session = refl; reads = refl; hands = refl };
 }
 
@@ -133,7 +130,7 @@ pub returns-in-Err-take_queue : goal.returns-in-Err-take_queue
 returns-in-Err-take_queue g c = record {
   seat = c.requires.seat;
   place = record { number = refl; end_is = refl };
-  shared = λ honest trusts m d gathered planned is fits other. absurd (other refl);
+  shared = λ w honest trusts m d gathered planned is fits other. absurd (other refl);
   memory = λ same. record { session = refl; reads = refl; hands = refl };
 }
 
@@ -141,7 +138,7 @@ pub returns-in-Err-refuse : goal.returns-in-Err-refuse
 returns-in-Err-refuse g c = record {
   seat = c.requires.seat;
   place = record { number = refl; end_is = refl };
-  shared = λ honest trusts m d gathered planned is fits other. absurd (other refl);
+  shared = λ w honest trusts m d gathered planned is fits other. absurd (other refl);
   memory = λ same. record { session = refl; reads = refl; hands = refl };
 }
 
@@ -149,28 +146,26 @@ pub returns-in-Err-take : goal.returns-in-Err-take
 returns-in-Err-take g c = record {
   seat = c.requires.seat;
   place = record { number = refl; end_is = refl };
-  shared = λ honest trusts m d gathered planned is fits other. absurd (other refl);
+  shared = λ w honest trusts m d gathered planned is fits other. absurd (other refl);
   memory = λ same. record { session = refl; reads = refl; hands = refl };
 }
 
 pub returns-in-Push : goal.returns-in-Push
 returns-in-Push g c =
-    let w = terms_of c.args.context.now.config.now in
     let live = c.args.live.now in
     let P : Step → Type 0 =
-    λ s. DidStep w c.args.context.now.channels.now s live c.push.result c.push.new.live in
-    subst P (sym c.in-Push.is)
-    (subst (λ n. P (steps.Push n)) c.from.ensures (c.push.ensures.did w))
+    λ s. DidStep c.args.context.now.channels.now s live c.push.result c.push.new.live in
+    subst P (sym c.in-Push.is) (subst (λ n. P (steps.Push n)) c.from.ensures c.push.ensures.did)
 
 pub returns-in-Slot : goal.returns-in-Slot
 returns-in-Slot g c =
-    let w = terms_of c.args.context.now.config.now in
     let S : SessionSeat → Type 0 = λ s. IsSeatOf c.args.context.now.channels.now s in
     let P : Step → Type 0 =
-    λ s. SharesFor w s c.args.live.now c.look_in_slot.result c.look_in_slot.new.live in
+    λ s. (w : Terms) →
+    SharesFor w s c.args.live.now c.look_in_slot.result c.look_in_slot.new.live in
     record {
       seat = subst S (sym c.look_in_slot.ensures.seat) c.requires.seat;
       place = c.look_in_slot.ensures.place;
-      shared = subst P (sym c.in-Slot.is) (c.look_in_slot.ensures.shared w);
+      shared = subst P (sym c.in-Slot.is) c.look_in_slot.ensures.shared;
       memory = c.look_in_slot.ensures.memory;
     }

@@ -1,5 +1,4 @@
 use Rattle.std.proofs.Common.{subst, sym}
-use Rattle.article_verdict.specs.Config.{terms_of}
 use Rattle.live_jobs.specs.Seats.{IsSeatOf}
 use Rattle.live_jobs.specs.declared.session.SessionSeat.{SessionSeat}
 use Rattle.live_session.proofs.LiveSessions.{turned}
@@ -12,9 +11,9 @@ returns-clause-seat g c =
     subst P (sym c.hear.ensures.seat) c.share-answer.ensures.seat
 
 pub returns-clause-went : goal.returns-clause-went
-returns-clause-went g c = λ old plans rest.
+returns-clause-went g c = λ w old plans rest.
     let share = c.share-answer in
-    turned (terms_of c.args.context.now.config.now) old c.hear.new.live c.args.step c.args.now
+    turned w old c.hear.new.live c.args.step c.args.context.now.moment
     c.args.live.now share.new.live share.result (said_in c.hear.result) c.requires.moment plans rest
-    share.ensures.shared share.ensures.place share.ensures.memory
+    (share.ensures.shared w) share.ensures.place share.ensures.memory
     c.hear.ensures.heard c.hear.ensures.memory c.hear.ensures.rest

@@ -60,7 +60,8 @@ pub returns : goal.returns
 returns g c = record {
   seat = c.take_planned.ensures.seat;
   end = c.take_planned.ensures.end;
-  went = c.take_planned.ensures.went c.args.live.now c.in-Ok.ensures.due
+  went = c.take_planned.ensures.went (terms_of c.args.context.now.config.now) c.args.live.now
+      c.in-Ok.ensures.due
       (record { reads = refl; hands = refl; place = record { number = refl; end_is = refl } });
   held = λ held. absurd (c.take_planned.ensures.let_in held);
 }

@@ -4,7 +4,7 @@ use Rattle.live_session.specs.Carried.{CarriesOn, carried}
 
 pub returns-clause-on : goal.returns-clause-on
 returns-clause-on g c =
-    let old = c.args.wire.now in
+    let old = c.args.talk.now.wire in
     let new = c.put.new.wire in
     subst (CarriesOn
     (carried (g.H.Hears.heard old.reader) (g.W.Says.said old.writer) old.outbox old.finish)
