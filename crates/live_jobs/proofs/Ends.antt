@@ -1,17 +1,14 @@
 -- The seats that came back, as the comparison reads them.
-use Rattle.std.proofs.Common.{◌≡◌, ◌+◌, ℕ, Bool, List, length, map}
-use Rattle.std.proofs.Common.{sym, ◌∙◌, subst, arith}
+use Rattle.std.proofs.Common.{◌≡◌, ℕ, Bool, List, length, map}
+use Rattle.std.proofs.Common.{sym, ◌∙◌, subst}
 use Rattle.job_queue.specs.Passes.{QueuePass}
 use Rattle.live_jobs.specs.Gathered.{OfChannel, AllClosed, LeftsFit, WritersFit}
 use Rattle.live_jobs.specs.Rows.{From}
 use Rattle.live_jobs.specs.Started.{Ended, Left}
 use Rattle.live_jobs.specs.declared.channel.JobChannel.{JobChannel}
 use Rattle.live_jobs.specs.declared.session.LeftSeat.{LeftSeat}
-use Rattle.live_jobs.proofs.Writers.{length_map}
+use Rattle.live_jobs.proofs.Rows.{length_map, zero_add}
 use Rattle.news_terms.proofs.ListPlaces.{mapped_at}
-
-zero_add : (n : ℕ) → 0 + n ≡ n
-zero_add n = omega arith
 
 pub lefts_fit : (channels : List JobChannel) (lefts : List LeftSeat)
     → From (λ e l. Left channels e l) 0 lefts

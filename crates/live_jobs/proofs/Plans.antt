@@ -16,8 +16,8 @@ use Rattle.live_jobs.specs.declared.channel.JobChannel.{JobChannel}
 use Rattle.live_jobs.specs.declared.session.LeftSeat.{LeftSeat}
 use Rattle.live_jobs.specs.declared.session.SessionSeat.{SessionSeat}
 use Rattle.live_jobs.proofs.Passes.{get_set}
-use Rattle.live_jobs.proofs.Rows.{get_snoc, each_snoc}
-use Rattle.live_jobs.proofs.Writers.{within, length_map}
+use Rattle.live_jobs.proofs.Rows.{each_snoc, get_snoc, length_map}
+use Rattle.live_jobs.proofs.Writers.{within}
 
 -- a seat that comes back with its closure is the seat that went in
 pub same_seat : (channels now : List JobChannel) (seat was : SessionSeat) (end : ℕ)

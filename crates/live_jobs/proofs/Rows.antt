@@ -1,10 +1,18 @@
 -- Rows that are taken from the front, and rows that grow.
 use Rattle.std.proofs.Common.{◌≡◌, ◌<◌, ◌≤◌, ◌⊎◌, inl, inr, ℕ, zero, suc, ◌+◌, List, [], ◌∷◌}
-use Rattle.std.proofs.Common.{◌++◌, length}
+use Rattle.std.proofs.Common.{◌++◌, length, map}
 use Rattle.std.proofs.Common.{None, Some, refl, sym, ap, ◌∙◌, subst, ⊎_elim, arith}
 use Rattle.std.proofs.lemmas.Option.{same_Some}
 use Rattle.std.specs.Prelude.{slice_get}
 use Rattle.live_jobs.specs.Rows.{From}
+
+-- a row counted from 0
+pub zero_add : (n : ℕ) → 0 + n ≡ n
+zero_add n = omega arith
+
+pub length_map : {X Y : Type 0} (f : X → Y) (xs : List X) → length (map f xs) ≡ length xs
+length_map f [] = refl
+length_map f (x ∷ xs) = ap suc (length_map f xs)
 
 -- what is there isn't missing
 pub never_none : {A B : Type 0} (x : A) → Some x ≡ None → B
@@ -106,9 +114,6 @@ module _ {X : Type 0} where
       (λ (t : (k ≡ length xs) × (a ≡ b)). subst (λ (x : ℕ × X). P x.0 x.1)
       (λ i. (sym (zero_add k ∙ t.0) i, t.1 i)) last)
       (get_snoc xs a k b (ap (λ (l : List X). slice_get l k) (sym is) ∙ at))
-    where
-      zero_add : (n : ℕ) → 0 + n ≡ n
-      zero_add n = omega arith
 
   pub length_snoc : (xs now : List X) (a : X) → now ≡ xs ++ a ∷ [] → length now ≡ length xs + 1
   length_snoc xs now a is = ap length is ∙ go xs

@@ -16,7 +16,7 @@ use Rattle.job_queue.specs.Passes.{QueuePass}
 use Rattle.job_queue.proofs.Lists.{of_end_snoc, of_end_snoc_else}
 use Rattle.live_jobs.specs.declared.outcome.FinishedJob.{FinishedJob}
 use Rattle.live_jobs.specs.Taken.{name_of, finished_name, worth, kept_in, FitEach, Took}
-use Rattle.live_jobs.proofs.Rows.{get_snoc}
+use Rattle.live_jobs.proofs.Rows.{get_snoc, length_map}
 use Rattle.live_jobs.proofs.Passes.{get_set, marked_snoc, jobs_snoc, jobs_marked}
 
 mark_more : (a : List Parcel) (p : Parcel) → has_mark a ≡ true → has_mark (a ++ p ∷ []) ≡ true
@@ -34,10 +34,6 @@ map_snoc : {X Y : Type 0} (f : X → Y) (xs : List X) (x : X)
     → map f (xs ++ x ∷ []) ≡ map f xs ++ f x ∷ []
 map_snoc f [] x = refl
 map_snoc f (y ∷ xs) x = ap (λ l. f y ∷ l) (map_snoc f xs x)
-
-length_map : {X Y : Type 0} (f : X → Y) (xs : List X) → length (map f xs) ≡ length xs
-length_map f [] = refl
-length_map f (x ∷ xs) = ap suc (length_map f xs)
 
 inside : {X : Type 0} (xs : List X) (k : ℕ) (x : X) → slice_get xs k ≡ Some x → k < length xs
 inside [] k x e = absurd (cc)

@@ -17,12 +17,8 @@ use Rattle.live_jobs.specs.JobChannels.{queue_of}
 use Rattle.live_jobs.specs.Seats.{left_by}
 use Rattle.live_jobs.specs.Gathered.{OfChannel, AllClosed, WritersFit, RestsFit, IsRest, hands_of}
 use Rattle.live_jobs.specs.Gathered.{told_of, Told, ToldBelow, ToldBefore, NoneBefore}
-use Rattle.live_jobs.proofs.Rows.{get_snoc, length_snoc}
+use Rattle.live_jobs.proofs.Rows.{get_snoc, length_map, length_snoc}
 use Rattle.live_jobs.proofs.Passes.{read_at, get_set, length_set, map_set, map_set_same, map_at}
-
-pub length_map : {X Y : Type 0} (f : X → Y) (xs : List X) → length (map f xs) ≡ length xs
-length_map f [] = refl
-length_map f (x ∷ xs) = ap suc (length_map f xs)
 
 pub within : {X : Type 0} (xs : List X) (k : ℕ) (x : X) → slice_get xs k ≡ Some x → k < length xs
 within [] k x e = absurd (cc)

@@ -78,7 +78,12 @@ impl JobChannel {
     }
 
     // Tries so often, and gives way between.
-    fn try_often<R: Wait>(&self, rt: &R, pass: &mut QueuePass, job: Handed) -> Result<(), Handed>
+    fn try_often<R: Wait>(
+        &self,
+        rt: &R,
+        pass: &mut QueuePass,
+        mut job: Handed,
+    ) -> Result<(), Handed>
         requires pass { IsPassOf (queue_of self.now) pass.old }
         requires open { IsOpen job.end (view pass.old) }
         ensures pass { IsPassOf (queue_of self.now) pass.new }
@@ -87,7 +92,6 @@ impl JobChannel {
             HasHanded (view pass.old) (parcels.Job job) (view pass.new)) }
         ensures full { IfErr result (λ back. (back ≡ job) × (view pass.new ≡ view pass.old)) }
     {
-        let mut job = job;
         for _ in 0..LOOKS {
             match self.try_hand_over(rt, pass, job) {
                 Ok(()) => return Ok(()),
@@ -99,14 +103,13 @@ impl JobChannel {
     }
 
     /// Hands a job over. Where the queue is full it waits until there is room.
-    pub(crate) fn hand_over<R: Wait>(&self, rt: &R, pass: &mut QueuePass, job: Handed)
+    pub(crate) fn hand_over<R: Wait>(&self, rt: &R, pass: &mut QueuePass, mut job: Handed)
         requires pass { IsPassOf (queue_of self.now) pass.old }
         requires open { IsOpen job.end (view pass.old) }
         ensures pass { IsPassOf (queue_of self.now) pass.new }
         ensures open { IsOpen job.end (view pass.new) }
         ensures taken { HasHanded (view pass.old) (parcels.Job job) (view pass.new) }
     {
-        let mut job = job;
         for _ in rt.forever() {
             match self.try_often(rt, pass, job) {
                 Ok(()) => return,
@@ -122,23 +125,6 @@ impl JobChannel {
         unreachable!()
     }
 
-    // Pushes the closing mark of an end, or answers false where the queue was full.
-    fn try_close<R: Wait>(&self, rt: &R, pass: &mut QueuePass, end: u64) -> bool
-        requires pass { IsPassOf (queue_of self.now) pass.old }
-        requires open { IsOpen end (view pass.old) }
-        ensures pass { IsPassOf (queue_of self.now) pass.new }
-        ensures closed { result ≡ true → IsClosed end (view pass.new) }
-        ensures marked { result ≡ true
-            → HasHanded (view pass.old) (parcels.Mark end) (view pass.new) }
-        ensures full { result ≡ false → view pass.new ≡ view pass.old }
-    {
-        let marked = job_queue::mark_closed(rt, &self.queue, pass, end);
-        if marked {
-            self.filled.notify_one();
-        }
-        marked
-    }
-
     /// Pushes the closing mark of an end. Where the queue is full it waits until there is room.
     pub(crate) fn close_end<R: Wait>(&self, rt: &R, pass: &mut QueuePass, end: u64)
         requires pass { IsPassOf (queue_of self.now) pass.old }
@@ -149,7 +135,8 @@ impl JobChannel {
     {
         for _ in rt.forever() {
             let key = self.emptied.prepare_wait();
-            if self.try_close(rt, pass, end) {
+            if job_queue::mark_closed(rt, &self.queue, pass, end) {
+                self.filled.notify_one();
                 return;
             }
             key.wait(rt);

@@ -4,7 +4,8 @@ ghost use Rattle.std.specs.Prelude.{slice_get, length, map};
 ghost use Rattle.live_jobs.specs.Desks.{posts_in};
 ghost use Rattle.live_jobs.specs.Gathered.{kept_by_all};
 
-use crate::desk::{CountedDesk, Posts};
+use crate::desk::CountedDesk;
+use crate::gather::Totals;
 use crate::outcome::Outcome;
 use crate::writer::WriterSeat;
 use std::sync::ledger::{Ledger, Share};
@@ -44,12 +45,12 @@ fn sum_kept<L: Ledger, O: Outcome>(writers: &[WriterSeat<L, O>], most: u64) -> u
 pub(crate) fn count_all<L: Ledger, O: Outcome>(
     desk: &mut CountedDesk<L>,
     writers: &mut Vec<WriterSeat<L, O>>,
-) -> (u64, Posts)
+) -> Totals
     requires parts { (length writers.old.items ≡ L.parts) × (0 < length writers.old.items) }
     requires here { (g : ℕ) (w : _) → slice_get writers.old.items g ≡ Some w → w.lent ≡ false }
-    ensures accepted { result.0
+    ensures accepted { result.accepted
         ≡ kept_by_all O.kept (map (λ w. w.finished.items) writers.old.items) }
-    ensures posted { posts_in result.1 ≡ result.0 }
+    ensures posted { posts_in result.posted ≡ result.accepted }
     ensures finished { map (λ w. w.finished.items) writers.new.items
         ≡ map (λ w. w.finished.items) writers.old.items }
     ensures pass { map (λ w. w.pass) writers.new.items ≡ map (λ w. w.pass) writers.old.items }
@@ -59,5 +60,8 @@ pub(crate) fn count_all<L: Ledger, O: Outcome>(
     let mut all = writers[0].no_share();
     lend_all(writers, &mut all);
     let posted = desk.posted(&mut all);
-    (sum_kept(writers, posted.count()), posted)
+    Totals {
+        accepted: sum_kept(writers, posted.count()),
+        posted,
+    }
 }

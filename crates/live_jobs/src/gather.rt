@@ -163,10 +163,10 @@ pub fn close<L: Ledger, O: Outcome, V, R: Wait>(
     ensures handed { hands_of seats.new.lefts.items ≡ hands_of seats.old.lefts.items }
     ensures services { seats.new.services.items ≡ seats.old.services.items }
 {
-    let (accepted, posted) = {
+    let totals = {
         let mut desk = desk.lock(rt);
         count_all(&mut *desk, &mut seats.writers)
     };
     compare_all(channels, &mut seats.lefts, &mut seats.writers, rests);
-    Totals { accepted, posted }
+    totals
 }

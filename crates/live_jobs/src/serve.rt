@@ -10,7 +10,7 @@ ghost use Rattle.live_jobs.specs.Started.{AllEnded, AllLeft, AllKept, CameBack, 
 use crate::channel::JobChannel;
 use crate::gather::Seats;
 use crate::outcome::Outcome;
-use crate::session::{LeftSeat, SessionSeat, push_marks};
+use crate::session::{LeftSeat, push_marks};
 use crate::start::{
     Accounts, EndFinished, Leaver, Plan, Service, WriterFinished, start_end, start_writer,
 };
@@ -165,13 +165,8 @@ fn leave_running<V: Drop, R: Wait>(
     requires fit { From (λ e p. IsSeatOf channels.now p.seat) 0 (into_iter_items plans) }
 {
     for plan in plans {
-        let Plan { seat, service: _ } = plan;
-        let SessionSeat {
-            end,
-            handed: _,
-            mut passes,
-        } = seat;
-        push_marks(rt, channels, end, &mut passes, groups);
+        let mut seat = plan.seat;
+        push_marks(rt, channels, seat.end, &mut seat.passes, groups);
     }
 }
 
@@ -197,9 +192,7 @@ fn run_threads<
     ensures { IfOk result (CameBack V.fits V.mark channels.now plans.items writers.items) }
 {
     let ends = plans.len();
-    let groups = writers.len();
-    let alloc = *plans.allocator();
-    let Ok((mut running, mut serving, mut seats)) = no_rooms(alloc, groups, ends) else {
+    let Ok((mut running, mut serving, mut seats)) = no_rooms(&plans, &writers) else {
         return Err(SeatsError::Memory);
     };
     if !start_writers(scope, rt, channels, store, writers, ends, &mut running) {
@@ -217,11 +210,10 @@ fn run_threads<
     Ok(seats)
 }
 
-/// Room for the handles and the seats of so many writers and ends.
+/// Room for the handles and the seats of these writers and ends.
 fn no_rooms<'s, L: Ledger, O: Outcome + Drop, V: Accounts + Drop>(
-    alloc: Global,
-    groups: usize,
-    ends: usize,
+    plans: &Vec<Plan<V>>,
+    ready: &Vec<WriterSeat<L, O>>,
 ) -> Result<
     (
         Vec<PromisedHandle<WriterSeat<L, O>, WriterFinished<'s>>>,
@@ -233,35 +225,34 @@ fn no_rooms<'s, L: Ledger, O: Outcome + Drop, V: Accounts + Drop>(
     ensures none { IfOk result (λ rooms. (length rooms.0.items ≡ 0)
         × (length rooms.1.items ≡ 0) × (length rooms.2.lefts.items ≡ 0)
         × (length rooms.2.services.items ≡ 0) × (length rooms.2.writers.items ≡ 0)) }
-    ensures room { IfOk result (λ rooms. (groups ≤ vec_capacity rooms.0)
-        × (ends ≤ vec_capacity rooms.1) × (ends ≤ vec_capacity rooms.2.lefts)
-        × (ends ≤ vec_capacity rooms.2.services) × (groups ≤ vec_capacity rooms.2.writers)) }
+    ensures room { IfOk result (λ rooms. (vec_len ready.now ≤ vec_capacity rooms.0)
+        × (vec_len plans.now ≤ vec_capacity rooms.1)
+        × (vec_len plans.now ≤ vec_capacity rooms.2.lefts)
+        × (vec_len plans.now ≤ vec_capacity rooms.2.services)
+        × (vec_len ready.now ≤ vec_capacity rooms.2.writers)) }
 {
-    let running = Vec::with_capacity(alloc, groups)?;
-    let serving = Vec::with_capacity(alloc, ends)?;
-    let seats = no_seats(alloc, groups, ends)?;
-    Ok((running, serving, seats))
-}
-
-/// Room for the seats of so many writers and ends.
-fn no_seats<L: Ledger, O: Outcome + Drop, V: Drop>(
-    alloc: Global,
-    groups: usize,
-    ends: usize,
-) -> Result<Seats<L, O, V>, AllocError>
-    ensures none { IfOk result (λ seats. (length seats.lefts.items ≡ 0)
-        × (length seats.services.items ≡ 0) × (length seats.writers.items ≡ 0)) }
-    ensures room { IfOk result (λ seats. (ends ≤ vec_capacity seats.lefts)
-        × (ends ≤ vec_capacity seats.services) × (groups ≤ vec_capacity seats.writers)) }
-{
-    let lefts = Vec::with_capacity(alloc, ends)?;
-    let services = Vec::with_capacity(alloc, ends)?;
-    let writers = Vec::with_capacity(alloc, groups)?;
-    Ok(Seats {
+    let alloc = *plans.allocator();
+    let (running, writers) = two_rooms(alloc, ready.len())?;
+    let (lefts, services) = two_rooms(alloc, plans.len())?;
+    let serving = Vec::with_capacity(alloc, plans.len())?;
+    let seats = Seats {
         lefts,
         services,
         writers,
-    })
+    };
+    Ok((running, serving, seats))
+}
+
+/// Room for so many of one kind and as many of another.
+fn two_rooms<A: Drop, B: Drop>(alloc: Global, many: usize) -> Result<(Vec<A>, Vec<B>), AllocError>
+    ensures none { IfOk result (λ rooms. (length rooms.0.items ≡ 0)
+        × (length rooms.1.items ≡ 0)) }
+    ensures room { IfOk result (λ rooms. (many ≤ vec_capacity rooms.0)
+        × (many ≤ vec_capacity rooms.1)) }
+{
+    let one = Vec::with_capacity(alloc, many)?;
+    let other = Vec::with_capacity(alloc, many)?;
+    Ok((one, other))
 }
 
 /// A flag for each end.

@@ -7,7 +7,7 @@ use Rattle.live_jobs.specs.Taken.{kept_in}
 use Rattle.live_jobs.proofs.Passes.{read_at, length_set, map_at, map_set_same}
 use Rattle.live_jobs.proofs.Counts.{kept_next, here_next}
 use Rattle.live_jobs.proofs.Rows.{below_same}
-use Rattle.live_jobs.proofs.Writers.{length_map}
+use Rattle.live_jobs.proofs.Rows.{length_map}
 use Rattle.live_jobs.proofs.count.lend_all.Goals as goal
 
 pub loop-group-init : goal.loop-group-init

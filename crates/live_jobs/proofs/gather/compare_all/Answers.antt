@@ -1,14 +1,13 @@
 use Rattle.std.proofs.Common.{◌≡◌, ◌<◌, ◌≤◌, ℕ, List, [], length, map, refl, ap, sym, ◌∙◌, subst}
-use Rattle.std.proofs.Common.{arith}
 use Rattle.std.specs.Prelude.{slice_get}
 use Rattle.job_queue.specs.Delivery.{end_limit}
 use Rattle.live_jobs.specs.declared.outcome.FinishedJob.{FinishedJob}
 use Rattle.live_jobs.specs.Gathered.{AllClosed, IsRest, told_of}
 use Rattle.live_jobs.specs.Seats.{left_by}
 use Rattle.live_jobs.proofs.Passes.{length_set, map_at, map_set_same}
-use Rattle.live_jobs.proofs.Rows.{below_past, below_same, past_same}
+use Rattle.live_jobs.proofs.Rows.{below_past, below_same, length_map, past_same}
 use Rattle.live_jobs.proofs.Writers.{writers_at, writers_set, rest_at, rests_set, told_group}
-use Rattle.live_jobs.proofs.Writers.{none_group, length_map, within}
+use Rattle.live_jobs.proofs.Writers.{none_group, within}
 use Rattle.live_jobs.proofs.gather.compare_all.Goals as goal
 
 pub index_mut-requires-in-loop-group : goal.index_mut-requires-in-loop-group

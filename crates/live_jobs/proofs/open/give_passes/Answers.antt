@@ -1,4 +1,4 @@
-use Rattle.std.proofs.Common.{◌≡◌, ◌+◌, ◌<◌, ◌∙◌, ◌++◌, ◌∷◌, [], ℕ, ap, sym, refl, subst}
+use Rattle.std.proofs.Common.{◌≡◌, ◌+◌, ◌∙◌, ◌++◌, ◌∷◌, [], ℕ, ap, sym, refl, subst}
 use Rattle.std.proofs.Common.{length, arith, false}
 use Rattle.std.proofs.lemmas.Result.{IfOk-from_err}
 use Rattle.job_queue.specs.declared.known.Known.{Known}
@@ -6,13 +6,10 @@ use Rattle.job_queue.specs.Delivery.{knows, end_knows, end_limit}
 use Rattle.live_jobs.specs.Started.{IsUnused}
 use Rattle.live_jobs.proofs.Passes.{read_at, length_set, fits_snoc, map_set_same}
 use Rattle.live_jobs.proofs.Plans.{finished_next, todo_next}
-use Rattle.live_jobs.proofs.Rows.{below_same}
+use Rattle.live_jobs.proofs.Rows.{below_same, zero_add}
 use Rattle.live_jobs.proofs.Unused.{unused_snoc}
 use Rattle.live_jobs.proofs.Writers.{within}
 use Rattle.live_jobs.proofs.open.give_passes.Goals as goal
-
-zero_add : (n : ℕ) → 0 + n ≡ n
-zero_add n = omega arith
 
 pub loop-end-init : goal.loop-end-init
 loop-end-init g c = record {

@@ -9,8 +9,7 @@ pub start_writers-requires-clause-none : goal.start_writers-requires-clause-none
 start_writers-requires-clause-none g c κs within = c.in-Ok.ensures.none.0
 
 pub start_writers-requires-clause-room : goal.start_writers-requires-clause-room
-start_writers-requires-clause-room g c κs within =
-    subst (λ (n : ℕ). n ≤ vec_capacity c.in-Ok.running) c.len-groups.ensures c.in-Ok.ensures.room.0
+start_writers-requires-clause-room g c κs within = c.in-Ok.ensures.room.0
 
 pub start_writers-requires-clause-fit : goal.start_writers-requires-clause-fit
 start_writers-requires-clause-fit g c κs within =
@@ -31,8 +30,7 @@ start_ends-all-requires-clause-none g c κs within = c.in-Ok.ensures.none.1
 
 pub start_ends-all-requires-clause-room : goal.start_ends-all-requires-clause-room
 start_ends-all-requires-clause-room g c κs within = (
-  subst (λ (n : ℕ). n ≤ vec_capacity c.in-Ok.serving) (c.len-ends.ensures ∙ c.args.plans.ok.0)
-      c.in-Ok.ensures.room.1,
+  subst (λ (n : ℕ). n ≤ vec_capacity c.in-Ok.serving) c.args.plans.ok.0 c.in-Ok.ensures.room.1,
   c.requires.flagged,
 )
 
@@ -50,13 +48,12 @@ pub join_ends-requires-clause-room : goal.join_ends-requires-clause-room
 join_ends-requires-clause-room g c =
     let room = c.in-Ok.ensures.room in
     let some = c.start_ends-all.ensures.some in
-    let all = c.len-ends.ensures ∙ c.args.plans.ok.0 in
+    let all = c.args.plans.ok.0 in
     (within_room _ _ _ _ some all room.2, within_room _ _ _ _ some all room.3)
 
 pub join_writers-requires-clause-room : goal.join_writers-requires-clause-room
 join_writers-requires-clause-room g c =
-    within_room _ _ _ _ c.start_writers.ensures.some
-    (c.len-groups.ensures ∙ c.args.writers.ok.0) c.in-Ok.ensures.room.4
+    within_room _ _ _ _ c.start_writers.ensures.some c.args.writers.ok.0 c.in-Ok.ensures.room.4
 
 -- all come back
 pub returns : goal.returns
