@@ -12,23 +12,22 @@ use Rattle.live_store.specs.declared.record.StorePremises.{Ghosts}
 use Rattle.relay_live.specs.Sessions.{Accounted, IsNothing, Sessions, NoneYet}
 use Rattle.relay_model.specs.Terms.{Terms}
 
-nothing : (channels : List JobChannel) → IsNothing (no_jobs channels)
+-- to these channels nothing was handed over
+pub nothing : (channels : List JobChannel) → IsNothing (no_jobs channels)
 nothing [] g list at = absurd (cc)
 nothing (channel ∷ channels) zero list at = sym (same_Some [] list at)
 nothing (channel ∷ channels) (suc g) list at = nothing channels g list at
 
 -- an end that has handed nothing over and kept nothing has its accounts right
-pub new_accounts : {J : Type 0} {g : Ghosts J} (trusted : Bool) (w : Terms) (end peer count : ℕ)
-    (channels : List JobChannel) (jobs : List (List Handed)) (kept : List (KeptJob J g)) → count ≡ 0
-    → jobs ≡ no_jobs channels → kept ≡ [] → Accounted trusted w end peer count jobs kept
-new_accounts {J} {g} trusted w end peer count channels jobs kept unused none empty honest trust =
-    ∣ subst (λ (x : (List (List Handed) × ℕ) × List (KeptJob J g)).
-    Sessions honest g.register w end peer (record {
-      jobs = x.0.0;
-      count = x.0.1;
-      kept = map (λ k. k.number) x.1;
-    })) (λ i. ((sym none i, sym unused i), sym empty i))
-    (NoneYet (no_jobs channels) (nothing channels)) ∣₁
+pub new_accounts : {J : Type 0} {g : Ghosts J} (trusted : Bool) (w : Terms) (end peer : ℕ)
+    (jobs : List (List Handed)) (kept : List (KeptJob J g)) → IsNothing jobs
+    → kept ≡ [] → Accounted trusted w end peer 0 jobs kept
+new_accounts {J} {g} trusted w end peer jobs kept none empty honest trust =
+    ∣ subst (λ (kept : List (KeptJob J g)). Sessions honest g.register w end peer (record {
+      jobs = jobs;
+      count = 0;
+      kept = map (λ k. k.number) kept;
+    })) (sym empty) (NoneYet jobs none) ∣₁
 
 -- lists that are read alike are of one length
 pub same_length : {X Y Z : Type 0} (f : X → Z) (h : Y → Z) (xs : List X) (ys : List Y)
@@ -76,19 +75,22 @@ module _ {X Y : Type 0} (f : X → Y) where
       sym (append-nil (map g ps)) ∙ ap (λ (l : List X). map g ps ++ map f l) (sym none) ∙ so_far
 
 -- what is read of the marks is the same of the services that came back as of those that were given
-module _ {P V M Y : Type 0} (mark : V → M) (of : M → Y) (service : P → V) where
-  marks_of : (vs : List V) → map (λ v. of (mark v)) vs ≡ map of (map mark vs)
-  marks_of [] = refl
-  marks_of (v ∷ vs) = ap (λ (l : List Y). of (mark v) ∷ l) (marks_of vs)
+module _ {V M : Type 0} (mark : V → M) where
+  module _ {P : Type 0} (service : P → V) where
+    marks_in : (ps : List P) → map (λ p. mark (service p)) ps ≡ map mark (map service ps)
+    marks_in [] = refl
+    marks_in (p ∷ ps) = ap (λ (l : List M). mark (service p) ∷ l) (marks_in ps)
 
-  marks_in : (ps : List P) → map (λ p. mark (service p)) ps ≡ map mark (map service ps)
-  marks_in [] = refl
-  marks_in (p ∷ ps) = ap (λ (l : List M). mark (service p) ∷ l) (marks_in ps)
+    pub same_marks : (services ends : List V) (plans : List P)
+        → map mark services ≡ map (λ p. mark (service p)) plans → map service plans ≡ ends
+        → map mark services ≡ map mark ends
+    same_marks services ends plans same is = same ∙ marks_in plans ∙ ap (map mark) is
 
-  pub marked : (services ends : List V) (plans : List P)
-      → map mark services ≡ map (λ p. mark (service p)) plans → map service plans ≡ ends
-      → map (λ v. of (mark v)) services ≡ map (λ v. of (mark v)) ends
-  marked services ends plans same is =
-      marks_of services
-      ∙ ap (map of) (same ∙ marks_in plans ∙ ap (map mark) is)
-      ∙ sym (marks_of ends)
+  module _ {Y : Type 0} (of : M → Y) where
+    marks_of : (vs : List V) → map (λ v. of (mark v)) vs ≡ map of (map mark vs)
+    marks_of [] = refl
+    marks_of (v ∷ vs) = ap (λ (l : List Y). of (mark v) ∷ l) (marks_of vs)
+
+    pub marked : (services ends : List V) → map mark services ≡ map mark ends
+        → map (λ v. of (mark v)) services ≡ map (λ v. of (mark v)) ends
+    marked services ends same = marks_of services ∙ ap (map of) same ∙ sym (marks_of ends)

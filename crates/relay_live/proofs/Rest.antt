@@ -1,7 +1,7 @@
 -- Whether an id is being stored, shard after shard.
 use Rattle.std.proofs.Common.{◌≡◌, ◌≢◌, ◌∙◌, ℕ, ◌+◌, ◌<◌, ◌==◌, Bool, true, false, List, arith}
-use Rattle.std.proofs.Common.{ap, cond, length, refl, Some, slice_get, slice_index_or, subst, sym}
-use Rattle.std.proofs.Common.{true≢false}
+use Rattle.std.proofs.Common.{ap, cond, length, map, refl, Some, slice_get, slice_index_or, subst}
+use Rattle.std.proofs.Common.{sym, true≢false}
 use Rattle.std.proofs.Math.Nat.{mod-lt}
 use Rattle.std.proofs.lemmas.Bool.{eqb-false, eqb-true}
 use Rattle.std.proofs.lemmas.Option.{same_Some}
@@ -15,6 +15,12 @@ use Rattle.id_history.specs.Shards.{EachKeeps, claims_at}
 use Rattle.id_history.specs.declared.claims.Shard.{Shard}
 use Rattle.id_history.specs.declared.counts.Counts.{Counts}
 use Rattle.relay_core.proofs.Idleness.{told}
+use Rattle.live_store.specs.Steps.{buffer_of}
+use Rattle.live_store.specs.declared.numbered.NumberedBuffer.{NumberedBuffer}
+use Rattle.live_store.specs.declared.record.StorePremises as store_premises
+use Rattle.relay_live.proofs.Rooms.{below_as}
+use Rattle.relay_live.specs.Stopping.{IsAtRest}
+use Rattle.relay_live.specs.declared.alone.Alone.{Alone}
 use Rattle.relay_model.specs.Claims.{Claim, Unknown, is_storing}
 use Rattle.relay_model.specs.Run.{shard_of}
 use Rattle.relay_model.specs.Terms.{shard_count}
@@ -103,3 +109,21 @@ idle_more {S} {s} codes place code is idle before b one less there = by (b == pl
         same_Some code one (sym is ∙ ap (slice_get codes) (sym (eqb-true b place e)) ∙ there) in
         subst (λ (each : Buffer S s). is_busy each ≡ false) same idle
     by false e = before b one (omega (arith, less, eqb-false b place e)) there
+
+-- where none is stored and none is written, as these shards and buffers say, all is at rest
+pub at_rest : {S J L : Type 0} {s : Ghosts S} {j : store_premises.Ghosts J}
+    (alone : Alone S J L s j)
+    (shards : List Shard) (buffers : List (NumberedBuffer S J s j)) → shards ≡ alone.shards.items
+    → buffers ≡ alone.buffers.items → IsRestTo shards (length shards)
+    → ((b : ℕ) (code : Buffer S s) → slice_get (map buffer_of buffers) b ≡ Some code
+    → is_busy code ≡ false)
+    → IsAtRest alone
+at_rest {S} {J} {L} {s} {j} alone shards buffers same same_buffers none unwritten = record {
+  claims = λ claims keeps id.
+      none claims (subst (λ items. EachKeeps items claims) (sym same) keeps) id
+      (below_as _ _ _ (shard_within id) (sym (ap length same ∙ alone.sixteen)));
+  buffers = λ b code there.
+      unwritten b code
+      (subst (λ (items : List (NumberedBuffer S J s j)).
+      slice_get (map buffer_of items) b ≡ Some code) (sym same_buffers) there);
+}

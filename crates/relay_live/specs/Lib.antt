@@ -8,6 +8,7 @@ pub mod Locking
 pub mod Making
 pub mod Numbers
 pub mod Rounds
+pub mod Running
 pub mod Sessions
 pub mod Settling
 pub mod Slots

@@ -1,26 +1,22 @@
 //! A shard of the history under its lock.
-ghost use Rattle.std.specs.Prelude.{◌≡◌, ◌≢◌, ◌<◌, ◌+◌, ◌^◌, IfOk};
-ghost use Rattle.id_history.specs.Counts.{AtMost};
+ghost use Rattle.std.specs.Prelude.{◌≡◌, ◌≢◌, ◌<◌, IfOk};
 ghost use Rattle.id_history.specs.declared.claims.Take.TheVariants as takes;
-ghost use Rattle.relay_live.specs.Rounds.{fronts_in, shards_in, times_of};
 ghost use Rattle.relay_live.specs.Settling.{SettlesJob};
-ghost use Rattle.relay_model.specs.Terms.{shard_count};
 
-use crate::forgetting::Rounds;
 use crossbeam_utils::sync::EventCount;
 use cyc_token::Token;
-use id_history::{Counts, Offer, Shard, Take};
+use id_history::{Shard, Take};
 use live_jobs::{CountedDesk, Posted, Unsettled};
 use nntp_text::MsgId;
 use std::alloc::AllocError;
 use std::sync::ledger::{Ledger, Share};
 use std::sync::{Mutex, Wait};
 
-/// A shard, and those who wait until an article of it is no longer being stored. Each call is that
-/// of `Shard` of this name.
+/// A shard, and those who wait until an article of it is no longer being stored. What neither waits
+/// nor ends a storing goes to the shard itself; each call here is that of `Shard` of this name.
 #[derive(Drop)]
 pub(crate) struct Claims {
-    shard: Mutex<Shard>,
+    pub(crate) shard: Mutex<Shard>,
     // Told of each article whose storing ended.
     ended: EventCount,
 }
@@ -38,35 +34,6 @@ impl Claims {
     pub(crate) fn into_shard(self) -> Shard {
         let Claims { shard, ended: _ } = self;
         shard.into_inner()
-    }
-
-    pub(crate) fn offer<R: Wait>(
-        &self,
-        rt: &R,
-        id: &MsgId,
-        session: u64,
-    ) -> Result<Offer, AllocError> {
-        self.shard.lock(rt).offer(id, session)
-    }
-
-    pub(crate) fn look<R: Wait>(&self, rt: &R, id: &MsgId) -> Option<Token> {
-        self.shard.lock(rt).look(id)
-    }
-
-    pub(crate) fn counts<R: Wait>(&self, rt: &R) -> Counts
-        ensures few { AtMost (2 ^ 63) result }
-    {
-        self.shard.lock(rt).counts()
-    }
-
-    pub(crate) fn refuse<R: Wait>(
-        &self,
-        rt: &R,
-        id: &MsgId,
-        session: u64,
-        now: u64,
-    ) -> Result<(), AllocError> {
-        self.shard.lock(rt).refuse(id, session, now)
     }
 
     pub(crate) fn take<R: Wait>(
@@ -99,23 +66,9 @@ impl Claims {
         unreachable!()
     }
 
-    pub(crate) fn release<R: Wait>(&self, rt: &R, id: &MsgId, session: u64) {
-        self.shard.lock(rt).release(id, session);
-    }
-
     pub(crate) fn forget<R: Wait>(&self, rt: &R, id: &MsgId, session: u64) {
         self.shard.lock(rt).forget(id, session);
         self.ended.notify_all();
-    }
-
-    /// Forgets in it, under its lock, what a round may forget.
-    pub(crate) fn expire<R: Wait>(&self, rt: &R, rounds: &mut Rounds)
-        requires { shards_in rounds.old < shard_count }
-        ensures one_more { shards_in rounds.new ≡ shards_in rounds.old + 1 }
-        ensures same { (times_of rounds.new ≡ times_of rounds.old)
-            × (fronts_in rounds.new ≡ fronts_in rounds.old) }
-    {
-        rounds.expire(&mut self.shard.lock(rt));
     }
 
     /// Settles under this lock and then the desk's (`live_jobs::settle`).

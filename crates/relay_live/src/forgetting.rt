@@ -1,17 +1,17 @@
 //! Rounds of forgetting (docs/PROTOCOL.md, Forgetting).
-ghost use Rattle.std.specs.Prelude.{◌≡◌, ◌+◌, ◌<◌, ℕ, None, Some, IsSomeAnd, length};
+ghost use Rattle.std.specs.Prelude.{◌≡◌, ℕ, None, Some, IsSomeAnd};
 ghost use Rattle.relay_live.specs.Making.{buffers_in, remember_in};
-ghost use Rattle.relay_live.specs.Rounds.{IsRound, fronts_in, shards_in, times_of};
+ghost use Rattle.relay_live.specs.Rounds.{IsRound};
 
 mod round;
 
 use crate::shared::Shared;
 use cyc_block::BlockStore;
-use live_store::{NumberedBuffer, StorePremises};
+use live_store::StorePremises;
 pub use round::Round;
 pub(crate) use round::Rounds;
+use std::sync::Wait;
 use std::sync::ledger::Ledger;
-use std::sync::{Mutex, Wait};
 
 /// Forgets what may be forgotten at this moment, where the configuration says how long ids are
 /// remembered, else nothing: each buffer's front is read under its lock, then what may be forgotten
@@ -30,7 +30,7 @@ pub fn expire_round<S: BlockStore + Drop, J: StorePremises, L: Ledger, R: Wait>(
     Some(go(rt, shared, &mut shared.rounds.lock(rt), now, remember))
 }
 
-/// Goes a round.
+/// Goes a round, in which each buffer and each shard is held for as long as it is looked at.
 fn go<S: BlockStore + Drop, J: StorePremises, L: Ledger, R: Wait>(
     rt: &R,
     shared: &Shared<S, J, L>,
@@ -42,24 +42,10 @@ fn go<S: BlockStore + Drop, J: StorePremises, L: Ledger, R: Wait>(
 {
     rounds.begin(now, remember);
     for buffer in &shared.buffers {
-        read_front(rt, buffer, rounds);
+        rounds.read(&buffer.lock(rt));
     }
     for claims in &shared.shards {
-        claims.expire(rt, rounds);
+        rounds.expire(&mut claims.shard.lock(rt));
     }
     rounds.round()
-}
-
-/// Reads the front of a buffer under its lock.
-fn read_front<S: BlockStore, J: StorePremises, R: Wait>(
-    rt: &R,
-    buffer: &Mutex<NumberedBuffer<S, J>>,
-    rounds: &mut Rounds,
-)
-    requires { length (fronts_in rounds.old) < 256 }
-    ensures front { length (fronts_in rounds.new) ≡ length (fronts_in rounds.old) + 1 }
-    ensures same { (times_of rounds.new ≡ times_of rounds.old)
-        × (shards_in rounds.new ≡ shards_in rounds.old) }
-{
-    rounds.read(&buffer.lock(rt));
 }

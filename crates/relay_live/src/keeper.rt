@@ -204,7 +204,10 @@ impl<
     fn store(&self, rt: &R, share: &mut Share<L>, handed: &Handed) -> StoreResult<J> {
         let store_result = self.keep(rt, share, handed);
         let answer = answer_of(handed.number, &store_result);
-        self.shared.tell(rt, handed.end, answer);
+        match self.shared.slots.get(handed.end as usize) {
+            Some(slot) => slot.tell(rt, answer),
+            None => drop(answer),
+        }
         store_result
     }
 }

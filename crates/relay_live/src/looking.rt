@@ -51,7 +51,7 @@ impl<S: BlockStore + Drop, J: StorePremises, L: Ledger> Shared<S, J, L> {
             refused: 0,
         };
         for claims in &self.shards {
-            all = sum(all, claims.counts(rt));
+            all = sum(all, claims.shard.lock(rt).counts());
         }
         all
     }

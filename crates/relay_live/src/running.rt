@@ -11,6 +11,7 @@ ghost use Rattle.relay_live.specs.Counts.{accepted_in, posted_in, mismatched_rec
 ghost use Rattle.relay_live.specs.Counts.{AreCounts, ids_stored_again_of};
 ghost use Rattle.relay_live.specs.PeerServers.{kept_of, peer_of, terms_at};
 ghost use Rattle.relay_live.specs.Making.{slots_of};
+ghost use Rattle.relay_live.specs.Running.{AreNew, AreServed};
 ghost use Rattle.relay_live.specs.Sessions.{Accounted, HasLists};
 ghost use Rattle.relay_live.specs.declared.running.LiveError.TheVariants as errors;
 
@@ -19,8 +20,8 @@ use crate::peer_server::PeerServer;
 use crate::register_ref::RegisterRef;
 use cyc_block::BlockStore;
 use live_jobs::{
-    Opened, Outcome, Posts, Seats, SeatsError, StoreResult, Totals, close, ids_stored_again,
-    mismatched_receipts, open_all, serve_seats,
+    CountedDesk, Opened, Outcome, Posts, Seats, SeatsError, Service, Store, StoreResult, Totals,
+    close, ids_stored_again, mismatched_receipts, open_all, serve_seats,
 };
 use live_session::{Clock, Gate};
 use live_store::StorePremises;
@@ -28,8 +29,8 @@ use live_wire::Connections;
 use relay_conf::Config;
 use std::alloc::{AllocError, Global};
 use std::hash::RandomState;
-use std::sync::Wait;
 use std::sync::ledger::{Ledger, Share};
+use std::sync::{Mutex, Wait};
 use std::thread::Threads;
 
 /// Why nothing of a run is counted.
@@ -160,18 +161,22 @@ fn ends_of<
     Q: RegisterRef,
 >(
     alloc: Global,
-    hasher: RandomState,
     keeper: &Keeper<'a, S, J, L, C, Q>,
-    config: &'a Config,
-    gate: &'a G,
-    peer_sources: Vec<PeerSource<X>>,
+    serving: Serving<'a, X, G>,
 ) -> Result<Vec<PeerServer<'a, X, S, J, L, C, G, Q>>, AllocError>
     ensures peers { IfOk result (λ ends.
-        map peer_of ends.items ≡ map (λ d. d.peer) peer_sources.items) }
-    ensures terms { IfOk result (λ ends.
-        map terms_at ends.items ≡ map (λ d. terms_of config.now) peer_sources.items) }
-    ensures new { IfOk result (λ ends. map kept_of ends.items ≡ map (λ d. []) peer_sources.items) }
+        map peer_of ends.items ≡ map (λ d. d.peer) serving.entry.peer_sources.items) }
+    ensures terms { IfOk result (λ ends. map terms_at ends.items
+        ≡ map (λ d. terms_of serving.entry.config.now) serving.entry.peer_sources.items) }
+    ensures new { IfOk result (λ ends.
+        map kept_of ends.items ≡ map (λ d. []) serving.entry.peer_sources.items) }
 {
+    let Serving {
+        config,
+        gate,
+        hasher,
+        peer_sources,
+    } = serving;
     let mut ends = Vec::with_capacity(alloc, peer_sources.len())?;
     for peer_source in peer_sources {
         ends.push_reserved(PeerServer::new(
@@ -185,6 +190,44 @@ fn ends_of<
         ));
     }
     Ok(ends)
+}
+
+/// Serves these ends, and a writer for each of so many groups, each in a thread of its own, until
+/// all have ended; and compares what they handed over with what they told. The seats that have come
+/// back, and the totals of their writers.
+fn serve_ends<
+    L: Ledger + Send + Sync,
+    O: Outcome + Drop + Send,
+    V: Service<R> + Drop + Send,
+    K: Store<L, O, R> + Sync,
+    R: Threads + Wait + Sync,
+>(
+    rt: &R,
+    alloc: Global,
+    keeper: &K,
+    ends: Vec<V>,
+    groups: usize,
+    all: Share<L>,
+    desk: &Mutex<CountedDesk<L>>,
+) -> Result<(Seats<L, O, V>, Totals), LiveError>
+    requires parts { (all.parts ≡ groups) × (all.amount ≡ 0) × (L.parts ≡ groups) × (0 < groups) }
+    requires few { length ends.items < 2 ^ 62 }
+    requires new { AreNew V.fits ends.items }
+    ensures { IfOk result (λ served. AreServed V.fits V.mark groups ends.items served.0 served.1) }
+{
+    let Opened {
+        channels,
+        mut rests,
+        plans,
+        writers,
+    } = open_all::<L, O, V>(alloc, groups, ends, all)?;
+    let channels = channels.as_slice();
+    let mut seats = match serve_seats(rt, channels, keeper, plans, writers) {
+        Ok(seats) => seats,
+        Err(why) => return Err(live_error(why)),
+    };
+    let totals = close(rt, channels, desk, &mut rests, &mut seats);
+    Ok((seats, totals))
 }
 
 /// What is counted of seats that have come back, beside these totals of theirs.
@@ -288,27 +331,9 @@ where
     ensures ids_stored_again { IfOk result (λ run. ids_stored_again_of run.counted
         ≡ ids_stored_again_in (map (λ w. w.finished.items) run.seats.writers.items)) }
 {
-    let Serving {
-        config,
-        gate,
-        hasher,
-        peer_sources,
-    } = serving;
-    let ends = ends_of(alloc, hasher, keeper, config, gate, peer_sources)?;
-    let Opened {
-        channels,
-        mut rests,
-        plans,
-        writers,
-    } = open_all::<L, StoreResult<J>, PeerServer<'a, X, S, J, L, C, G, Q>>(
-        alloc, groups, ends, all,
-    )?;
-    let channels = channels.as_slice();
-    let mut seats = match serve_seats(rt, channels, keeper, plans, writers) {
-        Ok(seats) => seats,
-        Err(why) => return Err(live_error(why)),
-    };
-    let totals = close(rt, channels, &keeper.shared.desk, &mut rests, &mut seats);
+    let ends = ends_of(alloc, keeper, serving)?;
+    let desk = &keeper.shared.desk;
+    let (seats, totals) = serve_ends(rt, alloc, keeper, ends, groups, all, desk)?;
     let counted = match counted_of(alloc, totals, &seats) {
         Ok(counted) => counted,
         Err(_) => return Err(LiveError::Memory),

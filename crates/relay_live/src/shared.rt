@@ -14,12 +14,12 @@ use crate::slot::Slot;
 use crate::stopping::Unstopped;
 use block_shelf::{BeginError, PlacedGroup, StopFault};
 use cyc_block::BlockStore;
-use live_jobs::{CountedDesk, JobAnswer};
+use live_jobs::CountedDesk;
 use live_store::{ArticleLog, NumberedBuffer, StorePremises};
 use nntp_text::MsgId;
 use relay_conf::Config;
 use relay_core::{NotStarted, Stopped, refused};
-use std::alloc::{AllocError, Global};
+use std::alloc::Global;
 use std::hash::RandomState;
 use std::random::RandomSource;
 use std::sync::ledger::{Book, Ledger};
@@ -208,7 +208,13 @@ impl<S: BlockStore + Drop, J: StorePremises, L: Ledger> Shared<S, J, L> {
             J.register (next_stop (last_stop self)) stopped.stores.items) }
         ensures refused { IfErr result (IsUnshut self) }
     {
-        let Ok((parts, rooms)) = self.room(alloc) else {
+        let buffers = self.buffers.len();
+        let groups = self.placed_groups.len();
+        let Ok(parts) = Room::new(alloc, buffers, groups) else {
+            return Err(Unshut::Memory(self));
+        };
+        let Ok(rooms) = Room::new(alloc, buffers, groups) else {
+            drop(parts);
             return Err(Unshut::Memory(self));
         };
         let (alone, locks) = self.into_alone(parts, rooms);
@@ -226,25 +232,6 @@ impl<S: BlockStore + Drop, J: StorePremises, L: Ledger> Shared<S, J, L> {
             Err(Unstopped::Device(number, stores)) => {
                 drop(locks);
                 Err(Unshut::Device(number, stores))
-            }
-        }
-    }
-
-    /// Room for its parts without their locks, and for their locks again.
-    fn room(&self, alloc: Global) -> Result<(PartRoom<S, J>, LockRoom<S, J>), AllocError>
-        ensures parts { IfOk result (λ room.
-            HasRoom (buffers_in self.now) (groups_in self.now) room.0) }
-        ensures locks { IfOk result (λ room.
-            HasRoom (buffers_in self.now) (groups_in self.now) room.1) }
-    {
-        let buffers = self.buffers.len();
-        let groups = self.placed_groups.len();
-        let parts = Room::new(alloc, buffers, groups)?;
-        match Room::new(alloc, buffers, groups) {
-            Ok(rooms) => Ok((parts, rooms)),
-            Err(error) => {
-                drop(parts);
-                Err(error)
             }
         }
     }
@@ -327,18 +314,5 @@ impl<S: BlockStore + Drop, J: StorePremises, L: Ledger> Shared<S, J, L> {
     /// The shard that has the message-id.
     pub(crate) fn claims(&self, id: &MsgId) -> &Claims {
         &self.shards[id_history::shard_of(id)]
-    }
-
-    /// Tells an end, where there is one of this number, what became of its job.
-    pub(crate) fn tell<R: Wait>(&self, rt: &R, end: u64, answer: JobAnswer<J>) {
-        match self.slot(end) {
-            Some(slot) => slot.tell(rt, answer),
-            None => drop(answer),
-        }
-    }
-
-    /// The slot of an end.
-    pub(crate) fn slot(&self, end: u64) -> Option<&Slot<J>> {
-        self.slots.get(end as usize)
     }
 }

@@ -16,15 +16,15 @@ use std::sync::ledger::Ledger;
 
 impl<S: BlockStore + Drop, J: StorePremises, L: Ledger, R: Wait> Shares<J, R> for Shared<S, J, L> {
     fn offer(&self, rt: &R, id: &MsgId, session: u64) -> Result<Offer, AllocError> {
-        self.claims(id).offer(rt, id, session)
+        self.claims(id).shard.lock(rt).offer(id, session)
     }
 
     fn look(&self, rt: &R, id: &MsgId) -> Option<Token> {
-        self.claims(id).look(rt, id)
+        self.claims(id).shard.lock(rt).look(id)
     }
 
     fn refuse(&self, rt: &R, id: &MsgId, session: u64, now: u64) -> Result<(), AllocError> {
-        self.claims(id).refuse(rt, id, session, now)
+        self.claims(id).shard.lock(rt).refuse(id, session, now)
     }
 
     fn take(&self, rt: &R, id: &MsgId, session: u64) -> Result<Take, AllocError> {
@@ -36,7 +36,7 @@ impl<S: BlockStore + Drop, J: StorePremises, L: Ledger, R: Wait> Shares<J, R> fo
     }
 
     fn release(&self, rt: &R, id: &MsgId, session: u64) {
-        self.claims(id).release(rt, id, session);
+        self.claims(id).shard.lock(rt).release(id, session);
     }
 
     fn take_queue(
@@ -72,7 +72,7 @@ impl<S: BlockStore + Drop, J: StorePremises, L: Ledger, R: Wait> Shares<J, R> fo
     }
 
     fn outcome(&self, rt: &R, end: u64, number: u64, _kept: &Vec<KeptJob<J>>) -> JobAnswer<J> {
-        match self.slot(end) {
+        match self.slots.get(end as usize) {
             Some(slot) => slot.wait(rt, number),
             None => JobAnswer {
                 number,

@@ -88,13 +88,12 @@ fn take<J: StorePremises>(held: &mut Option<JobAnswer<J>>, number: u64) -> Optio
     ensures number { IfSome result (λ answer. answer.number ≡ number) }
     ensures left { held.new ≡ left_by held.old number }
 {
-    let answer = held.take()?;
-    if answer.number > number {
-        *held = Some(answer);
-        return None;
+    match held {
+        Some(answer) if answer.number > number => None,
+        Some(answer) if answer.number < number => {
+            *held = None;
+            None
+        }
+        _ => held.take(),
     }
-    if answer.number < number {
-        return None;
-    }
-    Some(answer)
 }

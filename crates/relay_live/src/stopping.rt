@@ -31,15 +31,17 @@ pub(crate) enum Unstopped<S: BlockStore + Drop, J: StorePremises, L: Ledger> {
 }
 
 impl<S: BlockStore + Drop, J: StorePremises, L: Ledger> Alone<S, J, L> {
-    ghost use Rattle.std.specs.Prelude.{◌≡◌, true, false};
-    ghost use Rattle.relay_live.specs.Stopping.{IsAtRest, IsStoring, ShutGives};
+    ghost use Rattle.relay_live.specs.Stopping.{ShutGives};
 
     /// Stops the relay: the stores of its buffers, and the text of its history. Where a message-id
     /// is being stored or a write is open it isn't.
     pub(crate) fn shut(self, alloc: Global) -> Result<Stopped<S>, Unstopped<S, J, L>>
         ensures { ShutGives self result }
     {
-        if !self.is_idle() {
+        if !none_is_stored(&self.shards) {
+            return Err(Unstopped::NotIdle(self));
+        }
+        if !none_is_written(&self.buffers) {
             return Err(Unstopped::NotIdle(self));
         }
         // The text has its memory before a device is called: a head that says closed without it
@@ -58,17 +60,6 @@ impl<S: BlockStore + Drop, J: StorePremises, L: Ledger> Alone<S, J, L> {
             (None, stores) => Ok(Stopped { stores, history }),
             (Some(number), stores) => Err(Unstopped::Device(number, stores)),
         }
-    }
-
-    /// Whether no message-id is being stored and no write is open.
-    fn is_idle(&self) -> bool
-        ensures idle { result ≡ true → IsAtRest self.now }
-        ensures busy { result ≡ false → IsStoring self.now }
-    {
-        if !none_is_stored(&self.shards) {
-            return false;
-        }
-        none_is_written(&self.buffers)
     }
 }
 

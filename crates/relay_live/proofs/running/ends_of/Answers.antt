@@ -14,11 +14,12 @@ loop-peer_source-init g c =
     let gives = c.into_iter-peer_source-iterator.ensures.into_iter_gives in
     let none = c.in_ok-ends.ensures.items in
     record {
-      count = none_yet _ _ _ (ap length none) (gives.1 ∙ c.args.peer_sources.ok.0);
+      count = none_yet _ _ _ (ap length none) (gives.1 ∙ c.args.serving.peer_sources.ok.0);
       room = room_of _ _ _ c.in_ok-ends.ensures.capacity
-          (c.len.ensures ∙ c.args.peer_sources.ok.0);
+          (c.len.ensures ∙ c.args.serving.peer_sources.ok.0);
       peers = λ i. map peer_of (none i) ++ map (λ d. d.peer) (gives.0 i);
-      terms = λ i. map terms_at (none i) ++ map (λ d. terms_of c.args.config.now) (gives.0 i);
+      terms = λ i. map terms_at (none i)
+          ++ map (λ d. terms_of c.args.serving.config.now) (gives.0 i);
       new = λ i. map kept_of (none i) ++ map (λ d. []) (gives.0 i);
     }
 
@@ -29,7 +30,7 @@ loop-peer_source-preserved g c =
     let pushed = c.push_reserved.ensures in
     let ends = c.loop-peer_source.ends.items in
     let more = c.push_reserved.new.self.items in
-    let sources = c.args.peer_sources.items in
+    let sources = c.args.serving.peer_sources.items in
     let left = into_iter_items c.loop-peer_source.peer_source-iterator in
     let next = into_iter_items c.next.new.self in
     let long = ap length pushed.items ∙ length-append ends (c.new.result ∷ []) in
@@ -38,8 +39,9 @@ loop-peer_source-preserved g c =
       room = still_fits _ _ _ inv.room pushed.capacity;
       peers = map_next (λ d. d.peer) peer_of ends more c.new.result c.in-Some.peer_source
           (map (λ d. d.peer) sources) left next inv.peers pushed.items steps.0 c.new.ensures.peer;
-      terms = map_next (λ d. terms_of c.args.config.now) terms_at ends more c.new.result
-          c.in-Some.peer_source (map (λ d. terms_of c.args.config.now) sources) left next inv.terms
+      terms = map_next (λ d. terms_of c.args.serving.config.now) terms_at ends more c.new.result
+          c.in-Some.peer_source (map (λ d. terms_of c.args.serving.config.now) sources) left next
+          inv.terms
           pushed.items steps.0 c.new.ensures.terms;
       new = map_next (λ d. []) kept_of ends more c.new.result c.in-Some.peer_source
           (map (λ d. []) sources) left next inv.new pushed.items steps.0 c.new.ensures.none;
@@ -49,15 +51,15 @@ pub returns : goal.returns
 returns g c =
     let inv = c.loop-peer_source.invariant in
     let ends = c.loop-peer_source.ends.items in
-    let sources = c.args.peer_sources.items in
+    let sources = c.args.serving.peer_sources.items in
     let rest = c.loop-peer_source.peer_source-iterator in
     let left = into_iter_items rest in
     let none : left ≡ [] = nil_from_length rest.rest.items
     (sym rest.rest.ok.0 ∙ c.in-None.ensures.steps.0) in
     record {
       peers = all_read (λ d. d.peer) peer_of ends left (map (λ d. d.peer) sources) inv.peers none;
-      terms = all_read (λ d. terms_of c.args.config.now) terms_at ends left
-          (map (λ d. terms_of c.args.config.now) sources) inv.terms none;
+      terms = all_read (λ d. terms_of c.args.serving.config.now) terms_at ends left
+          (map (λ d. terms_of c.args.serving.config.now) sources) inv.terms none;
       new = all_read (λ d. []) kept_of ends left (map (λ d. []) sources) inv.new none;
     }
 

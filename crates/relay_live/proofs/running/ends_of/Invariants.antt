@@ -9,12 +9,12 @@ use Rattle.relay_live.proofs.running.ends_of.Given as goal
 abbrev pub invariant-loop-peer_source : goal.invariant-loop-peer_source
 invariant-loop-peer_source g l =
     let rest = l.peer_source-iterator in record {
-      count : length l.ends.items + into_iter_len rest ≡ length l.fn.peer_sources.items;
-      room : length l.fn.peer_sources.items ≤ vec_capacity l.ends;
+      count : length l.ends.items + into_iter_len rest ≡ length l.fn.serving.peer_sources.items;
+      room : length l.fn.serving.peer_sources.items ≤ vec_capacity l.ends;
       peers : map peer_of l.ends.items ++ map (λ d. d.peer) (into_iter_items rest)
-          ≡ map (λ d. d.peer) l.fn.peer_sources.items;
+          ≡ map (λ d. d.peer) l.fn.serving.peer_sources.items;
       terms : map terms_at l.ends.items ++ map (λ d. terms_of l.config) (into_iter_items rest)
-          ≡ map (λ d. terms_of l.config) l.fn.peer_sources.items;
+          ≡ map (λ d. terms_of l.config) l.fn.serving.peer_sources.items;
       new : map kept_of l.ends.items ++ map (λ d. []) (into_iter_items rest)
-          ≡ map (λ d. []) l.fn.peer_sources.items;
+          ≡ map (λ d. []) l.fn.serving.peer_sources.items;
     }

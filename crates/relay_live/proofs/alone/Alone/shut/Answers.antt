@@ -1,27 +1,59 @@
-use Rattle.std.proofs.Common.{Option, refl, subst}
+use Rattle.std.proofs.Common.{◌≡◌, Option, Some, map, refl, slice_get, subst, sym}
+use Rattle.id_history.specs.Shards.{EachKeeps}
+use Rattle.live_store.specs.Steps.{buffer_of}
+use Rattle.relay_live.proofs.Rest.{at_rest}
 use Rattle.relay_live.proofs.Rooms.{no_more, room_of}
 use Rattle.relay_live.proofs.Shuts.{shut_partly, shuts}
-use Rattle.relay_live.specs.Stopping.{IsShutAll}
+use Rattle.relay_live.specs.Stopping.{HasClaim, HasWrite, IsShutAll}
 use Rattle.relay_live.proofs.alone.Alone.shut.Goals as goal
 
--- it isn't idle
-pub returns-then-not-is_idle : goal.returns-then-not-is_idle
-returns-then-not-is_idle g c = record {
+-- an id is being stored
+pub returns-then-not-none_is_stored : goal.returns-then-not-none_is_stored
+returns-then-not-none_is_stored g c = record {
   shut = tt;
-  back = (refl, c.is_idle.ensures.busy c.if-not-is_idle.true);
+  back = (
+    refl,
+    HasClaim (λ claims keeps. c.none_is_stored.ensures.some c.if-not-none_is_stored.true
+        claims (subst (λ items. EachKeeps items claims) (sym c.deref.ensures.value) keeps)),
+  );
 }
+
+-- a write is open
+pub returns-then-not-none_is_written : goal.returns-then-not-none_is_written
+returns-then-not-none_is_written g c =
+    let some = c.none_is_written.ensures.some c.if-not-none_is_written.true in
+    record {
+      shut = tt;
+      back = (
+        refl,
+        HasWrite some.0 some.1
+            (subst (λ items. slice_get (map buffer_of items) some.0 ≡ Some some.1)
+            c.deref-2.ensures.value some.2)
+            some.3,
+      );
+    }
 
 -- memory was refused
 pub returns-in-Err : goal.returns-in-Err
 returns-in-Err g c = record {
   shut = tt;
-  back = (refl, c.is_idle.ensures.idle c.if-not-is_idle.false);
+  back = (
+    refl,
+    at_rest c.args.self _ _ c.deref.ensures.value c.deref-2.ensures.value
+        (c.none_is_stored.ensures.none c.if-not-none_is_stored.false)
+        (c.none_is_written.ensures.none c.if-not-none_is_written.false),
+  );
 }
 
 pub returns-in_default : goal.returns-in_default
 returns-in_default g c = record {
   shut = tt;
-  back = (refl, c.is_idle.ensures.idle c.if-not-is_idle.false);
+  back = (
+    refl,
+    at_rest c.args.self _ _ c.deref.ensures.value c.deref-2.ensures.value
+        (c.none_is_stored.ensures.none c.if-not-none_is_stored.false)
+        (c.none_is_written.ensures.none c.if-not-none_is_written.false),
+  );
 }
 
 -- there is room for the stores of all buffers
@@ -38,7 +70,9 @@ shut_all-requires-clause-room g c =
 -- it is stopped
 pub returns-in-None-default : goal.returns-in-None-default
 returns-in-None-default g c =
-    let rest = c.is_idle.ensures.idle c.if-not-is_idle.false in
+    let rest = at_rest c.args.self _ _ c.deref.ensures.value c.deref-2.ensures.value
+    (c.none_is_stored.ensures.none c.if-not-none_is_stored.false)
+    (c.none_is_written.ensures.none c.if-not-none_is_written.false) in
     record {
       shut = shuts c.args.self rest c.next_stop-stop.result c.shut_all.result.1.items
           c.in-Ok.history.items c.next_stop-stop.ensures c.in-Ok.ensures
@@ -52,7 +86,9 @@ returns-in-None-default g c =
 -- or the device of a buffer has failed
 pub returns : goal.returns
 returns g c =
-    let rest = c.is_idle.ensures.idle c.if-not-is_idle.false in
+    let rest = at_rest c.args.self _ _ c.deref.ensures.value c.deref-2.ensures.value
+    (c.none_is_stored.ensures.none c.if-not-none_is_stored.false)
+    (c.none_is_written.ensures.none c.if-not-none_is_written.false) in
     record {
       shut = tt;
       back = (

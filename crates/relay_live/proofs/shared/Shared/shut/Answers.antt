@@ -3,12 +3,20 @@ use Rattle.std.proofs.lemmas.List.{length-map}
 use Rattle.live_store.specs.Steps.{buffer_of}
 use Rattle.relay_core.specs.Stopping.{next_stop}
 use Rattle.relay_live.specs.Stopping.{AreShutWith, ComesBack}
-use Rattle.relay_live.proofs.Parts.{as_many, failed_within, room_again}
+use Rattle.relay_live.proofs.Parts.{as_many, failed_within, room_again, room_for}
 use Rattle.relay_live.proofs.shared.Shared.shut.Goals as goal
 
 -- there is no room for its parts
 pub returns-in_default : goal.returns-in_default
 returns-in_default g c = record {
+  stores = tt;
+  known = tt;
+  refused = record { buffers = refl; groups = refl; feeds = refl; ends = refl; remembers = refl };
+}
+
+-- or for their locks again
+pub returns-in_default-new : goal.returns-in_default-new
+returns-in_default-new g c = record {
   stores = tt;
   known = tt;
   refused = record { buffers = refl; groups = refl; feeds = refl; ends = refl; remembers = refl };
@@ -40,7 +48,10 @@ invariant_of-over g c =
     record {
       room =
           room_again c.args.self parts.result.0 c.in-Err-NotIdle.alone _ parts.ensures.parts
-          back.0 c.in-Ok.rooms parts.result.1.rooms parts.ensures.rooms c.in-Ok.ensures.locks;
+          back.0 c.in-Ok-new.rooms parts.result.1.rooms parts.ensures.rooms
+          (room_for c.in-Ok-new.rooms _ _ _ _ c.in-Ok-new.ensures
+          (sym (c.len-buffers.ensures ∙ c.args.self.buffers.ok.0))
+          (sym (c.len-groups.ensures ∙ c.args.self.placed_groups.ok.0)));
     }
 
 pub invariant_of-over-in-Err-Memory : goal.invariant_of-over-in-Err-Memory
@@ -51,7 +62,10 @@ invariant_of-over-in-Err-Memory g c =
     record {
       room =
           room_again c.args.self parts.result.0 c.in-Err-Memory.alone _ parts.ensures.parts
-          back.0 c.in-Ok.rooms parts.result.1.rooms parts.ensures.rooms c.in-Ok.ensures.locks;
+          back.0 c.in-Ok-new.rooms parts.result.1.rooms parts.ensures.rooms
+          (room_for c.in-Ok-new.rooms _ _ _ _ c.in-Ok-new.ensures
+          (sym (c.len-buffers.ensures ∙ c.args.self.buffers.ok.0))
+          (sym (c.len-groups.ensures ∙ c.args.self.placed_groups.ok.0)));
     }
 
 pub returns-in-Err-NotIdle : goal.returns-in-Err-NotIdle
