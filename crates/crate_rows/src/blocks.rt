@@ -6,7 +6,7 @@ use cyc_block::{BLOCK_OCTETS, CHUNK_OCTETS, Stamp, block_image, read_image};
 use row_text::{Cells, Sheet, place_of};
 
 /// Writes the answer of a call.
-pub fn answer(call: &[u8], cells: &Cells, sheet: &mut Sheet) {
+pub fn answer(call: &[u8], cells: &Cells, sheet: &Sheet) {
     match place_of("image_read image_write", call) {
         Some(0) => put_image(cells.next(), sheet),
         Some(_) => put_image_of(cells, sheet),
@@ -15,7 +15,7 @@ pub fn answer(call: &[u8], cells: &Cells, sheet: &mut Sheet) {
 }
 
 /// Writes the image of the block with the stamp of five cells and the payload of the last one.
-fn put_image_of(cells: &Cells, sheet: &mut Sheet) {
+fn put_image_of(cells: &Cells, sheet: &Sheet) {
     let stamp = Stamp {
         cycle: number(cells, sheet),
         first: number(cells, sheet),
@@ -32,7 +32,7 @@ fn put_image_of(cells: &Cells, sheet: &mut Sheet) {
 }
 
 /// Writes the stamp and the payload of the image that a block has, or that it has none.
-fn put_image(octets: &[u8], sheet: &mut Sheet) {
+fn put_image(octets: &[u8], sheet: &Sheet) {
     match read_image(&block_of(octets, sheet)) {
         Some(image) => {
             sheet.debug(&image.stamp);
@@ -43,7 +43,7 @@ fn put_image(octets: &[u8], sheet: &mut Sheet) {
 }
 
 /// The block of these octets and as many zeros as it has room for.
-pub fn block_of(octets: &[u8], sheet: &mut Sheet) -> [u8; BLOCK_OCTETS] {
+pub fn block_of(octets: &[u8], sheet: &Sheet) -> [u8; BLOCK_OCTETS] {
     with_part([0; BLOCK_OCTETS], 0, octets, sheet)
 }
 
@@ -52,7 +52,7 @@ pub fn with_part(
     mut block: [u8; BLOCK_OCTETS],
     place: usize,
     octets: &[u8],
-    sheet: &mut Sheet,
+    sheet: &Sheet,
 ) -> [u8; BLOCK_OCTETS] {
     match block.get_mut(place..place.saturating_add(octets.len())) {
         Some(part) => part.copy_from_slice(octets),

@@ -45,24 +45,20 @@ struct Rows {
 }
 
 impl Answers for Rows {
-    fn answer(&mut self, call: &[u8], cells: &Cells, names: &mut Names, sheet: &mut Sheet) {
+    fn answer(&mut self, call: &[u8], cells: &Cells, names: &mut Names, sheet: &Sheet) {
         if is(call, b"part") {
             self.begin(cells, names, sheet);
         } else if is(call, b"text") && !matches!(self.part, Part::Stops) {
             name(cells, names, sheet);
         } else {
-            self.put(call, cells, sheet);
-        }
-        // Of want of memory nothing is expected, so that no answer may stand in its place.
-        if says_memory(sheet.octets()) {
-            sheet.lack();
+            self.put_told(call, cells, sheet);
         }
     }
 }
 
 impl Rows {
     /// `part NAME`: the rows behind are of this part, and no text has a name.
-    fn begin(&mut self, cells: &Cells, names: &mut Names, sheet: &mut Sheet) {
+    fn begin(&mut self, cells: &Cells, names: &mut Names, sheet: &Sheet) {
         self.part = match place_of("texts blocks sessions stops", cells.next()) {
             Some(0) => Part::Texts,
             Some(1) => Part::Blocks,
@@ -74,8 +70,20 @@ impl Rows {
         sheet.put(b"begins");
     }
 
+    /// Writes the answer of a call of the part. Of want of memory nothing is expected, so that no
+    /// answer may stand in its place.
+    fn put_told(&mut self, call: &[u8], cells: &Cells, sheet: &Sheet) {
+        let said = Sheet::new(sheet.alloc);
+        self.put(call, cells, &said);
+        let octets = said.onto(sheet);
+        if says_memory(&octets) {
+            sheet.lack();
+        }
+        sheet.put(&octets);
+    }
+
     /// Writes the answer of a call of the part.
-    fn put(&mut self, call: &[u8], cells: &Cells, sheet: &mut Sheet) {
+    fn put(&mut self, call: &[u8], cells: &Cells, sheet: &Sheet) {
         match self.part {
             Part::Texts => texts::answer(call, cells, sheet),
             Part::Blocks => blocks::answer(call, cells, sheet),
@@ -86,7 +94,7 @@ impl Rows {
 }
 
 /// `text NAME PARTS..`: names a text, and writes how many octets it has.
-fn name(cells: &Cells, names: &mut Names, sheet: &mut Sheet) {
+fn name(cells: &Cells, names: &mut Names, sheet: &Sheet) {
     let name = copy_of(cells.next(), sheet);
     let octets = joined(cells.rest(), sheet);
     sheet.number(octets.len() as u64);

@@ -16,7 +16,7 @@ pub enum Change {
 }
 
 /// A text with this change at a place.
-pub fn changed(text: &[u8], place: usize, change: Change, sheet: &mut Sheet) -> Vec<u8> {
+pub fn changed(text: &[u8], place: usize, change: Change, sheet: &Sheet) -> Vec<u8> {
     let mut other = copy_of(text, sheet);
     if matches!(change, Change::Cut) {
         other.truncate(place);
@@ -58,7 +58,7 @@ impl Runs {
     }
 
     /// Takes the answer at the next place; where it is another, what was said before is written.
-    pub fn add(&mut self, said: Vec<u8>, sheet: &mut Sheet) {
+    pub fn add(&mut self, said: Vec<u8>, sheet: &Sheet) {
         if !is(&self.said, &said) {
             self.end(sheet);
             self.said = said;
@@ -68,33 +68,31 @@ impl Runs {
     }
 
     /// Writes what was said last.
-    pub fn end(&self, sheet: &mut Sheet) {
+    pub fn end(&self, sheet: &Sheet) {
         let count = self.next.saturating_sub(self.first);
         if count == 0 {
             return;
         }
-        if !sheet.octets().is_empty() {
+        if !sheet.is_empty() {
             sheet.put(if self.are_counted { b" " } else { b"; " });
         }
         if self.are_counted {
             sheet.filled(b"#*", &[count]);
+        } else if count > 1 {
+            sheet.filled(b"#-# ", &[self.first, self.next.saturating_sub(1)]);
         } else {
-            sheet.number(self.first);
-            if count > 1 {
-                sheet.numbered(b"-", self.next.saturating_sub(1));
-            }
-            sheet.put(b" ");
+            sheet.filled(b"# ", &[self.first]);
         }
         sheet.put(&self.said);
     }
 }
 
 /// The number up to 2^32 - 1 that the next cell writes.
-pub fn number(cells: &Cells, sheet: &mut Sheet) -> u32 {
+pub fn number(cells: &Cells, sheet: &Sheet) -> u32 {
     sheet.read_up_to(4_294_967_295, cells.next()) as u32
 }
 
 /// The number up to 255 that the next cell writes.
-pub fn octet(cells: &Cells, sheet: &mut Sheet) -> u8 {
+pub fn octet(cells: &Cells, sheet: &Sheet) -> u8 {
     sheet.read_up_to(255, cells.next()) as u8
 }

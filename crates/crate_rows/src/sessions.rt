@@ -16,7 +16,7 @@ const MOMENT: u64 = 1_609_459_200;
 
 /// Writes the answer of a call: what a session of the first peer of K1 says that is sent this line,
 /// and whose steps hear these answers in turn.
-pub fn answer(hasher: RandomState, call: &[u8], cells: &Cells, sheet: &mut Sheet) {
+pub fn answer(hasher: RandomState, call: &[u8], cells: &Cells, sheet: &Sheet) {
     if !is(call, b"ask") {
         return sheet.refuse();
     }
@@ -30,7 +30,7 @@ pub fn answer(hasher: RandomState, call: &[u8], cells: &Cells, sheet: &mut Sheet
 }
 
 /// Writes what a session of this configuration says.
-fn ask(hasher: RandomState, config: &Config, line: &[u8], answers: &[Vec<u8>], sheet: &mut Sheet) {
+fn ask(hasher: RandomState, config: &Config, line: &[u8], answers: &[Vec<u8>], sheet: &Sheet) {
     match Session::open(sheet.alloc, hasher, config, 0) {
         Ok(mut session) => {
             feed(&mut session, line, sheet);
@@ -44,14 +44,14 @@ fn ask(hasher: RandomState, config: &Config, line: &[u8], answers: &[Vec<u8>], s
 }
 
 /// Octets come to a session.
-fn feed(session: &mut Session, octets: &[u8], sheet: &mut Sheet) {
+fn feed(session: &mut Session, octets: &[u8], sheet: &Sheet) {
     if session.feed(octets).is_err() {
         sheet.lack();
     }
 }
 
 /// Writes what is said to each of these answers, of a turn of its own.
-fn put_turns(session: &mut Session, config: &Config, answers: &[Vec<u8>], sheet: &mut Sheet) {
+fn put_turns(session: &mut Session, config: &Config, answers: &[Vec<u8>], sheet: &Sheet) {
     for word in answers {
         match place_of("wanted mine kept", word) {
             Some(place) => put_turn(session, config, place, sheet),
@@ -62,7 +62,7 @@ fn put_turns(session: &mut Session, config: &Config, answers: &[Vec<u8>], sheet:
 
 /// Plans a step, and writes what is said once it hears the answer of this place: the octets, or
 /// `nothing`.
-fn put_turn(session: &mut Session, config: &Config, place: usize, sheet: &mut Sheet) {
+fn put_turn(session: &mut Session, config: &Config, place: usize, sheet: &Sheet) {
     match session.plan(config, MOMENT) {
         Ok(step) => drop(step),
         Err(_) => sheet.lack(),

@@ -22,7 +22,7 @@ struct Cell {
 
 /// The octets that a cell of a row stands for; where an escape is bad, the row has no answer.
 /// Octets that stand for themselves many times are not nested.
-pub(crate) fn octets_of(cell: &[u8], sheet: &mut Sheet) -> Vec<u8> {
+pub(crate) fn octets_of(cell: &[u8], sheet: &Sheet) -> Vec<u8> {
     let mut read = Cell {
         octets: Vec::new(sheet.alloc),
         is_plain: true,
@@ -43,7 +43,7 @@ pub(crate) fn octets_of(cell: &[u8], sheet: &mut Sheet) -> Vec<u8> {
 
 impl Cell {
     /// Takes the next part.
-    fn take(&mut self, part: &[u8], sheet: &mut Sheet) {
+    fn take(&mut self, part: &[u8], sheet: &Sheet) {
         let behind = if mem::replace(&mut self.is_plain, false) {
             part
         } else {
@@ -53,7 +53,7 @@ impl Cell {
     }
 
     /// What stands behind the escape that a part begins with, once that is taken.
-    fn behind_escape<'a>(&mut self, part: &'a [u8], sheet: &mut Sheet) -> &'a [u8] {
+    fn behind_escape<'a>(&mut self, part: &'a [u8], sheet: &Sheet) -> &'a [u8] {
         let Some((letter, behind)) = part.split_first() else {
             self.is_plain = true;
             return b"\\";
@@ -68,7 +68,7 @@ impl Cell {
     }
 
     /// What stands behind two hexadecimal digits, once their octet is taken.
-    fn take_digits<'a>(&mut self, part: &'a [u8], sheet: &mut Sheet) -> &'a [u8] {
+    fn take_digits<'a>(&mut self, part: &'a [u8], sheet: &Sheet) -> &'a [u8] {
         let [high, low, behind @ ..] = part else {
             sheet.refuse();
             return part;
@@ -81,7 +81,7 @@ impl Cell {
     }
 
     /// These octets follow.
-    fn put(&mut self, octets: &[u8], sheet: &mut Sheet) {
+    fn put(&mut self, octets: &[u8], sheet: &Sheet) {
         let whole = match self.times {
             Some(_) => &mut self.repeated,
             None => &mut self.octets,
@@ -90,7 +90,7 @@ impl Cell {
     }
 
     /// What stands behind the number and the colon of octets that stand for themselves many times.
-    fn begin_repeated<'a>(&mut self, part: &'a [u8], sheet: &mut Sheet) -> &'a [u8] {
+    fn begin_repeated<'a>(&mut self, part: &'a [u8], sheet: &Sheet) -> &'a [u8] {
         let (number, behind) = cut(part, b':');
         let times = number_within(0, MOST_TIMES, number);
         if self.times.is_some() || times.is_none() || behind.is_none() {
@@ -101,7 +101,7 @@ impl Cell {
     }
 
     /// The octets that stand for themselves many times are whole.
-    fn end_repeated(&mut self, sheet: &mut Sheet) {
+    fn end_repeated(&mut self, sheet: &Sheet) {
         let Some(times) = self.times.take() else {
             return sheet.refuse();
         };
@@ -113,7 +113,7 @@ impl Cell {
 }
 
 /// What a letter behind a backslash stands for.
-fn meant_by(letter: u8, sheet: &mut Sheet) -> &'static [u8] {
+fn meant_by(letter: u8, sheet: &Sheet) -> &'static [u8] {
     match letter {
         b's' => b" ",
         b't' => b"\t",

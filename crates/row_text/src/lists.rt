@@ -20,28 +20,28 @@ pub fn place_of(names: &str, name: &[u8]) -> Option<usize> {
 }
 
 /// These octets follow.
-pub(crate) fn add(octets: &mut Vec<u8>, more: &[u8], sheet: &mut Sheet) {
+pub(crate) fn add(octets: &mut Vec<u8>, more: &[u8], sheet: &Sheet) {
     if octets.extend_from_slice(more).is_err() {
         sheet.lack();
     }
 }
 
 /// A copy of these octets, empty where memory ran out.
-pub fn copy_of(octets: &[u8], sheet: &mut Sheet) -> Vec<u8> {
+pub fn copy_of(octets: &[u8], sheet: &Sheet) -> Vec<u8> {
     let mut copy = Vec::new(sheet.alloc);
     add(&mut copy, octets, sheet);
     copy
 }
 
 /// A text of these octets follows.
-pub fn add_octets(texts: &mut Vec<Vec<u8>>, octets: &[u8], sheet: &mut Sheet) {
+pub fn add_octets(texts: &mut Vec<Vec<u8>>, octets: &[u8], sheet: &Sheet) {
     if texts.push(copy_of(octets, sheet)).is_err() {
         sheet.lack();
     }
 }
 
 /// The text of these parts, one after another.
-pub fn joined(parts: &[Vec<u8>], sheet: &mut Sheet) -> Vec<u8> {
+pub fn joined(parts: &[Vec<u8>], sheet: &Sheet) -> Vec<u8> {
     let mut octets = Vec::new(sheet.alloc);
     for part in parts {
         add(&mut octets, part, sheet);

@@ -31,7 +31,7 @@ impl Names {
     }
 
     /// Names a text.
-    pub fn name(&mut self, name: Vec<u8>, octets: Vec<u8>, sheet: &mut Sheet) {
+    pub fn name(&mut self, name: Vec<u8>, octets: Vec<u8>, sheet: &Sheet) {
         if self.list.push(Named { name, octets }).is_err() {
             sheet.lack();
         }

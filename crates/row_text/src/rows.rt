@@ -17,7 +17,7 @@ const MEMORY: u8 = 5;
 pub trait Answers {
     /// Writes the answer of a row with this call, in whose cells the texts stand that have a name.
     /// It has none where the call is not known.
-    fn answer(&mut self, call: &[u8], cells: &Cells, names: &mut Names, sheet: &mut Sheet);
+    fn answer(&mut self, call: &[u8], cells: &Cells, names: &mut Names, sheet: &Sheet);
 }
 
 /// Prints the lines of a text with an answer behind each row. A line that is empty or begins with
@@ -26,10 +26,11 @@ pub trait Answers {
 /// not known, an escape is bad, or it takes other cells. Where memory runs out that is the error,
 /// once all before it is printed.
 pub fn play<A: Answers>(rt: &HostRuntime, text: &[u8], answers: &mut A) -> io::Result<()> {
-    let mut printed = Sheet::new(rt.alloc());
-    put_all(answers, text, &mut printed);
-    io::writer(rt).write_all(printed.octets())?;
-    if printed.is_spoilt() {
+    let printed = Sheet::new(rt.alloc());
+    put_all(answers, text, &printed);
+    let is_spoilt = printed.is_spoilt();
+    io::writer(rt).write_all(&printed.into_octets())?;
+    if is_spoilt {
         return Err(io::Error::from(ErrorKind::OutOfMemory));
     }
     Ok(())
@@ -46,7 +47,7 @@ pub fn failed(rt: &HostRuntime, error: &io::Error) -> ExitCode {
 }
 
 /// Writes lines with their answers.
-fn put_all<A: Answers>(answers: &mut A, lines: &[u8], sheet: &mut Sheet) {
+fn put_all<A: Answers>(answers: &mut A, lines: &[u8], sheet: &Sheet) {
     let mut names = Names::new(sheet.alloc);
     let mut unread = Some(lines);
     while let Some(rest) = unread {
@@ -63,11 +64,11 @@ fn put_all<A: Answers>(answers: &mut A, lines: &[u8], sheet: &mut Sheet) {
 }
 
 /// Writes the answer of a row.
-fn put_answer<A: Answers>(answers: &mut A, line: &[u8], names: &mut Names, sheet: &mut Sheet) {
+fn put_answer<A: Answers>(answers: &mut A, line: &[u8], names: &mut Names, sheet: &Sheet) {
     let (call, rest) = cut(line, b' ');
-    let mut said = Sheet::new(sheet.alloc);
-    let cells = Cells::new(cells_of(rest, names, &mut said));
-    put_said(answers, call, &cells, names, &mut said);
+    let said = Sheet::new(sheet.alloc);
+    let cells = Cells::new(cells_of(rest, names, &said));
+    put_said(answers, call, &cells, names, &said);
     said.end(sheet);
 }
 
@@ -77,7 +78,7 @@ fn put_said<A: Answers>(
     call: &[u8],
     cells: &Cells,
     names: &mut Names,
-    sheet: &mut Sheet,
+    sheet: &Sheet,
 ) {
     if !sheet.is_spoilt() {
         answers.answer(call, cells, names, sheet);
@@ -88,7 +89,7 @@ fn put_said<A: Answers>(
 }
 
 /// The octets of the cells that follow a call, and of a name its text.
-fn cells_of(rest: Option<&[u8]>, names: &Names, sheet: &mut Sheet) -> Vec<Vec<u8>> {
+fn cells_of(rest: Option<&[u8]>, names: &Names, sheet: &Sheet) -> Vec<Vec<u8>> {
     let mut cells = Vec::new(sheet.alloc);
     let mut unread = rest;
     while let Some(rest) = unread {

@@ -6,7 +6,7 @@ pub(crate) const FROM_FIRST: &[u8] = b"relay.example!!";
 
 /// Writes A(id, octets), but in these newsgroups, where this stands before the Path that its sender
 /// gave it.
-pub(crate) fn put_article(sheet: &mut Sheet, before: &[u8], id: &[u8], octets: u64, groups: &[u8]) {
+pub(crate) fn put_article(sheet: &Sheet, before: &[u8], id: &[u8], octets: u64, groups: &[u8]) {
     sheet.put(b"Path: ");
     sheet.put(before);
     sheet.put(b"one.example!not-for-mail\r\nFrom: a@x.example\r\nNewsgroups: ");

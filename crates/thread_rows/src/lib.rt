@@ -27,11 +27,12 @@ pub fn play<R>(rt: &R, alloc: Global, text: &[u8]) -> io::Result<()>
 where
     R: Threads + Wait + Clock + RandomSource + Print + Sync + 'static,
 {
-    let mut sheet = Sheet::new(alloc);
-    relay::put_rows(rt, &mut sheet, text);
-    queue::put_full_queue(rt, &mut sheet);
-    io::writer(rt).write_all(sheet.octets())?;
-    if sheet.is_spoilt() {
+    let sheet = Sheet::new(alloc);
+    relay::put_rows(rt, &sheet, text);
+    queue::put_full_queue(rt, &sheet);
+    let is_spoilt = sheet.is_spoilt();
+    io::writer(rt).write_all(&sheet.into_octets())?;
+    if is_spoilt {
         return Err(io::Error::from(ErrorKind::Other));
     }
     Ok(())

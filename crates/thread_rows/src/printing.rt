@@ -4,11 +4,7 @@ use live_store::{Fetched, StorePremises};
 use row_text::Sheet;
 
 /// Writes what a fetch found, and whether a text that was found is this one.
-pub(crate) fn put_fetched<J: StorePremises>(
-    sheet: &mut Sheet,
-    fetched: &Fetched<J>,
-    octets: &[u8],
-) {
+pub(crate) fn put_fetched<J: StorePremises>(sheet: &Sheet, fetched: &Fetched<J>, octets: &[u8]) {
     match fetched {
         Fetched::Whole(whole) => {
             sheet.numbered(b"record ", whole.number() as u64);

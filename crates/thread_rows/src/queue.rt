@@ -57,7 +57,7 @@ fn is_article(alloc: Global, text: &[u8]) -> bool
 /// Hands a job of this end over, and says whether it went.
 fn is_handed<R: Wait>(
     rt: &R,
-    sheet: &mut Sheet,
+    sheet: &Sheet,
     queue: &JobQueue,
     pass: &mut QueuePass,
     end: u64,
@@ -82,7 +82,7 @@ fn is_handed<R: Wait>(
 }
 
 /// Takes a parcel, and writes its end, and its number where it is a job.
-fn take<R: Wait>(rt: &R, sheet: &mut Sheet, queue: &JobQueue, pass: &mut QueuePass)
+fn take<R: Wait>(rt: &R, sheet: &Sheet, queue: &JobQueue, pass: &mut QueuePass)
     requires pass { IsPassOf queue.now pass.old }
     requires writer { OfWriter (view pass.old) }
     ensures pass { IsPassOf queue.now pass.new }
@@ -101,7 +101,7 @@ fn take<R: Wait>(rt: &R, sheet: &mut Sheet, queue: &JobQueue, pass: &mut QueuePa
 }
 
 /// Hands jobs over until one is given back, and says how many went.
-fn filled<R: Wait>(rt: &R, sheet: &mut Sheet, queue: &JobQueue, pass: &mut QueuePass) -> u64
+fn filled<R: Wait>(rt: &R, sheet: &Sheet, queue: &JobQueue, pass: &mut QueuePass) -> u64
     requires pass { IsPassOf queue.now pass.old }
     requires open { IsOpen 0 (view pass.old) }
     ensures pass { IsPassOf queue.now pass.new }
@@ -116,7 +116,7 @@ fn filled<R: Wait>(rt: &R, sheet: &mut Sheet, queue: &JobQueue, pass: &mut Queue
 }
 
 /// Plays a queue that is full: it takes neither job nor mark; one parcel less, it takes the mark.
-pub(crate) fn put_full_queue<R: Wait>(rt: &R, sheet: &mut Sheet) {
+pub(crate) fn put_full_queue<R: Wait>(rt: &R, sheet: &Sheet) {
     let Ok((queue, mut first)) = new_queue(sheet.alloc) else {
         return sheet.lack();
     };
@@ -132,7 +132,7 @@ pub(crate) fn put_full_queue<R: Wait>(rt: &R, sheet: &mut Sheet) {
 /// Fills a queue, and writes what it takes from then on.
 fn put_full<R: Wait>(
     rt: &R,
-    sheet: &mut Sheet,
+    sheet: &Sheet,
     queue: &JobQueue,
     writer: &mut QueuePass,
     zero: &mut QueuePass,
@@ -154,7 +154,7 @@ fn put_full<R: Wait>(
 }
 
 /// Writes words and whether it is so, and ends the line.
-fn put_line(sheet: &mut Sheet, words: &[u8], is_so: bool) {
+fn put_line(sheet: &Sheet, words: &[u8], is_so: bool) {
     sheet.put(words);
     sheet.debug(&is_so);
     sheet.put(b"\n");

@@ -26,7 +26,7 @@ const MARK: &[u8] = b"== ";
 
 /// Plays the rows of a text, and writes what came of each. What stands before the first one is of
 /// none.
-pub(crate) fn put_rows<R>(rt: &R, sheet: &mut Sheet, text: &[u8])
+pub(crate) fn put_rows<R>(rt: &R, sheet: &Sheet, text: &[u8])
 where
     R: Threads + Wait + Clock + RandomSource + Sync + 'static,
 {

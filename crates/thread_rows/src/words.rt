@@ -15,8 +15,8 @@ pub(crate) fn number_in(digits: &[u8]) -> u64 {
 }
 
 /// The line with this number in the place of each `#`.
-pub(crate) fn numbered(alloc: Global, line: &[u8], number: u64) -> Sheet {
-    let mut sheet = Sheet::new(alloc);
+pub(crate) fn numbered(alloc: Global, line: &[u8], number: u64) -> Vec<u8> {
+    let sheet = Sheet::new(alloc);
     for octet in line {
         if *octet == b'#' {
             sheet.number(number);
@@ -24,5 +24,5 @@ pub(crate) fn numbered(alloc: Global, line: &[u8], number: u64) -> Sheet {
             sheet.put(&[*octet]);
         }
     }
-    sheet
+    sheet.into_octets()
 }

@@ -33,7 +33,7 @@ struct Stored {
 impl Bench {
     /// Writes the token under which an article is stored, or why it isn't. Of one that isn't
     /// finished so many blocks are written as the last cell says; one that is may begin a cycle.
-    pub(crate) fn store(&mut self, end: End, cells: &Cells, sheet: &mut Sheet) {
+    pub(crate) fn store(&mut self, end: End, cells: &Cells, sheet: &Sheet) {
         let class = octet(cells, sheet);
         let octets = number(cells, sheet);
         let mut blocks = u64::from(octets).div_ceil(CHUNK_OCTETS as u64);
@@ -54,7 +54,7 @@ impl Bench {
     }
 
     /// Stores an article in the buffer that runs, and writes its token.
-    fn put_article(&mut self, stored: Stored, sheet: &mut Sheet) {
+    fn put_article(&mut self, stored: Stored, sheet: &Sheet) {
         match self {
             Bench::Running(buffer) => begin_article(buffer, stored, sheet),
             _ => sheet.refuse(),
@@ -62,7 +62,7 @@ impl Bench {
     }
 
     /// Writes what is read of the article under a token.
-    pub(crate) fn read(&mut self, cells: &Cells, sheet: &mut Sheet) {
+    pub(crate) fn read(&mut self, cells: &Cells, sheet: &Sheet) {
         match Token::parse(cells.next()) {
             Ok(token) => {
                 let text = text_of(token.class, token.length, sheet);
@@ -73,7 +73,7 @@ impl Bench {
     }
 
     /// Reads the article under a token, block by block, and writes how it is beside its text.
-    fn compare(&mut self, token: &Token, text: &[u8], sheet: &mut Sheet) {
+    fn compare(&mut self, token: &Token, text: &[u8], sheet: &Sheet) {
         let mut chunk = [0; CHUNK_OCTETS];
         let mut block = 0u32;
         for expected in text.chunks(CHUNK_OCTETS) {
@@ -105,7 +105,7 @@ impl Bench {
     }
 
     /// Writes the numbers of a buffer.
-    pub(crate) fn put_numbers(&self, sheet: &mut Sheet) {
+    pub(crate) fn put_numbers(&self, sheet: &Sheet) {
         match self {
             Bench::Running(buffer) => put_numbers_of(buffer, sheet),
             Bench::Unopened(buffer) => put_numbers_of(buffer.buffer(), sheet),
@@ -115,7 +115,7 @@ impl Bench {
 }
 
 /// Writes the numbers of a buffer.
-fn put_numbers_of<S: BlockStore>(buffer: &Buffer<S>, sheet: &mut Sheet) {
+fn put_numbers_of<S: BlockStore>(buffer: &Buffer<S>, sheet: &Sheet) {
     let numbers = [
         u64::from(buffer.blocks()),
         u64::from(buffer.cycle()),
@@ -127,7 +127,7 @@ fn put_numbers_of<S: BlockStore>(buffer: &Buffer<S>, sheet: &mut Sheet) {
 }
 
 /// Begins an article, writes so many of its blocks, ends it so, and writes its token.
-fn begin_article<S: BlockStore>(buffer: &mut Buffer<S>, stored: Stored, sheet: &mut Sheet) {
+fn begin_article<S: BlockStore>(buffer: &mut Buffer<S>, stored: Stored, sheet: &Sheet) {
     if stored.octets == 0 {
         return sheet.refuse();
     }
@@ -138,12 +138,7 @@ fn begin_article<S: BlockStore>(buffer: &mut Buffer<S>, stored: Stored, sheet: &
 }
 
 /// Writes so many blocks of an article that was begun, ends it so, and writes its token.
-fn write_article<S: BlockStore>(
-    buffer: &mut Buffer<S>,
-    open: Open,
-    stored: Stored,
-    sheet: &mut Sheet,
-) {
+fn write_article<S: BlockStore>(buffer: &mut Buffer<S>, open: Open, stored: Stored, sheet: &Sheet) {
     let text = text_of(stored.class, stored.octets, sheet);
     if write_blocks(buffer, &open, &text, stored.blocks, sheet) {
         sheet.put(&ended(buffer, open, stored.end).to_text());
@@ -159,7 +154,7 @@ fn write_blocks<S: BlockStore>(
     open: &Open,
     text: &[u8],
     blocks: u64,
-    sheet: &mut Sheet,
+    sheet: &Sheet,
 ) -> bool {
     for _block in 0..blocks {
         if let Err(error) = buffer.write_next(open, text) {
@@ -189,7 +184,7 @@ fn octet_at(class: u8, place: usize) -> u8 {
 }
 
 /// The text of an article of a class and of so many octets.
-fn text_of(class: u8, octets: u32, sheet: &mut Sheet) -> Vec<u8> {
+fn text_of(class: u8, octets: u32, sheet: &Sheet) -> Vec<u8> {
     let mut text = Vec::new(sheet.alloc);
     for place in 0..octets as usize {
         if text.push(octet_at(class, place)).is_err() {
@@ -201,7 +196,7 @@ fn text_of(class: u8, octets: u32, sheet: &mut Sheet) -> Vec<u8> {
 }
 
 /// Writes what was found that is no block.
-fn put_other(found: &Result<Found, BufError>, sheet: &mut Sheet) {
+fn put_other(found: &Result<Found, BufError>, sheet: &Sheet) {
     match found {
         Ok(Found::Gone(front)) => sheet.numbered(b"gone ", front.front()),
         Ok(_) => sheet.put(b"unknown"),

@@ -29,7 +29,7 @@ impl Bench {
     }
 
     /// Makes a device of so many blocks of zeros.
-    pub fn make(&mut self, cells: &Cells, sheet: &mut Sheet) {
+    pub fn make(&mut self, cells: &Cells, sheet: &Sheet) {
         if let Some(device) = zeros(number(cells, sheet), sheet) {
             sheet.put(b"made");
             self.set(Bench::Stopped(device));
@@ -38,7 +38,7 @@ impl Bench {
 
     /// Makes a buffer of the number and at the cycle that the cells say, over a device of so many
     /// blocks, of which a call fails where one is named.
-    pub fn format(&mut self, cells: &Cells, sheet: &mut Sheet) {
+    pub fn format(&mut self, cells: &Cells, sheet: &Sheet) {
         let blocks = number(cells, sheet);
         let buffer = octet(cells, sheet);
         let cycle = number(cells, sheet);
@@ -53,7 +53,7 @@ impl Bench {
     }
 
     /// The call of the device of this number fails; with 0 none does.
-    pub fn fail(&mut self, cells: &Cells, sheet: &mut Sheet) {
+    pub fn fail(&mut self, cells: &Cells, sheet: &Sheet) {
         self.arm(sheet.read(cells.next()));
         sheet.put(b"armed");
     }
@@ -70,7 +70,7 @@ impl Bench {
 }
 
 /// A device of so many blocks of zeros.
-fn zeros(blocks: u32, sheet: &mut Sheet) -> Option<Store> {
+fn zeros(blocks: u32, sheet: &Sheet) -> Option<Store> {
     match MemoryBlocks::new(sheet.alloc, blocks) {
         Ok(blocks) => Some(FailAt::new(blocks, 0)),
         Err(_) => {
@@ -81,7 +81,7 @@ fn zeros(blocks: u32, sheet: &mut Sheet) -> Option<Store> {
 }
 
 /// A buffer of this number at this cycle, over a device of which this call fails.
-fn formatted(mut device: Store, failing: u64, number: u8, cycle: u32, sheet: &mut Sheet) -> Bench {
+fn formatted(mut device: Store, failing: u64, number: u8, cycle: u32, sheet: &Sheet) -> Bench {
     device.arm(failing);
     match Buffer::format(sheet.alloc, device, number, cycle) {
         Ok(buffer) => {

@@ -13,7 +13,7 @@ const NAMES: &str = "format zeros fail each store abandon unfinished read number
 
 impl Stops {
     /// Writes the answer of a call.
-    pub(crate) fn answer(&mut self, call: &[u8], cells: &Cells, sheet: &mut Sheet) {
+    pub(crate) fn answer(&mut self, call: &[u8], cells: &Cells, sheet: &Sheet) {
         match place_of(NAMES, call) {
             None => self.bench.put_step(call, cells, sheet),
             Some(place @ 0..=8) => self.bench.answer(place, cells, sheet),
@@ -25,7 +25,7 @@ impl Stops {
 
 impl Bench {
     /// Writes the answer of the call of a device or an article whose name has this place.
-    fn answer(&mut self, place: usize, cells: &Cells, sheet: &mut Sheet) {
+    fn answer(&mut self, place: usize, cells: &Cells, sheet: &Sheet) {
         match place {
             0 => self.format(cells, sheet),
             1 => self.make(cells, sheet),
@@ -42,7 +42,7 @@ impl Bench {
 
 impl Texts {
     /// Writes the answer of the call of a text whose name has this place.
-    fn answer(&mut self, place: usize, cells: &Cells, sheet: &mut Sheet) {
+    fn answer(&mut self, place: usize, cells: &Cells, sheet: &Sheet) {
         match place {
             13 => self.set(cells, sheet),
             14 => self.name(cells, sheet),

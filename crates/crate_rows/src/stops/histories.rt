@@ -35,7 +35,7 @@ impl Texts {
     }
 
     /// From here the setting is that of the cells.
-    pub fn set(&mut self, cells: &Cells, sheet: &mut Sheet) {
+    pub fn set(&mut self, cells: &Cells, sheet: &Sheet) {
         let setting = Setting {
             buffers: number(cells, sheet),
             groups: numbers_of(cells.next(), sheet),
@@ -46,13 +46,13 @@ impl Texts {
     }
 
     /// From here the text is that whose digits stand in the cells.
-    pub fn name(&mut self, cells: &Cells, sheet: &mut Sheet) {
+    pub fn name(&mut self, cells: &Cells, sheet: &Sheet) {
         self.text = octets_by(&joined(cells.rest(), sheet), sheet);
         sheet.number(self.text.len() as u64);
     }
 
     /// Writes the history that the text says, or that it says none.
-    pub fn put_history(&self, sheet: &mut Sheet) {
+    pub fn put_history(&self, sheet: &Sheet) {
         match read(sheet.alloc, &self.text, &self.setting) {
             Ok(history) => {
                 put_parts(&history, sheet);
@@ -63,14 +63,14 @@ impl Texts {
     }
 
     /// Writes what the text gives with this change at each of its octets in turn.
-    pub(crate) fn walk(&self, change: Change, sheet: &mut Sheet) {
+    pub(crate) fn walk(&self, change: Change, sheet: &Sheet) {
         let look = Look::History(&self.setting);
         walk(look, &self.text, change, self.text.len(), sheet);
     }
 }
 
 /// The numbers that stand in a cell between commas.
-fn numbers_of(cell: &[u8], sheet: &mut Sheet) -> Vec<u32> {
+fn numbers_of(cell: &[u8], sheet: &Sheet) -> Vec<u32> {
     let mut numbers = Vec::new(sheet.alloc);
     let mut unread = Some(cell);
     while let Some(rest) = unread {
@@ -85,7 +85,7 @@ fn numbers_of(cell: &[u8], sheet: &mut Sheet) -> Vec<u32> {
 }
 
 /// Writes why a text says no history.
-fn put_fault(error: HistoryError, sheet: &mut Sheet) {
+fn put_fault(error: HistoryError, sheet: &Sheet) {
     match error {
         HistoryError::Memory => sheet.lack(),
         HistoryError::BadHistory => sheet.put(b"BadHistory"),
@@ -93,7 +93,7 @@ fn put_fault(error: HistoryError, sheet: &mut Sheet) {
 }
 
 /// Writes the parts of a history.
-fn put_parts(history: &History, sheet: &mut Sheet) {
+fn put_parts(history: &History, sheet: &Sheet) {
     let numbers = [history.stop, history.newest];
     sheet.filled(b"stop # newest # positions", &numbers);
     put_positions(&history.positions, sheet);
@@ -102,14 +102,14 @@ fn put_parts(history: &History, sheet: &mut Sheet) {
 }
 
 /// Writes the places of groups' current buffers.
-fn put_positions(positions: &[u32], sheet: &mut Sheet) {
+fn put_positions(positions: &[u32], sheet: &Sheet) {
     for position in positions {
         sheet.numbered(b" ", u64::from(*position));
     }
 }
 
 /// Writes what is left of feeds.
-fn put_feeds(feeds: &[KeptFeed], sheet: &mut Sheet) {
+fn put_feeds(feeds: &[KeptFeed], sheet: &Sheet) {
     for feed in feeds {
         sheet.filled(b" feed # # #", &[feed.gained, feed.passed, feed.taken]);
         put_tokens(&feed.waiting, sheet);
@@ -117,7 +117,7 @@ fn put_feeds(feeds: &[KeptFeed], sheet: &mut Sheet) {
 }
 
 /// Writes what became of message-ids.
-fn put_ids(ids: &[KeptId], sheet: &mut Sheet) {
+fn put_ids(ids: &[KeptId], sheet: &Sheet) {
     for id in ids {
         sheet.put(b" id");
         sheet.next(id.id.as_bytes());
@@ -131,7 +131,7 @@ fn put_ids(ids: &[KeptId], sheet: &mut Sheet) {
 
 /// Writes `read` where a text is that of the history that it says, else `other`, or its fault.
 #[tactic(auto, using(crate::proofs::Rooms::room_of))]
-pub(crate) fn put_kept(text: &[u8], setting: &Setting, sheet: &mut Sheet) {
+pub(crate) fn put_kept(text: &[u8], setting: &Setting, sheet: &Sheet) {
     match read(sheet.alloc, text, setting) {
         Ok(history) => {
             put_written(&history, text, sheet);
@@ -142,7 +142,7 @@ pub(crate) fn put_kept(text: &[u8], setting: &Setting, sheet: &mut Sheet) {
 }
 
 /// Writes whether a text is that of a history.
-fn put_written(history: &History, text: &[u8], sheet: &mut Sheet)
+fn put_written(history: &History, text: &[u8], sheet: &Sheet)
     requires { HasRoom history.now }
 {
     match write(sheet.alloc, history) {

@@ -18,7 +18,7 @@ enum Block {
 
 impl Bench {
     /// Writes the answer of the call of this place, which is of the block that two cells name.
-    pub(crate) fn answer_of_block(&mut self, place: usize, cells: &Cells, sheet: &mut Sheet) {
+    pub(crate) fn answer_of_block(&mut self, place: usize, cells: &Cells, sheet: &Sheet) {
         let block = block_in(cells, sheet);
         match place {
             9 => self.put_octets(block, sheet),
@@ -29,13 +29,13 @@ impl Bench {
     }
 
     /// Writes the octets of a block but for the zeros at its end.
-    fn put_octets(&mut self, block: Block, sheet: &mut Sheet) {
+    fn put_octets(&mut self, block: Block, sheet: &Sheet) {
         let octets = self.octets_of(block, sheet);
         put_hex(without_zeros(&octets), sheet);
     }
 
     /// Puts octets into a block from a place on.
-    fn change(&mut self, block: Block, cells: &Cells, sheet: &mut Sheet) {
+    fn change(&mut self, block: Block, cells: &Cells, sheet: &Sheet) {
         let place = number(cells, sheet) as usize;
         let other = octets_by(cells.next(), sheet);
         let octets = self.octets_of(block, sheet);
@@ -46,7 +46,7 @@ impl Bench {
 
     /// Writes what a start answers with this change at each octet of a block in turn; it has zeros
     /// behind a cut. The block is then as it was.
-    fn walk(&mut self, block: Block, change: Change, cells: &Cells, sheet: &mut Sheet) {
+    fn walk(&mut self, block: Block, change: Change, cells: &Cells, sheet: &Sheet) {
         let start = start_in(cells, sheet);
         let octets = self.octets_of(block, sheet);
         if sheet.is_spoilt() {
@@ -68,18 +68,18 @@ impl Bench {
         block: Block,
         octets: &[u8; BLOCK_OCTETS],
         start: Step,
-        sheet: &mut Sheet,
+        sheet: &Sheet,
     ) -> Vec<u8> {
-        let mut said = Sheet::new(sheet.alloc);
-        self.put_block(block, octets, &mut said);
-        self.take_step(start, &mut said);
-        let mut unread = Sheet::new(sheet.alloc);
-        self.take_step(Step::Leave, &mut unread);
+        let said = Sheet::new(sheet.alloc);
+        self.put_block(block, octets, &said);
+        self.take_step(start, &said);
+        let unread = Sheet::new(sheet.alloc);
+        self.take_step(Step::Leave, &unread);
         said.onto(sheet)
     }
 
     /// The octets of a block; where there is none, the row has no answer.
-    fn octets_of(&mut self, block: Block, sheet: &mut Sheet) -> [u8; BLOCK_OCTETS] {
+    fn octets_of(&mut self, block: Block, sheet: &Sheet) -> [u8; BLOCK_OCTETS] {
         let mut octets = [0; BLOCK_OCTETS];
         let Bench::Stopped(device) = self else {
             sheet.refuse();
@@ -97,7 +97,7 @@ impl Bench {
     }
 
     /// Puts octets into a block; where there is none, the row has no answer.
-    fn put_block(&mut self, block: Block, octets: &[u8; BLOCK_OCTETS], sheet: &mut Sheet) {
+    fn put_block(&mut self, block: Block, octets: &[u8; BLOCK_OCTETS], sheet: &Sheet) {
         let Bench::Stopped(device) = self else {
             return sheet.refuse();
         };
@@ -113,7 +113,7 @@ impl Bench {
 }
 
 /// The block that the next two cells name.
-fn block_in(cells: &Cells, sheet: &mut Sheet) -> Block {
+fn block_in(cells: &Cells, sheet: &Sheet) -> Block {
     let kind = place_of("head block", cells.next());
     let block = number(cells, sheet);
     match kind {
@@ -127,7 +127,7 @@ fn block_in(cells: &Cells, sheet: &mut Sheet) -> Block {
 }
 
 /// Writes the digits of octets, `zeros` where there are none.
-fn put_hex(octets: &[u8], sheet: &mut Sheet) {
+fn put_hex(octets: &[u8], sheet: &Sheet) {
     if octets.is_empty() {
         return sheet.put(b"zeros");
     }
@@ -138,7 +138,7 @@ fn put_hex(octets: &[u8], sheet: &mut Sheet) {
 }
 
 /// The octets that digits write; none where they write none.
-pub(crate) fn octets_by(digits: &[u8], sheet: &mut Sheet) -> Vec<u8> {
+pub(crate) fn octets_by(digits: &[u8], sheet: &Sheet) -> Vec<u8> {
     match hex::decode(sheet.alloc, digits) {
         Ok(octets) => return octets,
         Err(FromHexError::OutOfMemory) => sheet.lack(),

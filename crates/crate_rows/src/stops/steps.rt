@@ -27,7 +27,7 @@ const MOST_CALLS: u64 = 64;
 
 impl Bench {
     /// Writes what the step of this name answers.
-    pub fn put_step(&mut self, name: &[u8], cells: &Cells, sheet: &mut Sheet) {
+    pub fn put_step(&mut self, name: &[u8], cells: &Cells, sheet: &Sheet) {
         if let Some(step) = step_of(name, cells, sheet) {
             self.take_step(step, sheet);
         }
@@ -35,18 +35,19 @@ impl Bench {
 
     /// Writes what the step that the cells name answers with each call of the device failing in
     /// turn, the last time none.
-    pub fn put_each(&mut self, cells: &Cells, sheet: &mut Sheet) {
+    pub fn put_each(&mut self, cells: &Cells, sheet: &Sheet) {
         let Some(step) = step_of(cells.next(), cells, sheet) else {
             return;
         };
         let mut runs = Runs::new(sheet.alloc, false, 1);
         for failing in 1..MOST_CALLS {
-            let mut said = Sheet::new(sheet.alloc);
+            let said = Sheet::new(sheet.alloc);
             self.arm(failing);
-            self.take_step(step, &mut said);
+            self.take_step(step, &said);
             // An answer that is an error begins with a capital letter.
-            let is_last = !matches!(said.octets().first(), Some(b'A'..=b'Z'));
-            runs.add(said.onto(sheet), sheet);
+            let text = said.onto(sheet);
+            let is_last = !matches!(text.first(), Some(b'A'..=b'Z'));
+            runs.add(text, sheet);
             if is_last {
                 break;
             }
@@ -56,7 +57,7 @@ impl Bench {
     }
 
     /// Takes a step, and writes its answer.
-    pub(crate) fn take_step(&mut self, step: Step, sheet: &mut Sheet) {
+    pub(crate) fn take_step(&mut self, step: Step, sheet: &Sheet) {
         let after = match mem::replace(self, Bench::Nothing) {
             Bench::Running(buffer) => stopped(buffer, step, sheet),
             Bench::Unopened(buffer) => opened(buffer, step, sheet),
@@ -71,7 +72,7 @@ impl Bench {
 }
 
 /// The step of this name and these cells; where they are no step's, the row has no answer.
-fn step_of(name: &[u8], cells: &Cells, sheet: &mut Sheet) -> Option<Step> {
+fn step_of(name: &[u8], cells: &Cells, sheet: &Sheet) -> Option<Step> {
     let step = match place_of("shut restart start open leave", name) {
         Some(0) => Step::Shut(sheet.read(cells.next())),
         Some(1) => Step::Restart(sheet.read(cells.next())),
@@ -91,14 +92,14 @@ fn step_of(name: &[u8], cells: &Cells, sheet: &mut Sheet) -> Option<Step> {
 }
 
 /// The start that the next two cells name.
-pub(crate) fn start_in(cells: &Cells, sheet: &mut Sheet) -> Step {
+pub(crate) fn start_in(cells: &Cells, sheet: &Sheet) -> Step {
     let buffer = octet(cells, sheet);
     let cycle = number(cells, sheet);
     Step::Start(buffer, cycle)
 }
 
 /// Takes a step of a buffer that runs.
-fn stopped(buffer: Buffer<Store>, step: Step, sheet: &mut Sheet) -> Bench {
+fn stopped(buffer: Buffer<Store>, step: Step, sheet: &Sheet) -> Bench {
     match step {
         Step::Shut(stop) => shut(buffer, stop, sheet),
         Step::Restart(stop) => restarted(buffer, stop, sheet),
@@ -114,7 +115,7 @@ fn stopped(buffer: Buffer<Store>, step: Step, sheet: &mut Sheet) -> Bench {
 }
 
 /// Shuts a buffer under the number of a stop.
-fn shut(buffer: Buffer<Store>, stop: u64, sheet: &mut Sheet) -> Bench {
+fn shut(buffer: Buffer<Store>, stop: u64, sheet: &Sheet) -> Bench {
     match buffer.shut(stop) {
         Ok(device) => {
             sheet.put(b"shut");
@@ -128,7 +129,7 @@ fn shut(buffer: Buffer<Store>, stop: u64, sheet: &mut Sheet) -> Bench {
 }
 
 /// Stops a buffer and starts it in place.
-fn restarted(mut buffer: Buffer<Store>, stop: u64, sheet: &mut Sheet) -> Bench {
+fn restarted(mut buffer: Buffer<Store>, stop: u64, sheet: &Sheet) -> Bench {
     match buffer.restart(sheet.alloc, stop) {
         Ok(tokens) => {
             sheet.put(b"restarted");
@@ -140,7 +141,7 @@ fn restarted(mut buffer: Buffer<Store>, stop: u64, sheet: &mut Sheet) -> Bench {
 }
 
 /// Takes a step of a buffer whose head isn't open.
-fn opened(buffer: Unopened<Store>, step: Step, sheet: &mut Sheet) -> Bench {
+fn opened(buffer: Unopened<Store>, step: Step, sheet: &Sheet) -> Bench {
     match step {
         Step::Leave => {
             sheet.put(b"left");
@@ -157,7 +158,7 @@ fn opened(buffer: Unopened<Store>, step: Step, sheet: &mut Sheet) -> Bench {
 }
 
 /// Opens the head of a buffer.
-fn open(buffer: Unopened<Store>, sheet: &mut Sheet) -> Bench {
+fn open(buffer: Unopened<Store>, sheet: &Sheet) -> Bench {
     match buffer.open() {
         Ok(buffer) => {
             sheet.put(b"opened");
@@ -171,7 +172,7 @@ fn open(buffer: Unopened<Store>, sheet: &mut Sheet) -> Bench {
 }
 
 /// Takes a step of a device on which no buffer runs.
-fn started(device: Store, step: Step, sheet: &mut Sheet) -> Bench {
+fn started(device: Store, step: Step, sheet: &Sheet) -> Bench {
     let Step::Start(number, cycle) = step else {
         sheet.refuse();
         return Bench::Stopped(device);
@@ -190,7 +191,7 @@ fn started(device: Store, step: Step, sheet: &mut Sheet) -> Bench {
 }
 
 /// Writes tokens, each behind a space.
-pub(crate) fn put_tokens(tokens: &[Token], sheet: &mut Sheet) {
+pub(crate) fn put_tokens(tokens: &[Token], sheet: &Sheet) {
     for token in tokens {
         sheet.next(&token.to_text());
     }

@@ -10,7 +10,7 @@ use path_rules::{identities, loops, updated};
 use row_text::Sheet;
 
 /// Writes the answer of a call of a text, behind these cells.
-pub fn of_text(call: usize, first: &[u8], second: &[u8], octets: &[u8], sheet: &mut Sheet) {
+pub fn of_text(call: usize, first: &[u8], second: &[u8], octets: &[u8], sheet: &Sheet) {
     let fronts = octets.len().saturating_add(1);
     match call {
         17 => sheet.cell(octets),
@@ -24,7 +24,7 @@ pub fn of_text(call: usize, first: &[u8], second: &[u8], octets: &[u8], sheet: &
 }
 
 /// Writes what is asked of an article, or the text's fault.
-fn put_asked(call: usize, first: &[u8], second: &[u8], octets: &[u8], sheet: &mut Sheet) {
+fn put_asked(call: usize, first: &[u8], second: &[u8], octets: &[u8], sheet: &Sheet) {
     match Article::parse(sheet.alloc, octets) {
         Ok(article) => {
             put_of(call, first, second, &article, sheet);
@@ -35,7 +35,7 @@ fn put_asked(call: usize, first: &[u8], second: &[u8], octets: &[u8], sheet: &mu
 }
 
 /// Writes what is asked of an article.
-fn put_of(call: usize, first: &[u8], second: &[u8], article: &Article<'_>, sheet: &mut Sheet) {
+fn put_of(call: usize, first: &[u8], second: &[u8], article: &Article<'_>, sheet: &Sheet) {
     match call {
         21 => put_parts(article, sheet),
         22 => put_groups(article, sheet),
@@ -51,14 +51,14 @@ fn put_of(call: usize, first: &[u8], second: &[u8], article: &Article<'_>, sheet
 }
 
 /// Writes the message-id of an article, the place of its body, and the body.
-fn put_parts(article: &Article<'_>, sheet: &mut Sheet) {
+fn put_parts(article: &Article<'_>, sheet: &Sheet) {
     sheet.cell(article.id().as_bytes());
     sheet.numbered(b" ", article.body_at() as u64);
     sheet.next(article.body());
 }
 
 /// Writes the newsgroups of an article.
-fn put_groups(article: &Article<'_>, sheet: &mut Sheet) {
+fn put_groups(article: &Article<'_>, sheet: &Sheet) {
     let Ok(groups) = article.groups(sheet.alloc) else {
         return sheet.lack();
     };
@@ -70,7 +70,7 @@ fn put_groups(article: &Article<'_>, sheet: &mut Sheet) {
 }
 
 /// Writes what becomes of an article that comes to the first agent from the second.
-fn put_arrival(own: &[u8], expected: &[u8], article: &Article<'_>, sheet: &mut Sheet) {
+fn put_arrival(own: &[u8], expected: &[u8], article: &Article<'_>, sheet: &Sheet) {
     match loops(article.field(b"Path").unwrap_or(b""), own) {
         Ok(true) => sheet.put(b"Loop"),
         Ok(false) => put_updated(own, expected, article, sheet),
@@ -80,7 +80,7 @@ fn put_arrival(own: &[u8], expected: &[u8], article: &Article<'_>, sheet: &mut S
 
 /// Writes how many octets the article has with its Path updated, for how many there is room, and
 /// the octets; or why the Path is refused.
-fn put_updated(own: &[u8], expected: &[u8], article: &Article<'_>, sheet: &mut Sheet) {
+fn put_updated(own: &[u8], expected: &[u8], article: &Article<'_>, sheet: &Sheet) {
     match updated(sheet.alloc, article, own, expected) {
         Ok(octets) => {
             let numbers = [octets.len() as u64, octets.capacity() as u64];
@@ -93,7 +93,7 @@ fn put_updated(own: &[u8], expected: &[u8], article: &Article<'_>, sheet: &mut S
 
 /// Writes what a text gives: `Read(P, N)` for an article whose body has N octets at place P, or its
 /// fault.
-pub fn put_reading(octets: &[u8], sheet: &mut Sheet) {
+pub fn put_reading(octets: &[u8], sheet: &Sheet) {
     match Article::parse(sheet.alloc, octets) {
         Ok(article) => {
             let numbers = [article.body_at() as u64, article.body().len() as u64];
@@ -110,7 +110,7 @@ pub fn put_reading(octets: &[u8], sheet: &mut Sheet) {
 
 /// Writes what a room has that had so many free octets behind these, once a line was put there, or
 /// that behind why none was put.
-fn put_behind(free: &[u8], before: &[u8], octets: &[u8], sheet: &mut Sheet) {
+fn put_behind(free: &[u8], before: &[u8], octets: &[u8], sheet: &Sheet) {
     let free = sheet.read(free) as usize;
     let mut room = room_of(before, free, sheet);
     match put_line(&mut room, octets) {
@@ -123,7 +123,7 @@ fn put_behind(free: &[u8], before: &[u8], octets: &[u8], sheet: &mut Sheet) {
 }
 
 /// A room that has these octets, and so many free ones behind them.
-fn room_of(octets: &[u8], free: usize, sheet: &mut Sheet) -> Vec<u8> {
+fn room_of(octets: &[u8], free: usize, sheet: &Sheet) -> Vec<u8> {
     match Vec::with_capacity(sheet.alloc, octets.len().saturating_add(free)) {
         Ok(mut room) => {
             if room.extend_from_slice(octets).is_err() {
@@ -139,7 +139,7 @@ fn room_of(octets: &[u8], free: usize, sheet: &mut Sheet) -> Vec<u8> {
 }
 
 /// Writes the overview line that a text gives in room that is enough, or why it gives none.
-pub fn put_front_line(octets: &[u8], sheet: &mut Sheet) {
+pub fn put_front_line(octets: &[u8], sheet: &Sheet) {
     let mut room = room_of(b"", octets.len().saturating_add(LINE_ROOM), sheet);
     match put_line(&mut room, octets) {
         Ok(()) => {
@@ -152,7 +152,7 @@ pub fn put_front_line(octets: &[u8], sheet: &mut Sheet) {
 }
 
 /// Writes the identities of a Path, or why it is refused.
-pub fn put_identities(path: &[u8], sheet: &mut Sheet) {
+pub fn put_identities(path: &[u8], sheet: &Sheet) {
     match identities(sheet.alloc, path) {
         Ok(list) => {
             sheet.put(b"[");

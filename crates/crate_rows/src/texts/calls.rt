@@ -14,7 +14,7 @@ const NAMES: &str = "message_id command command_cuts expression_cuts expression_
     article_changes arrived judge_date put_overview";
 
 /// Writes the answer of a call.
-pub fn answer(name: &[u8], cells: &Cells, sheet: &mut Sheet) {
+pub fn answer(name: &[u8], cells: &Cells, sheet: &Sheet) {
     let Some(call) = place_of(NAMES, name) else {
         return sheet.refuse();
     };
@@ -25,7 +25,7 @@ pub fn answer(name: &[u8], cells: &Cells, sheet: &mut Sheet) {
 }
 
 /// Writes the answer of a call of one cell, of two, or of the parts of a text.
-fn answer_of_text(call: usize, cells: &Cells, sheet: &mut Sheet) {
+fn answer_of_text(call: usize, cells: &Cells, sheet: &Sheet) {
     let first = match call {
         0..=13 | 24.. => cells.next(),
         _ => b"",

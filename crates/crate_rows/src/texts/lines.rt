@@ -16,7 +16,7 @@ use uwild::Expr;
 const LAST_MOMENT: u64 = 253_370_764_799;
 
 /// Writes the answer of a call of one cell.
-pub fn of_line(call: usize, line: &[u8], sheet: &mut Sheet) {
+pub fn of_line(call: usize, line: &[u8], sheet: &Sheet) {
     match call {
         0 => sheet.debug(&MsgId::parse(sheet.alloc, line)),
         1 => put_look(Look::Command, line, sheet),
@@ -33,7 +33,7 @@ pub fn of_line(call: usize, line: &[u8], sheet: &mut Sheet) {
 }
 
 /// Writes a text that was made.
-pub fn put_made(made: Result<Vec<u8>, AllocError>, sheet: &mut Sheet) {
+pub fn put_made(made: Result<Vec<u8>, AllocError>, sheet: &Sheet) {
     match made {
         Ok(octets) => sheet.cell(&octets),
         Err(_) => sheet.lack(),
@@ -41,7 +41,7 @@ pub fn put_made(made: Result<Vec<u8>, AllocError>, sheet: &mut Sheet) {
 }
 
 /// Writes the second that a content reads as.
-fn put_seconds(content: &[u8], sheet: &mut Sheet) {
+fn put_seconds(content: &[u8], sheet: &Sheet) {
     match seconds(sheet.alloc, content) {
         Ok(second) => sheet.debug(&second),
         Err(_) => sheet.lack(),
@@ -49,7 +49,7 @@ fn put_seconds(content: &[u8], sheet: &mut Sheet) {
 }
 
 /// Writes the stamp of a moment.
-fn put_stamp(moment: &[u8], sheet: &mut Sheet) {
+fn put_stamp(moment: &[u8], sheet: &Sheet) {
     let now = sheet.read(moment);
     if now > LAST_MOMENT {
         return sheet.refuse();
@@ -58,7 +58,7 @@ fn put_stamp(moment: &[u8], sheet: &mut Sheet) {
 }
 
 /// Writes the answer of a call of two cells.
-pub fn of_two(call: usize, first: &[u8], second: &[u8], sheet: &mut Sheet) {
+pub fn of_two(call: usize, first: &[u8], second: &[u8], sheet: &Sheet) {
     match call {
         11 => walk(Look::Command, second, put_first(first), second.len(), sheet),
         12 => sheet.debug(&loops(second, first)),
@@ -67,7 +67,7 @@ pub fn of_two(call: usize, first: &[u8], second: &[u8], sheet: &mut Sheet) {
 }
 
 /// Writes what an expression says of a name, or the fault of a text that is none.
-fn put_verdict(expression: &[u8], name: &[u8], sheet: &mut Sheet) {
+fn put_verdict(expression: &[u8], name: &[u8], sheet: &Sheet) {
     match Expr::parse(sheet.alloc, expression) {
         Ok(expression) => sheet.debug(&expression.judge(name)),
         Err(error) => sheet.debug(&error),
@@ -80,7 +80,7 @@ pub fn put_first(octets: &[u8]) -> Change {
 }
 
 /// Writes octets, or that there are none.
-pub fn put_some(octets: Option<&[u8]>, sheet: &mut Sheet) {
+pub fn put_some(octets: Option<&[u8]>, sheet: &Sheet) {
     match octets {
         Some(octets) => sheet.cell(octets),
         None => sheet.put(b"None"),

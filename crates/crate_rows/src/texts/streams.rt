@@ -7,7 +7,7 @@ use stream_cut::{Block, Cut, Want, cut_all};
 
 /// Writes the answer of a call of pieces, which come behind a limit and what is wanted: what is cut
 /// off them, off a stream in pieces of a size that stands in front, or off one of two pieces.
-pub fn of_pieces(call: usize, cells: &Cells, sheet: &mut Sheet) {
+pub fn of_pieces(call: usize, cells: &Cells, sheet: &Sheet) {
     let size = match call {
         15 => sheet.read(cells.next()) as usize,
         _ => 0,
@@ -27,7 +27,7 @@ pub fn of_pieces(call: usize, cells: &Cells, sheet: &mut Sheet) {
 }
 
 /// Writes what is cut off these pieces, between square brackets.
-pub fn put_cuts(limit: usize, wants: &[u8], pieces: &[Vec<u8>], sheet: &mut Sheet) {
+pub fn put_cuts(limit: usize, wants: &[u8], pieces: &[Vec<u8>], sheet: &Sheet) {
     let wants = wants_of(wants, sheet);
     match cut_all(sheet.alloc, limit, pieces, &wants) {
         Ok(cuts) => {
@@ -43,7 +43,7 @@ pub fn put_cuts(limit: usize, wants: &[u8], pieces: &[Vec<u8>], sheet: &mut Shee
 }
 
 /// What is wanted: a block by a `B`, a line by any other octet.
-fn wants_of(letters: &[u8], sheet: &mut Sheet) -> Vec<Want> {
+fn wants_of(letters: &[u8], sheet: &Sheet) -> Vec<Want> {
     let mut wants = Vec::new(sheet.alloc);
     for letter in letters {
         let want = if *letter == b'B' {
@@ -59,7 +59,7 @@ fn wants_of(letters: &[u8], sheet: &mut Sheet) -> Vec<Want> {
 }
 
 /// Writes what was cut, and a space.
-fn put_cut(cut: &Cut, sheet: &mut Sheet) {
+fn put_cut(cut: &Cut, sheet: &Sheet) {
     match cut {
         Cut::Line(line) => put_in(b"Line", line, sheet),
         Cut::Block(Block::Whole(octets)) => put_in(b"Whole", octets, sheet),
@@ -69,7 +69,7 @@ fn put_cut(cut: &Cut, sheet: &mut Sheet) {
 }
 
 /// Writes octets between round brackets, behind a word, and a space.
-fn put_in(word: &[u8], octets: &[u8], sheet: &mut Sheet) {
+fn put_in(word: &[u8], octets: &[u8], sheet: &Sheet) {
     sheet.put(word);
     sheet.put(b"(");
     sheet.cell(octets);
@@ -77,7 +77,7 @@ fn put_in(word: &[u8], octets: &[u8], sheet: &mut Sheet) {
 }
 
 /// The pieces of this size of a stream.
-fn pieces_of(size: usize, stream: &[u8], sheet: &mut Sheet) -> Vec<Vec<u8>> {
+fn pieces_of(size: usize, stream: &[u8], sheet: &Sheet) -> Vec<Vec<u8>> {
     let mut pieces = Vec::new(sheet.alloc);
     for piece in stream.chunks(size.max(1)) {
         add_octets(&mut pieces, piece, sheet);

@@ -29,20 +29,20 @@ pub enum Look<'a> {
 
 /// Writes what a text gives with this change at each of so many places in turn: behind the places
 /// that have it where the text is of a history, else behind their number.
-pub fn walk(look: Look<'_>, octets: &[u8], change: Change, places: usize, sheet: &mut Sheet) {
+pub fn walk(look: Look<'_>, octets: &[u8], change: Change, places: usize, sheet: &Sheet) {
     let are_counted = !matches!(look, Look::History(_));
     let mut runs = Runs::new(sheet.alloc, are_counted, 0);
     for place in 0..places {
         let text = changed(octets, place, change, sheet);
-        let mut said = Sheet::new(sheet.alloc);
-        put_look(look, &text, &mut said);
+        let said = Sheet::new(sheet.alloc);
+        put_look(look, &text, &said);
         runs.add(said.onto(sheet), sheet);
     }
     runs.end(sheet);
 }
 
 /// Writes what a text gives.
-pub fn put_look(look: Look<'_>, octets: &[u8], sheet: &mut Sheet) {
+pub fn put_look(look: Look<'_>, octets: &[u8], sheet: &Sheet) {
     match look {
         Look::History(setting) => put_kept(octets, setting, sheet),
         Look::Command => sheet.debug(&Command::parse(sheet.alloc, octets)),
@@ -54,7 +54,7 @@ pub fn put_look(look: Look<'_>, octets: &[u8], sheet: &mut Sheet) {
 }
 
 /// Writes what is cut off a stream in two pieces, of which this is the first.
-fn put_in_two(first: &[u8], stream: &[u8], limit: usize, wants: &[u8], sheet: &mut Sheet) {
+fn put_in_two(first: &[u8], stream: &[u8], limit: usize, wants: &[u8], sheet: &Sheet) {
     let mut pieces = Vec::new(sheet.alloc);
     add_octets(&mut pieces, first, sheet);
     add_octets(&mut pieces, stream.get(first.len()..).unwrap_or(b""), sheet);

@@ -17,7 +17,7 @@ use std::sync::ledger::Ledger;
 #[derive(Drop)]
 pub(crate) struct Fetch {
     token: Token,
-    text: Sheet,
+    text: Vec<u8>,
 }
 
 impl Fetch {
@@ -27,16 +27,19 @@ impl Fetch {
         let (word, words) = word_of(words);
         let token = Token::parse(word).ok()?;
         let (id, octets) = word_of(words);
-        let mut text = Sheet::new(alloc);
-        put_article(&mut text, FROM_FIRST, id, number_in(octets), b"misc.test");
-        Some(Fetch { token, text })
+        let text = Sheet::new(alloc);
+        put_article(&text, FROM_FIRST, id, number_in(octets), b"misc.test");
+        Some(Fetch {
+            token,
+            text: text.into_octets(),
+        })
     }
 }
 
 /// Does each of these fetches, and writes what it found.
 pub(crate) fn put_fetches<S: BlockStore + Drop, J: StorePremises, L: Ledger, R: Wait>(
     rt: &R,
-    sheet: &mut Sheet,
+    sheet: &Sheet,
     shared: &Shared<S, J, L>,
     register: &ArticleLog,
     fetches: &[Fetch],
@@ -49,7 +52,7 @@ pub(crate) fn put_fetches<S: BlockStore + Drop, J: StorePremises, L: Ledger, R: 
         sheet.put(b": ");
         match shared.fetch(rt, sheet.alloc, register, &fetch.token) {
             Ok(found) => {
-                put_fetched(sheet, &found, fetch.text.octets());
+                put_fetched(sheet, &found, &fetch.text);
                 drop(found);
             }
             Err(_) => sheet.lack(),

@@ -17,7 +17,7 @@ use std::sync::ledger::Ledger;
 const LONGEST: u64 = 8;
 
 /// Writes what the sessions were written, or where it is counted, how often which code was.
-pub(crate) fn put_written<R: Wait>(rt: &R, sheet: &mut Sheet, board: &Board, is_counted: bool) {
+pub(crate) fn put_written<R: Wait>(rt: &R, sheet: &Sheet, board: &Board, is_counted: bool) {
     if is_counted {
         put_codes(rt, sheet, board);
     } else {
@@ -26,7 +26,7 @@ pub(crate) fn put_written<R: Wait>(rt: &R, sheet: &mut Sheet, board: &Board, is_
 }
 
 /// Writes what each session was written.
-fn put_sessions<R: Wait>(rt: &R, sheet: &mut Sheet, board: &Board) {
+fn put_sessions<R: Wait>(rt: &R, sheet: &Sheet, board: &Board) {
     let mut session = 0u64;
     for room in &board.rooms {
         session = session.saturating_add(1);
@@ -37,7 +37,7 @@ fn put_sessions<R: Wait>(rt: &R, sheet: &mut Sheet, board: &Board) {
 
 /// Writes a text without its CRs, and a long line of `x` by how many they are. A last line that was
 /// cut is ended.
-fn put_shortened(sheet: &mut Sheet, octets: &[u8]) {
+fn put_shortened(sheet: &Sheet, octets: &[u8]) {
     let mut run = 0u64;
     for octet in octets {
         if *octet == b'x' {
@@ -55,7 +55,7 @@ fn put_shortened(sheet: &mut Sheet, octets: &[u8]) {
 }
 
 /// Writes so many times `x`, or how many they are.
-fn put_run(sheet: &mut Sheet, run: u64) {
+fn put_run(sheet: &Sheet, run: u64) {
     if run > LONGEST {
         sheet.filled(b"{# x}", &[run]);
     } else {
@@ -66,7 +66,7 @@ fn put_run(sheet: &mut Sheet, run: u64) {
 }
 
 /// Writes how often each code was written to all sessions together, the smaller codes first.
-fn put_codes<R: Wait>(rt: &R, sheet: &mut Sheet, board: &Board) {
+fn put_codes<R: Wait>(rt: &R, sheet: &Sheet, board: &Board) {
     let mut counts = [0u64; 600];
     for room in &board.rooms {
         count_codes(&mut counts, room.lock(rt).written.as_slice());
@@ -94,7 +94,7 @@ fn count_codes(counts: &mut [u64; 600], written: &[u8]) {
 }
 
 /// Writes what the seats were counted to, and how often something was waited for in vain.
-pub(crate) fn put_counted(sheet: &mut Sheet, board: &Board, counted: &Counted) {
+pub(crate) fn put_counted(sheet: &Sheet, board: &Board, counted: &Counted) {
     let numbers = [counted.accepted(), counted.posted().count()];
     sheet.filled(b"accepted # posted # mismatched receipts ", &numbers);
     sheet.debug(&counted.mismatched_receipts());
@@ -107,7 +107,7 @@ pub(crate) fn put_counted(sheet: &mut Sheet, board: &Board, counted: &Counted) {
 /// Writes what is known of the buffers, the feeds and the message-ids.
 pub(crate) fn put_figures<S: BlockStore + Drop, J: StorePremises, L: Ledger, R: Wait>(
     rt: &R,
-    sheet: &mut Sheet,
+    sheet: &Sheet,
     shared: &Shared<S, J, L>,
     config: &Config,
 ) {
@@ -122,7 +122,7 @@ pub(crate) fn put_figures<S: BlockStore + Drop, J: StorePremises, L: Ledger, R: 
 }
 
 /// Writes the figures of a buffer.
-fn put_buffer(sheet: &mut Sheet, number: usize, figures: Option<BufferFigures>) {
+fn put_buffer(sheet: &Sheet, number: usize, figures: Option<BufferFigures>) {
     if let Some(figures) = figures {
         let numbers = [
             number as u64,
@@ -136,7 +136,7 @@ fn put_buffer(sheet: &mut Sheet, number: usize, figures: Option<BufferFigures>) 
 }
 
 /// Writes the counts of a feed.
-fn put_feed(sheet: &mut Sheet, number: usize, counts: Option<FeedCounts>) {
+fn put_feed(sheet: &Sheet, number: usize, counts: Option<FeedCounts>) {
     if let Some(counts) = counts {
         let numbers = [number as u64, counts.gained, counts.taken, counts.waiting];
         sheet.filled(b"feed # gained # taken # waiting #\n", &numbers);
@@ -144,7 +144,7 @@ fn put_feed(sheet: &mut Sheet, number: usize, counts: Option<FeedCounts>) {
 }
 
 /// Writes how many message-ids are known, by kind.
-fn put_ids(sheet: &mut Sheet, ids: &IdCounts) {
+fn put_ids(sheet: &Sheet, ids: &IdCounts) {
     sheet.put(b"ids offered ");
     sheet.debug(&ids.offered);
     sheet.put(b" storing ");

@@ -115,8 +115,8 @@ impl<'a, R: Wait + Clock + Sync> Connections<R> for Visit<'a, R> {
             rt: self.rt,
             board: self.board,
             number: self.number,
-            front: script.front.octets(),
-            rest: script.rest.octets(),
+            front: &script.front,
+            rest: &script.rest,
             habits: script.habits,
             interrupted: false,
         };

@@ -104,7 +104,7 @@ impl Row {
     fn add_each(&mut self, alloc: Global, rest: &[u8]) {
         let (digits, line) = word_of(rest);
         for session in 1..=number_within(1, MOST_SESSIONS, digits).unwrap_or(0) {
-            self.add_of(alloc, session, numbered(alloc, line, session).octets());
+            self.add_of(alloc, session, &numbered(alloc, line, session));
         }
     }
 
@@ -114,7 +114,7 @@ impl Row {
         let Some(script) = self.sessions.get_mut(session.saturating_sub(1) as usize) else {
             return;
         };
-        if let Some(turn) = turn_of(script, session, line) {
+        if let Some(turn) = turn_of(alloc, script, session, line) {
             if self.order.push(turn).is_err() {
                 self.is_bad = true;
             }
@@ -153,7 +153,7 @@ impl Row {
 }
 
 /// Does what a line says of a session's script: the turn that it has, if it has one.
-fn turn_of(script: &mut Script, session: u64, line: &[u8]) -> Option<Turn> {
+fn turn_of(alloc: Global, script: &mut Script, session: u64, line: &[u8]) -> Option<Turn> {
     let (word, rest) = word_of(line);
     match place_of(OF_SESSION, word) {
         Some(0) => return Some(Turn::new(session, GONE)),
@@ -162,7 +162,7 @@ fn turn_of(script: &mut Script, session: u64, line: &[u8]) -> Option<Turn> {
             return Some(Turn::new(session, COMES));
         }
         Some(2) => return Some(script.command(session, rest, true)),
-        Some(3) => script.send_article(rest),
+        Some(3) => script.send_article(alloc, rest),
         Some(4) => script.send(rest),
         Some(5) => script.is_waiting = true,
         Some(6) => script.habits.by_octets = true,

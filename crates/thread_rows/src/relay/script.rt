@@ -34,9 +34,9 @@ impl Habits {
 /// What a session sends.
 #[derive(Drop)]
 pub(crate) struct Script {
-    pub(crate) front: Sheet,
+    pub(crate) front: Vec<u8>,
     /// What it sends once a block is being written.
-    pub(crate) rest: Sheet,
+    pub(crate) rest: Vec<u8>,
     /// What it sends next comes only then.
     pub(crate) is_waiting: bool,
     commands: u64,
@@ -49,8 +49,8 @@ impl Script {
     /// Nothing is sent yet.
     pub(crate) fn new(alloc: Global) -> Script {
         Script {
-            front: Sheet::new(alloc),
-            rest: Sheet::new(alloc),
+            front: Vec::new(alloc),
+            rest: Vec::new(alloc),
             is_waiting: false,
             commands: 0,
             habits: Habits {
@@ -64,9 +64,8 @@ impl Script {
 
     /// It sends this line.
     pub(crate) fn send(&mut self, line: &[u8]) {
-        let text = self.text();
-        text.put(line);
-        text.put(b"\r\n");
+        self.add(line);
+        self.add(b"\r\n");
     }
 
     /// It sends this command, which has the next turn.
@@ -83,7 +82,7 @@ impl Script {
 
     /// It sends the lines of an article: the words are I, K and the newsgroups of it; without the
     /// latter these are `misc.test`.
-    pub(crate) fn send_article(&mut self, words: &[u8]) {
+    pub(crate) fn send_article(&mut self, alloc: Global, words: &[u8]) {
         let (id, words) = word_of(words);
         let (digits, groups) = word_of(words);
         let groups = if groups.is_empty() {
@@ -91,17 +90,19 @@ impl Script {
         } else {
             groups
         };
-        let text = self.text();
-        put_article(text, b"", id, number_in(digits), groups);
+        let text = Sheet::new(alloc);
+        put_article(&text, b"", id, number_in(digits), groups);
         text.put(b".\r\n");
+        self.add(&text.into_octets());
     }
 
-    /// What it sends next.
-    fn text(&mut self) -> &mut Sheet {
-        if self.is_waiting {
+    /// It sends these octets next, a part of them where memory runs out.
+    fn add(&mut self, octets: &[u8]) {
+        let part = if self.is_waiting {
             &mut self.rest
         } else {
             &mut self.front
-        }
+        };
+        let _lacks = part.extend_from_slice(octets).is_err();
     }
 }

@@ -118,7 +118,7 @@ fn put_served<
     R,
 >(
     rt: &R,
-    sheet: &mut Sheet,
+    sheet: &Sheet,
     config: &Config,
     shared: &Shared<S, J, L>,
     register: &ArticleLog,
@@ -148,7 +148,7 @@ where
 /// Serves the sessions of a row over these stores, before a board, and writes what came of it.
 fn serve<S: BlockStore + Drop + Send, J: StorePremises + Send + Sync, L: Ledger + Send + Sync, R>(
     rt: &R,
-    sheet: &mut Sheet,
+    sheet: &Sheet,
     config: &Config,
     register: &ArticleLog,
     stores: Vec<S>,
@@ -190,7 +190,7 @@ where
 }
 
 /// Plays a row with this call of each store failing, and writes what came of it.
-fn play<R>(rt: &R, sheet: &mut Sheet, row: &Row, failing: u64)
+fn play<R>(rt: &R, sheet: &Sheet, row: &Row, failing: u64)
 where
     R: Threads + Wait + Clock + RandomSource + Sync + 'static,
 {
@@ -210,7 +210,7 @@ where
 /// Plays a row over a configuration, with this call of each store failing.
 fn play_over<R>(
     rt: &R,
-    sheet: &mut Sheet,
+    sheet: &Sheet,
     config: &Config,
     register: &ArticleLog,
     row: &Row,
@@ -241,7 +241,7 @@ where
 
 /// Plays the row of these lines, and writes what came of it behind the one that it begins with.
 /// Lines that begin none are not played.
-pub(crate) fn put_row<R>(rt: &R, sheet: &mut Sheet, lines: &[u8])
+pub(crate) fn put_row<R>(rt: &R, sheet: &Sheet, lines: &[u8])
 where
     R: Threads + Wait + Clock + RandomSource + Sync + 'static,
 {
@@ -264,14 +264,14 @@ where
 
 /// Plays a row with each call of a store failing in turn: what came of a call is told wherever it
 /// isn't what came of the one before.
-fn sweep<R>(rt: &R, sheet: &mut Sheet, row: &Row)
+fn sweep<R>(rt: &R, sheet: &Sheet, row: &Row)
 where
     R: Threads + Wait + Clock + RandomSource + Sync + 'static,
 {
     let mut last = Vec::new(sheet.alloc);
     for failing in 1..=row.sweep {
-        let mut came = Sheet::new(sheet.alloc);
-        play(rt, &mut came, row, failing);
+        let came = Sheet::new(sheet.alloc);
+        play(rt, &came, row, failing);
         let text = came.onto(sheet);
         if !is(&last, &text) {
             sheet.numbered(b"-- call ", failing);
