@@ -1,30 +1,30 @@
-//! Rows of the program, each under a line `== what it shows`: the words of the program, one behind
-//! each `$`, and its standard input, most often a drill script. The line is printed again, with
-//! what `relay_command::run` wrote, and where it failed with the text of its failure and the
-//! status. Behind `==` a drill is played in pieces of one octet, too; behind `=1` it isn't, behind
-//! `=#` what it gives is counted, and behind `=^` its octets are cut. The configurations that rows
-//! name stand in `data`.
+//! Rows of what no program can be brought to from outside: what it makes of a relay that is served
+//! or asked, which is made up here, and of devices that fail before a script begins. Each stands
+//! under a line `=1 what it shows`: the words of the program, one behind each `$`, and its standard
+//! input. The line is printed again, with what `relay_command::run` wrote, and where it failed with
+//! the text of its failure and the status. The configurations that rows name stand in `data`. All
+//! other rows of the program are played at the program itself (docs/TESTING.md, Rows of the
+//! program).
 
 mod asker;
 mod devices;
-mod expand;
-mod machine;
-mod manner;
 mod row;
 mod server;
 mod streams;
 mod words;
 
 use line_words::cut;
-use manner::{Manner, manner_of};
 use row::Row;
 use row_text::Sheet;
 use std::io::{ErrorKind, Write};
 use std::{io, mem};
 
+/// What the line has in front that a row begins with.
+const MARK: &[u8] = b"=1 ";
+
 /// Plays the rows of a text.
 pub(crate) fn play(rt: &HostRuntime, text: &[u8]) -> io::Result<()> {
-    let mut row = Row::new(rt.alloc(), Manner::Once, b"");
+    let mut row = Row::new(rt.alloc(), b"");
     let played = play_rows(rt, text, &mut row);
     drop(row);
     played
@@ -36,12 +36,11 @@ fn play_rows<'a>(rt: &HostRuntime, text: &'a [u8], row: &mut Row<'a>) -> io::Res
     while let Some(rest) = unread {
         let (line, after) = cut(rest, b'\n');
         unread = after;
-        match manner_of(line) {
-            Some(manner) => {
-                print(rt, row)?;
-                drop(mem::replace(row, Row::new(rt.alloc(), manner, line)));
-            }
-            None => row.add(line),
+        if line.starts_with(MARK) {
+            print(rt, row)?;
+            drop(mem::replace(row, Row::new(rt.alloc(), line)));
+        } else {
+            row.add(line);
         }
     }
     print(rt, row)
@@ -52,12 +51,12 @@ fn print(rt: &HostRuntime, row: &Row<'_>) -> io::Result<()> {
     if row.head.is_empty() {
         return Ok(());
     }
-    let mut sheet = Sheet::new(rt.alloc());
+    let sheet = Sheet::new(rt.alloc());
     sheet.put(row.head);
     sheet.put(b"\n");
-    row.put(rt, &mut sheet);
+    row.put(rt, &sheet);
     if sheet.is_spoilt() {
         return Err(io::Error::from(ErrorKind::OutOfMemory));
     }
-    io::writer(rt).write_all(sheet.octets())
+    io::writer(rt).write_all(&sheet.into_octets())
 }

@@ -8,8 +8,8 @@ use std::alloc::Global;
 use std::io::{Read, Write};
 use std::random::RandomSource;
 
-/// The call of each device that fails by the line of a row about its machine: its first or its
-/// second one. `None` where that says nothing of devices.
+/// The call of each device that fails by the line of a row about devices: its first or its second
+/// one. `None` where there is no such line.
 pub fn failing_call(machine: &[u8]) -> Option<u64> {
     match place_of("first second", cut(machine, b' ').0)? {
         0 => Some(1),

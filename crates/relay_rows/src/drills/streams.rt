@@ -1,53 +1,33 @@
-//! The streams of a row: octets in memory, and streams that give little, break off or fill up.
-use line_words::is;
+//! The streams of a row: octets in memory, and streams that break off or fill up.
 use row_text::place_of;
 use std::alloc::Global;
 use std::io;
 use std::io::{ErrorKind, Read, Write};
 
-/// Standard input of a row: all at once; by `octets` and `broken` an octet at a turn, each after an
-/// interrupted one; by `broken` it fails at its end.
+/// Standard input of a row, which may fail at its end.
 #[derive(Drop)]
 pub struct Input<'a> {
     rest: &'a [u8],
-    by_octets: bool,
     broken: bool,
-    interrupted: bool,
 }
 
 impl<'a> Input<'a> {
-    /// These octets, given in this manner.
-    pub fn new(rest: &'a [u8], manner: &[u8]) -> Input<'a> {
-        let broken = is(manner, b"broken");
-        Input {
-            rest,
-            by_octets: broken || is(manner, b"octets"),
-            broken,
-            interrupted: false,
-        }
+    /// These octets, behind which it fails, or ends.
+    pub fn new(rest: &'a [u8], broken: bool) -> Input<'a> {
+        Input { rest, broken }
     }
 }
 
 impl<'a> Read for Input<'a> {
     fn read(&mut self, room: &mut [u8]) -> io::Result<usize> {
-        self.interrupted = self.by_octets && !self.interrupted;
-        if self.interrupted {
-            return Err(io::Error::from(ErrorKind::Interrupted));
-        }
         if self.broken && self.rest.is_empty() {
             return Err(io::Error::from(ErrorKind::BrokenPipe));
         }
-        let most = if self.by_octets { 1 } else { room.len() };
-        let count = most.min(room.len()).min(self.rest.len());
-        let (octets, rest) = self.rest.split_at(count);
-        room[..count].copy_from_slice(octets);
-        self.rest = rest;
-        Ok(count)
+        self.rest.read(room)
     }
 }
 
-/// Standard output of a row: by `full` it takes 40 octets and fails, by `large` 65,600, by `closed`
-/// none.
+/// Standard output of a row: by `full` it takes 40 octets and fails, by `closed` none.
 #[derive(Drop)]
 pub struct Output {
     pub written: Vec<u8>,
@@ -66,10 +46,9 @@ impl Output {
 
 /// How many octets are taken before it fails.
 fn most_of(manner: &[u8]) -> usize {
-    match place_of("closed full large", manner) {
+    match place_of("closed full", manner) {
         Some(0) => 0,
-        Some(1) => 40,
-        Some(_) => 65_600,
+        Some(_) => 40,
         None => usize::MAX,
     }
 }
