@@ -11,6 +11,20 @@ ROWS = Path(__file__).resolve().parent
 DATA = ROWS.parent.parent / "crates/relay_rows/data"
 # What a row begins with: how it is played, and what it shows.
 HEAD = re.compile(r"(?m)^(?==[=1#^] )")
+# A part of a library in front of the C library: the system gives no random numbers where the environment has REFUSE_RANDOM.
+UNSEEDED = r"""
+#include <errno.h>
+#include <stdlib.h>
+#include <sys/random.h>
+
+int getentropy(void *room, size_t size) {
+    if (getenv("REFUSE_RANDOM")) {
+        errno = ENOSYS;
+        return -1;
+    }
+    return getrandom(room, size, 0) == (ssize_t)size ? 0 : -1;
+}
+"""
 # The marks of the lines above a row's standard input.
 MARKS = ("$ ", "< ", "> ", "! ")
 
