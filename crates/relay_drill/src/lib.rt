@@ -16,4 +16,4 @@ mod whole;
 mod words;
 
 pub use fault::DrillError;
-pub use whole::{drill, drill_failing, read_all};
+pub use whole::{drill, read_all};

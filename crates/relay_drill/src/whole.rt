@@ -36,22 +36,6 @@ pub fn drill<R: Read, W: Write>(
     ensures { DrillGives config result (R.remaining reader.old)
         (W.contents writer.old) (W.contents writer.new) }
 {
-    drill_failing(rt, alloc, config, 0, reader, writer)
-}
-
-/// The same over devices of which each fails this call, counted from 1; none by 0. The first call
-/// writes the head block, before any line of the script.
-pub fn drill_failing<R: Read, W: Write>(
-    rt: &impl RandomSource,
-    alloc: Global,
-    config: Config,
-    failing: u64,
-    reader: &mut R,
-    writer: &mut W,
-) -> Result<(), DrillError>
-    ensures { DrillGives config result (R.remaining reader.old)
-        (W.contents writer.old) (W.contents writer.new) }
-{
     let script = match read_all(alloc, reader) {
         Ok(script) => script,
         Err(error) => {
@@ -66,7 +50,7 @@ pub fn drill_failing<R: Read, W: Write>(
             return Err(error);
         }
     };
-    let Ok(stores) = new_stores(alloc, &config.buffers.buffers, failing) else {
+    let Ok(stores) = new_stores(alloc, &config.buffers.buffers) else {
         drop(config);
         return Err(DrillError::Memory);
     };
@@ -101,15 +85,15 @@ fn unbegun(kind: ErrorKind) -> DrillError
     }
 }
 
-/// A store in memory for each of the buffers, of its blocks, of which this call is to fail.
-fn new_stores(alloc: Global, buffers: &[BufferConf], failing: u64) -> Result<Vec<Store>, AllocError>
+/// A store in memory for each of the buffers, of its blocks, of which no call fails yet.
+fn new_stores(alloc: Global, buffers: &[BufferConf]) -> Result<Vec<Store>, AllocError>
     ensures { IfOk result (λ stores.
         AreStoresOf ⟦<FailAt<MemoryBlocks> as BlockStore>⟧ buffers.now stores.items) }
 {
     let mut stores = Vec::with_capacity(alloc, buffers.len())?;
     for buffer in buffers {
         let blocks = MemoryBlocks::new(alloc, buffer.blocks)?;
-        stores.push_reserved(FailAt::new(blocks, failing));
+        stores.push_reserved(FailAt::new(blocks, 0));
     }
     Ok(stores)
 }

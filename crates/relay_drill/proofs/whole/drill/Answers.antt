@@ -6,7 +6,7 @@ use Rattle.relay_drill.specs.Todo.{Done, first_stand, lines_ask}
 use Rattle.relay_drill.specs.declared.line.Line.{Line}
 use Rattle.relay_drill.proofs.Drills.{bad_line, begun, drill_gives, memory_at_once, unbegun}
 use Rattle.relay_drill.proofs.Drills.{performs_at, unread}
-use Rattle.relay_drill.proofs.whole.drill_failing.Goals as goal
+use Rattle.relay_drill.proofs.whole.drill.Goals as goal
 
 pub returns-in-Err : goal.returns-in-Err
 returns-in-Err g c =
