@@ -1,13 +1,14 @@
 -- The seats that came back, as the comparison reads them.
 use Rattle.std.proofs.Common.{◌≡◌, ℕ, Bool, List, length, map}
 use Rattle.std.proofs.Common.{sym, ◌∙◌, subst}
+use Rattle.std.proofs.lemmas.List.{length-map}
 use Rattle.job_queue.specs.Passes.{QueuePass}
 use Rattle.live_jobs.specs.Gathered.{OfChannel, AllClosed, LeftsFit, WritersFit}
 use Rattle.live_jobs.specs.Rows.{From}
 use Rattle.live_jobs.specs.Started.{Ended, Left}
 use Rattle.live_jobs.specs.declared.channel.JobChannel.{JobChannel}
 use Rattle.live_jobs.specs.declared.session.LeftSeat.{LeftSeat}
-use Rattle.live_jobs.proofs.Rows.{length_map, zero_add}
+use Rattle.live_jobs.proofs.Rows.{zero_add}
 use Rattle.news_terms.proofs.ListPlaces.{mapped_at}
 
 pub lefts_fit : (channels : List JobChannel) (lefts : List LeftSeat)
@@ -24,7 +25,7 @@ pub writers_fit : {X : Type 0} (f : X → QueuePass) (lent : X → Bool) (h : X 
 writers_fit {X} f lent h channels n xs passes flags long all is_f is_h =
     subst (λ (y : List QueuePass × List (List Bool)). WritersFit channels n y.0 y.1)
     (λ i. (sym is_f i, sym is_h i)) (
-      length_map f xs ∙ long,
+      length-map xs f ∙ long,
       (λ g pass at.
           let x = mapped_at f xs g pass at in
           subst (λ (y : ℕ × QueuePass). OfChannel channels y.0 y.1) (λ i. (zero_add g i, x.2 i))

@@ -4,8 +4,8 @@ use Rattle.std.proofs.Common.{List, [], ◌∷◌, ◌++◌, length, map, Some, 
 use Rattle.std.proofs.Common.{⊎_elim, arith}
 use lib.Dec.{ltb}
 use Rattle.std.proofs.lemmas.Bool.Decides.{nat_tests}
-use Rattle.std.proofs.lemmas.Option.{same_Some}
-use Rattle.std.specs.Prelude.{slice_get, slice_set, slice_index_or}
+use Rattle.std.proofs.lemmas.Option.{same_Some, slice_get-map}
+use Rattle.std.specs.Prelude.{option_map, slice_get, slice_set, slice_index_or}
 use Rattle.crossbeam_queue.specs.Passes.{view, IsPassOf}
 use Rattle.job_queue.specs.declared.parcel.Handed.{Handed}
 use Rattle.job_queue.specs.declared.parcel.Parcel.{Parcel}
@@ -58,9 +58,7 @@ module _ {X Y : Type 0} (f : X → Y) where
 
   pub map_at : (xs : List X) (k : ℕ) (a : X) → slice_get xs k ≡ Some a
       → slice_get (map f xs) k ≡ Some (f a)
-  map_at [] k a e = absurd (cc)
-  map_at (x ∷ xs) zero a e = ap Some (ap f (cc))
-  map_at (x ∷ xs) (suc k) a e = map_at xs k a e
+  map_at xs k a e = slice_get-map f xs k ∙ ap (option_map f) e
 
   pub map_index : (xs : List X) (k : ℕ) (a : X) (d : Y) → slice_get xs k ≡ Some a
       → slice_index_or (map f xs) k d ≡ f a

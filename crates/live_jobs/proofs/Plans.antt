@@ -2,7 +2,7 @@
 use Rattle.std.proofs.Common.{◌≡◌, ◌≢◌, ⊎_elim, ◌+◌, ◌<◌, ◌≤◌, arith, ℕ, Bool, false, List, []}
 use Rattle.std.proofs.Common.{◌∷◌, ◌++◌, length, map, refl, Some, sym, ap, ◌∙◌, subst}
 use Rattle.std.specs.Prelude.{slice_get, slice_set}
-use Rattle.std.proofs.lemmas.List.{map-append}
+use Rattle.std.proofs.lemmas.List.{length-map, map-append}
 use Rattle.std.proofs.lemmas.Option.{same_Some}
 use Rattle.crossbeam_queue.specs.Passes.{IsPassOf}
 use Rattle.job_queue.specs.Passes.{QueuePass}
@@ -16,7 +16,7 @@ use Rattle.live_jobs.specs.declared.channel.JobChannel.{JobChannel}
 use Rattle.live_jobs.specs.declared.session.LeftSeat.{LeftSeat}
 use Rattle.live_jobs.specs.declared.session.SessionSeat.{SessionSeat}
 use Rattle.live_jobs.proofs.Passes.{get_set}
-use Rattle.live_jobs.proofs.Rows.{each_snoc, get_snoc, length_map}
+use Rattle.live_jobs.proofs.Rows.{each_snoc, get_snoc}
 use Rattle.live_jobs.proofs.Writers.{within}
 
 -- a seat that comes back with its closure is the seat that went in
@@ -122,7 +122,7 @@ module _ {V : Type 0} (fits : V → (end count : ℕ) → List (List Handed) →
       ⊎_elim (λ (u : slice_get (hands_of lefts) e ≡ Some jobs). all e jobs v u t)
       (λ (u : (e ≡ length (hands_of lefts)) × (left_by left ≡ jobs)).
       let less = within services e v t in
-      let many = length_map left_by lefts in
+      let many = length-map lefts left_by in
       let here = u.0 in
       absurd (omega arith))
       (get_snoc (hands_of lefts) (left_by left) e jobs handed))
@@ -130,7 +130,7 @@ module _ {V : Type 0} (fits : V → (end count : ℕ) → List (List Handed) →
       ⊎_elim
       (λ (u : slice_get (hands_of lefts) e ≡ Some jobs).
       let less = within (hands_of lefts) e jobs u in
-      let many = length_map left_by lefts in
+      let many = length-map lefts left_by in
       let here = t.0 in
       absurd (omega arith))
       (λ (u : (e ≡ length (hands_of lefts)) × (left_by left ≡ jobs)).

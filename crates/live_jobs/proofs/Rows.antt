@@ -1,6 +1,6 @@
 -- Rows that are taken from the front, and rows that grow.
 use Rattle.std.proofs.Common.{◌≡◌, ◌<◌, ◌≤◌, ◌⊎◌, inl, inr, ℕ, zero, suc, ◌+◌, List, [], ◌∷◌}
-use Rattle.std.proofs.Common.{◌++◌, length, map}
+use Rattle.std.proofs.Common.{◌++◌, length}
 use Rattle.std.proofs.Common.{None, Some, refl, sym, ap, ◌∙◌, subst, ⊎_elim, arith}
 use Rattle.std.proofs.lemmas.Option.{same_Some}
 use Rattle.std.specs.Prelude.{slice_get}
@@ -9,10 +9,6 @@ use Rattle.live_jobs.specs.Rows.{From}
 -- a row counted from 0
 pub zero_add : (n : ℕ) → 0 + n ≡ n
 zero_add n = omega arith
-
-pub length_map : {X Y : Type 0} (f : X → Y) (xs : List X) → length (map f xs) ≡ length xs
-length_map f [] = refl
-length_map f (x ∷ xs) = ap suc (length_map f xs)
 
 -- what is there isn't missing
 pub never_none : {A B : Type 0} (x : A) → Some x ≡ None → B

@@ -4,6 +4,7 @@ use Rattle.std.proofs.Common.{◌∷◌, ◌++◌, length, map, Some, refl, sym,
 use Rattle.std.proofs.Common.{arith, true≢false}
 use Rattle.std.proofs.lemmas.Option.{same_Some}
 use Rattle.std.specs.Prelude.{replicate, slice_get, slice_set}
+use Rattle.std.proofs.lemmas.List.{length-map}
 use native.Mathlib.Decide.{ℕ_discrete}
 use Rattle.crossbeam_queue.specs.Passes.{view}
 use Rattle.job_queue.specs.declared.parcel.Handed.{Handed}
@@ -16,7 +17,7 @@ use Rattle.job_queue.specs.Passes.{QueuePass}
 use Rattle.job_queue.proofs.Lists.{of_end_snoc, of_end_snoc_else}
 use Rattle.live_jobs.specs.declared.outcome.FinishedJob.{FinishedJob}
 use Rattle.live_jobs.specs.Taken.{name_of, finished_name, worth, kept_in, FitEach, Took}
-use Rattle.live_jobs.proofs.Rows.{get_snoc, length_map}
+use Rattle.live_jobs.proofs.Rows.{get_snoc}
 use Rattle.live_jobs.proofs.Passes.{get_set, marked_snoc, jobs_snoc, jobs_marked}
 
 mark_more : (a : List Parcel) (p : Parcel) → has_mark a ≡ true → has_mark (a ++ p ∷ []) ≡ true
@@ -73,8 +74,8 @@ module _ {O : Type 0} (fits : O → Handed → Type 0) where
         ∙ map_snoc name_of (jobs_of (view p).taken) j);
     fit = subst (FitEach fits (finished ++ d ∷ []))
         (sym (ap jobs_of is ∙ jobs_snoc (view p).taken j))
-        (fit_snoc finished (jobs_of (view p).taken) d j (sym (length_map finished_name finished)
-        ∙ ap length took.told ∙ length_map name_of (jobs_of (view p).taken)) took.fit well);
+        (fit_snoc finished (jobs_of (view p).taken) d j (sym (length-map finished finished_name)
+        ∙ ap length took.told ∙ length-map (jobs_of (view p).taken) name_of) took.fit well);
     marks = λ e at. ap (λ l. has_mark (of_end e l)) is
         ∙ mark_stays e (view p).taken (parcels.Job j) (took.marks e at) (ℕ_discrete j.end e);
   }

@@ -4,6 +4,7 @@ use Rattle.std.proofs.Common.{[], ◌∷◌, ◌++◌, length, map, Some, refl, 
 use Rattle.std.proofs.Common.{arith}
 use Rattle.std.proofs.lemmas.Option.{same_Some}
 use Rattle.std.specs.Prelude.{slice_get, slice_set, slice_index_or}
+use Rattle.std.proofs.lemmas.List.{length-map}
 use native.Mathlib.Decide.{ℕ_discrete}
 use mathlib.Core.Logic.{dite}
 use Rattle.job_queue.specs.Delivery.{end_limit}
@@ -17,7 +18,7 @@ use Rattle.live_jobs.specs.JobChannels.{queue_of}
 use Rattle.live_jobs.specs.Seats.{left_by}
 use Rattle.live_jobs.specs.Gathered.{OfChannel, AllClosed, WritersFit, RestsFit, IsRest, hands_of}
 use Rattle.live_jobs.specs.Gathered.{told_of, Told, ToldBelow, ToldBefore, NoneBefore}
-use Rattle.live_jobs.proofs.Rows.{get_snoc, length_map, length_snoc}
+use Rattle.live_jobs.proofs.Rows.{get_snoc, length_snoc}
 use Rattle.live_jobs.proofs.Passes.{read_at, get_set, length_set, map_set, map_set_same, map_at}
 
 pub within : {X : Type 0} (xs : List X) (k : ℕ) (x : X) → slice_get xs k ≡ Some x → k < length xs
@@ -32,7 +33,7 @@ module _ {X : Type 0} (f : X → QueuePass) (h : X → List Bool) where
       × (g < length channels)
   writers_at channels n xs g x fit less is =
       let at = read_at xs g x less is in
-      let long = length_map f xs in (
+      let long = length-map xs f in (
         at,
         fit.1 g (f x) (map_at f xs g x at),
         fit.2 g (h x) (map_at h xs g x at),
@@ -45,7 +46,7 @@ module _ {X : Type 0} (f : X → QueuePass) (h : X → List Bool) where
       → h new ≡ h x
       → WritersFit channels n (map f (slice_set xs g new)) (map h (slice_set xs g new))
   writers_set channels n xs g x new fit at channel same = (
-    length_map f (slice_set xs g new) ∙ length_set xs g new ∙ sym (length_map f xs) ∙ fit.0,
+    length-map (slice_set xs g new) f ∙ length_set xs g new ∙ sym (length-map xs f) ∙ fit.0,
     (λ k pass there. ⊎_elim
         (λ (t : (k ≡ g) × (f new ≡ pass)).
         subst (λ (y : ℕ × QueuePass). OfChannel channels y.0 y.1) (λ i. (sym t.0 i, t.1 i)) channel)
@@ -96,7 +97,7 @@ module _ {O : Type 0} (fits : O → Handed → Type 0) where
       ≡ finished = same_Some d finished (sym there ∙ ap (slice_get finished_lists) here ∙ at) in
       let hand' = ap (λ (l : List (List (List Handed))). slice_get l e) same ∙ hand in
       let below = within (hands_of lefts) e handed hand' in
-      let long = length_map left_by lefts in
+      let long = length-map lefts left_by in
       subst (λ (x : List (FinishedJob O)). Told fits e x jobs) (is ∙ sym this)
       (told e handed jobs (omega arith) hand' (ap (slice_get handed) (sym here) ∙ job)))
       (λ other. before k e d handed jobs (omega arith) there hand job)

@@ -4,7 +4,9 @@ use Rattle.std.proofs.Common.{append-nil, refl, sym, ◌∙◌, subst}
 use Rattle.std.specs.Prelude.{slice_get}
 use Rattle.std.proofs.lemmas.List.{length-map, map-append}
 use Rattle.std.proofs.lemmas.Option.{same_Some}
+use Rattle.std.proofs.lemmas.Simd.{map-map}
 use Rattle.job_queue.specs.declared.parcel.Handed.{Handed}
+use Rattle.live_jobs.proofs.Passes.{map_at}
 use Rattle.live_jobs.specs.declared.store_result.KeptJob.{KeptJob}
 use Rattle.live_jobs.specs.Started.{no_jobs}
 use Rattle.live_jobs.specs.declared.channel.JobChannel.{JobChannel}
@@ -35,17 +37,11 @@ pub same_length : {X Y Z : Type 0} (f : X → Z) (h : Y → Z) (xs : List X) (ys
 same_length f h xs ys same = sym (length-map xs f) ∙ ap length same ∙ length-map ys h
 
 module _ {X Y : Type 0} (f : X → Y) where
-  pub at_map : (xs : List X) (k : ℕ) (x : X) → slice_get xs k ≡ Some x
-      → slice_get (map f xs) k ≡ Some (f x)
-  at_map [] k x e = absurd (cc)
-  at_map (y ∷ xs) zero x e = ap (λ (z : X). Some (f z)) (same_Some y x e)
-  at_map (y ∷ xs) (suc k) x e = at_map xs k x e
-
   -- what is the same of all is so of each
   pub each_same : {D : Type 0} (y : Y) (xs : List X) (ds : List D) (k : ℕ) (x : X)
       → map f xs ≡ map (λ d. y) ds → slice_get xs k ≡ Some x → f x ≡ y
   each_same {D} y xs ds k x same at =
-      only ds k (ap (λ (l : List Y). slice_get l k) (sym same) ∙ at_map xs k x at)
+      only ds k (ap (λ (l : List Y). slice_get l k) (sym same) ∙ map_at f xs k x at)
     where
       only : (es : List D) (j : ℕ) → slice_get (map (λ (d : D). y) es) j ≡ Some (f x) → f x ≡ y
       only [] j e = absurd (cc)
@@ -76,21 +72,14 @@ module _ {X Y : Type 0} (f : X → Y) where
 
 -- what is read of the marks is the same of the services that came back as of those that were given
 module _ {V M : Type 0} (mark : V → M) where
-  module _ {P : Type 0} (service : P → V) where
-    marks_in : (ps : List P) → map (λ p. mark (service p)) ps ≡ map mark (map service ps)
-    marks_in [] = refl
-    marks_in (p ∷ ps) = ap (λ (l : List M). mark (service p) ∷ l) (marks_in ps)
+  pub same_marks : {P : Type 0} (service : P → V) (services ends : List V) (plans : List P)
+      → map mark services ≡ map (λ p. mark (service p)) plans → map service plans ≡ ends
+      → map mark services ≡ map mark ends
+  same_marks service services ends plans same is =
+      same ∙ sym (map-map mark service plans) ∙ ap (map mark) is
 
-    pub same_marks : (services ends : List V) (plans : List P)
-        → map mark services ≡ map (λ p. mark (service p)) plans → map service plans ≡ ends
-        → map mark services ≡ map mark ends
-    same_marks services ends plans same is = same ∙ marks_in plans ∙ ap (map mark) is
-
-  module _ {Y : Type 0} (of : M → Y) where
-    marks_of : (vs : List V) → map (λ v. of (mark v)) vs ≡ map of (map mark vs)
-    marks_of [] = refl
-    marks_of (v ∷ vs) = ap (λ (l : List Y). of (mark v) ∷ l) (marks_of vs)
-
-    pub marked : (services ends : List V) → map mark services ≡ map mark ends
-        → map (λ v. of (mark v)) services ≡ map (λ v. of (mark v)) ends
-    marked services ends same = marks_of services ∙ ap (map of) same ∙ sym (marks_of ends)
+  pub marked : {Y : Type 0} (of : M → Y) (services ends : List V)
+      → map mark services ≡ map mark ends
+      → map (λ v. of (mark v)) services ≡ map (λ v. of (mark v)) ends
+  marked of services ends same =
+      sym (map-map of mark services) ∙ ap (map of) same ∙ map-map of mark ends

@@ -1,5 +1,5 @@
 use Rattle.std.proofs.Common.{◌+◌, ℕ, List, map, ap, refl, sym, ◌∙◌, arith}
-use Rattle.std.proofs.lemmas.List.{take_all}
+use Rattle.std.proofs.lemmas.List.{length-map, take_all}
 use Rattle.std.specs.Prelude.{slice_get}
 use Rattle.live_jobs.specs.declared.outcome.FinishedJob.{FinishedJob}
 use Rattle.live_jobs.specs.Gathered.{kept_by_all}
@@ -7,7 +7,6 @@ use Rattle.live_jobs.specs.Taken.{kept_in}
 use Rattle.live_jobs.proofs.Passes.{read_at, length_set, map_at, map_set_same}
 use Rattle.live_jobs.proofs.Counts.{kept_next, here_next}
 use Rattle.live_jobs.proofs.Rows.{below_same}
-use Rattle.live_jobs.proofs.Rows.{length_map}
 use Rattle.live_jobs.proofs.count.lend_all.Goals as goal
 
 pub loop-group-init : goal.loop-group-init
@@ -65,7 +64,7 @@ returns g c =
     let all = c.args.writers.now.ok.0 in
     let inv = c.loop-group.invariant in
     let past = c.loop-group-test.false in
-    let long = length_map (λ w. w.finished.items) c.args.writers.now.items in
+    let long = length-map c.args.writers.now.items (λ w. w.finished.items) in
     record {
       parts = omega (arith, inv.parts, c.len-group-end.ensures);
       amount = inv.amount

@@ -1,11 +1,12 @@
 use Rattle.std.proofs.Common.{◌≡◌, ◌<◌, ◌≤◌, ℕ, List, [], length, map, refl, ap, sym, ◌∙◌, subst}
 use Rattle.std.specs.Prelude.{slice_get}
+use Rattle.std.proofs.lemmas.List.{length-map}
 use Rattle.job_queue.specs.Delivery.{end_limit}
 use Rattle.live_jobs.specs.declared.outcome.FinishedJob.{FinishedJob}
 use Rattle.live_jobs.specs.Gathered.{AllClosed, IsRest, told_of}
 use Rattle.live_jobs.specs.Seats.{left_by}
 use Rattle.live_jobs.proofs.Passes.{length_set, map_at, map_set_same}
-use Rattle.live_jobs.proofs.Rows.{below_past, below_same, length_map, past_same}
+use Rattle.live_jobs.proofs.Rows.{below_past, below_same, past_same}
 use Rattle.live_jobs.proofs.Writers.{writers_at, writers_set, rest_at, rests_set, told_group}
 use Rattle.live_jobs.proofs.Writers.{none_group, within}
 use Rattle.live_jobs.proofs.gather.compare_all.Goals as goal
@@ -14,7 +15,7 @@ pub index_mut-requires-in-loop-group : goal.index_mut-requires-in-loop-group
 index_mut-requires-in-loop-group g c =
     let inv = c.loop-group.invariant in
     let all = c.len-group-end.ensures ∙ c.args.writers.now.ok.0 ∙ sym inv.count
-    ∙ sym (length_map (λ w. w.pass) c.loop-group.writers.items) in
+    ∙ sym (length-map c.loop-group.writers.items (λ w. w.pass)) in
     below_same _ _ _ c.loop-group-test.true
     (all ∙ inv.writers.0 ∙ sym inv.rests.0 ∙ sym c.loop-group.rests.ok.0)
 
@@ -50,7 +51,7 @@ pub compare_group-requires-clause-rest : goal.compare_group-requires-clause-rest
 compare_group-requires-clause-rest g c =
     let inv = c.loop-group.invariant in
     let all = c.len-group-end.ensures ∙ c.args.writers.now.ok.0 ∙ sym inv.count
-    ∙ sym (length_map (λ w. w.pass) c.loop-group.writers.items) in
+    ∙ sym (length-map c.loop-group.writers.items (λ w. w.pass)) in
     let below = below_same _ _ _ c.loop-group-test.true (all ∙ inv.writers.0 ∙ sym inv.rests.0) in
     let rest = rest_at c.args.channels.now (length c.args.lefts.now.items) c.loop-group.rests.items
     c.loop-group.group c.index_mut-in-loop-group.result.now inv.rests below
@@ -73,8 +74,8 @@ loop-group-preserved g c =
     c.loop-group.group c.index_mut.result.now at.0 in
     record {
       fit = e.lefts;
-      long = sym (length_map left_by c.compare_group.new.lefts.items) ∙ ap length e.handed
-          ∙ length_map left_by c.loop-group.lefts.items ∙ inv.long;
+      long = sym (length-map c.compare_group.new.lefts.items left_by) ∙ ap length e.handed
+          ∙ length-map c.loop-group.lefts.items left_by ∙ inv.long;
       count = length_set c.loop-group.writers.items c.loop-group.group c.compare_group.new.writer
           ∙ inv.count;
       handed = e.handed ∙ inv.handed;
@@ -99,7 +100,7 @@ returns g c =
     let inv = c.loop-group.invariant in
     let many : length (map (λ w. w.finished.items) c.args.writers.now.items) ≤ c.loop-group.group =
     past_same _ _ _ c.loop-group-test.false (c.len-group-end.ensures ∙ c.args.writers.now.ok.0
-    ∙ sym (length_map (λ w. w.finished.items) c.args.writers.now.items)) in
+    ∙ sym (length-map c.args.writers.now.items (λ w. w.finished.items))) in
     record {
       lefts = inv.fit;
       long = inv.long;

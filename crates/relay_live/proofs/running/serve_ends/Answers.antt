@@ -10,7 +10,8 @@ use Rattle.live_jobs.specs.Started.{AllKept, Ended, Open, Ready, no_jobs}
 use Rattle.live_jobs.specs.declared.channel.JobChannel.{JobChannel}
 use Rattle.live_jobs.specs.declared.outcome.FinishedJob.{FinishedJob}
 use Rattle.relay_live.specs.Sessions.{HasLists}
-use Rattle.relay_live.proofs.Accounts.{at_map, nothing, same_marks}
+use Rattle.live_jobs.proofs.Passes.{map_at}
+use Rattle.relay_live.proofs.Accounts.{nothing, same_marks}
 use Rattle.relay_live.proofs.Lists.{lists_of_all}
 use Rattle.relay_live.proofs.running.serve_ends.Goals as goal
 
@@ -45,7 +46,7 @@ serve_seats-requires-clause-kept g c κs within k p at =
     let unused = c.in_ok-channels.ensures.ends k p at in
     let channels = c.in_ok-channels.field-0.channels.items in
     let there = ap (λ l. slice_get l k) (sym c.in_ok-channels.ensures.services)
-    ∙ at_map (λ q. q.service) c.in_ok-channels.field-0.plans.items k p at in
+    ∙ map_at (λ q. q.service) c.in_ok-channels.field-0.plans.items k p at in
     let number : k ≡ 0 + k = omega arith in
     subst (λ (x : ℕ × (ℕ × List (List Handed))). g.V.Accounts.fits p.service x.0 x.1.0 x.1.1)
     (λ i. (number i, (sym unused.1 i, sym unused.2 i)))
