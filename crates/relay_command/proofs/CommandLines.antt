@@ -1,19 +1,23 @@
 -- Commands that are built word by word, and what clap answers of them.
 use Rattle.std.proofs.Common.{◌≡◌, ◌∙◌, ap, ap₂, false, true, Bool, Option, List, [], ℕ}
 use Rattle.std.proofs.Common.{◌+◌, ◌<◌, Some, drop, get_or, length, map, refl, sym, subst}
+use Rattle.std.proofs.Common.{Err, IfOk, Ok, Result}
+use Rattle.std.specs.declared.alloc.AllocError.{AllocError}
 use Rattle.std.proofs.lemmas.List.{at_drop_more}
 use Rattle.std.specs.Prelude.{◌||◌}
 use denote.Ref.{Bor}
 use Rattle.clap.specs.Simple.{app_of_fields}
 use Rattle.clap.specs.Words.{AddsArg, AddsSubcommand, App, Rule, rule_of, with_rule}
 use Rattle.clap.specs.Words.{with_subcommand, HasKind, Row, Text, fault_of, is_simple}
-use Rattle.clap.specs.Words.{is_simple_and_free, subcommand_of}
+use Rattle.clap.specs.Words.{is_simple_and_free, new_rule, subcommand_of}
 use Rattle.clap.specs.declared.builder.Arg.{Arg}
+use Rattle.clap.specs.declared.builder.ArgAction.TheVariants.{Set}
 use Rattle.clap.specs.declared.builder.Command.{Command}
 use Rattle.clap.specs.declared.error.Error.{Error}
 use Rattle.clap.specs.declared.builder.Command.TheViews.{out-Command as fields_of}
 use Rattle.relay_command.specs.CommandLine.{Asked, IsAskedBy, IsRefusedBy}
 use Rattle.relay_command.specs.CommandLine.{Reads, asked_by, program_words}
+use Rattle.relay_command.specs.Questions.{optional}
 use Rattle.relay_command.specs.WordTable.{app_of_words, rule_of_word, with_commands, with_rules}
 use Rattle.relay_command.specs.declared.words.Word.{Word}
 use Rattle.relay_command.specs.declared.words.Words.{Words}
@@ -26,14 +30,24 @@ with_word old new a app rule before own same adds = record {
   own = adds.globals ∙ ap₂ (λ (x y : Bool). x || y) before.own own;
 }
 
--- A command with one more below it reads that too.
-pub with_command : (old sub new : Command) (app below : App) → Reads old app → Reads sub below
-    → AddsSubcommand old sub new → Reads new (with_subcommand app below.top)
-with_command old sub new app below before under adds = record {
+-- A command with one more below it reads that too, where memory is had for it.
+pub with_subcommand_reads : (old sub : Command) (result : Result Command AllocError)
+    (app below : App) → Reads old app → Reads sub below → IfOk result (AddsSubcommand old sub)
+    → IfOk result (λ new. Reads new (with_subcommand app below.top))
+with_subcommand_reads old sub (Err error) app below before under adds = tt
+with_subcommand_reads old sub (Ok new) app below before under adds = record {
   words = adds.shape under.own ∙ ap₂ with_subcommand before.words
       (ap (λ (a : App). a.top) under.words);
   own = adds.globals ∙ ap₂ (λ (x y : Bool). x || y) before.own under.own;
 }
+
+-- An argument that is set, whatever is told of it, is read as a word that may be left out.
+pub text_rule : (new told set : Arg) (name : Text) (help : Option (Bor (List ℕ)))
+    → rule_of new ≡ new_rule name → told ≡ record new { help = help }
+    → set ≡ record told { action = Some Set } → rule_of set ≡ optional name
+text_rule new told set name help named helped made =
+    let acts : Rule → Rule = λ r. record r { action = Some Set } in
+    ap rule_of made ∙ ap (λ (a : Arg). acts (rule_of a)) helped ∙ ap acts named
 
 -- What is told of a command changes nothing of what it reads.
 pub told_reads : (old new : Command) (app : App) (told : Option (Bor (List ℕ))) → Reads old app

@@ -1,6 +1,6 @@
--- How a number that was given is read.
+-- How a number that was given is read, and how numbers are told.
 use Rattle.std.proofs.Common.{◌≡◌, ◌∙◌, ap, arith, false, true, ℕ, Bool, List, Option, None}
-use Rattle.std.proofs.Common.{Some, refl, sym}
+use Rattle.std.proofs.Common.{◌++◌, [], Some, append-nil, append_assoc, refl, sym}
 use Rattle.std.specs.Prelude.{Err, Ok, Result, option_and_then}
 use Rattle.std.specs.Str.Parse.{ParsesUnsigned}
 use Rattle.clap.specs.ValueTests.{is_unsigned_in}
@@ -43,3 +43,11 @@ pub number_given : {E : Type 0} (gives : List ℕ → Result ℕ E → Type 0) (
 number_given gives None given parses none reads = none refl
 number_given gives (Some t) given parses none reads =
     number_read gives t given (parses t) (reads t refl)
+
+-- Five numbers, each behind its words, and an end are one line.
+pub in_line : (a b c d e end : List ℕ) {k l m n o k' l' m' n' o' : List ℕ} → k ≡ k' → l ≡ l'
+    → m ≡ m' → n ≡ n' → o ≡ o'
+    → a ++ (k ++ (b ++ (l ++ (c ++ (m ++ (d ++ (n ++ (e ++ (o ++ (end ++ []))))))))))
+    ≡ a ++ k' ++ b ++ l' ++ c ++ m' ++ d ++ n' ++ e ++ o' ++ end
+in_line a b c d e end first second third fourth fifth =
+    simp (append_assoc, append-nil, first, second, third, fourth, fifth)

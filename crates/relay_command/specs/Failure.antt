@@ -1,6 +1,6 @@
 -- How the program ends (docs/PROTOCOL.md, Statuses).
 use Rattle.std.specs.Prelude.{ℕ, List, ◌++◌, codes, Option, None, Some, Result, Ok, Err}
-use Rattle.std.specs.Prelude.{MatchOption, ⊤}
+use Rattle.std.specs.Prelude.{MatchOption, option_map, ⊤}
 use Rattle.std.specs.Io.KnownBytes.{Appends, Keeps}
 use Rattle.std.specs.declared.io.ErrorKind as io
 use Rattle.std.specs.declared.io.ErrorKind.TheVariants as kinds
@@ -93,23 +93,28 @@ unbegun_text unbegun.NoText = codes "a word is no UTF-8"
 abbrev pub ended : List ℕ → List ℕ
 ended text = text ++ codes "\n"
 
+-- what a failure says, without the line's end; what clap says is not known
+abbrev pub failure_text : Failure → Option (List ℕ)
+failure_text (Unbegun unbegun) = Some (unbegun_text unbegun)
+failure_text (Words error) = None
+failure_text (Check error) = Some (check_text error)
+failure_text (Explain unexplained) = Some (explain_text unexplained.error)
+failure_text (Drill error) = Some (text_of error)
+failure_text (Token fault) = Some (fault_text fault)
+failure_text (Serve error) = Some (serving.text_of error)
+failure_text (Ask error) = Some (ask_text error)
+failure_text Unwritten = Some (codes "stdout: unwritten")
+
 -- what is told of words that are no command line, or ask for help or the version; but for the
 -- version it is clap's text, of which nothing is known
 abbrev pub words_text : ErrorKind → Option (List ℕ)
 words_text DisplayVersion = Some version_line
 words_text kind = None
 
--- what is told of a failure
+-- what is told of a failure: what it says, in a line of its own; of words what is told of these
 abbrev pub told_of : Failure → Option (List ℕ)
-told_of (Unbegun unbegun) = Some (ended (unbegun_text unbegun))
 told_of (Words error) = words_text (kind_of error)
-told_of (Check error) = Some (ended (check_text error))
-told_of (Explain unexplained) = Some (ended (explain_text unexplained.error))
-told_of (Drill error) = Some (ended (text_of error))
-told_of (Token fault) = Some (ended (fault_text fault))
-told_of (Serve error) = Some (ended (serving.text_of error))
-told_of (Ask error) = Some (ended (ask_text error))
-told_of Unwritten = Some (ended (codes "stdout: unwritten"))
+told_of failure = option_map ended (failure_text failure)
 
 -- what is told of words with a fault of this kind was written
 abbrev pub TellsWords : ErrorKind → (before after : Option (List ℕ)) → Type 0

@@ -1,10 +1,9 @@
 -- How clap reads the words of the program's table of commands.
-use Rattle.std.specs.Prelude.{ℤ, ◌-ℤ◌, List, [], ◌∷◌, Some, map, pos}
-use Rattle.std.specs.Int.{int_max, int_min}
-use Rattle.clap.specs.Words.{App, Rule, Text, new_app, new_rule, signed_between, with_rule}
+use Rattle.std.specs.Prelude.{ℤ, List, [], ◌∷◌, Some, map, pos}
+use Rattle.clap.specs.Words.{App, Rule, Text, new_app, new_rule, with_rule}
 use Rattle.clap.specs.Words.{with_subcommand}
 use Rattle.clap.specs.declared.builder.ArgAction.TheVariants.{Set, SetTrue}
-use Rattle.clap.specs.declared.builder.ValueParser.{ValueParser}
+use Rattle.clap.specs.declared.builder.ValueParser.TheVariants.{Signed}
 use Rattle.relay_command.specs.CommandLine.{needed}
 use Rattle.relay_command.specs.Questions.{optional}
 use Rattle.relay_command.specs.declared.words.Kind.{Kind}
@@ -12,22 +11,17 @@ use Rattle.relay_command.specs.declared.words.Kind.TheVariants as kinds
 use Rattle.relay_command.specs.declared.words.Word.{Word}
 use Rattle.relay_command.specs.declared.words.Words.{Words}
 
--- the numbers of 32 bits from 1 on that are less than this one
-abbrev pub numbers_below : ℤ → ValueParser
-numbers_below end =
-    signed_between (int_max (pos 0) (pos 1)) (int_min (pos 4294967295) (end -ℤ pos 1))
-
--- a word that is such a number
+-- a word that is a number from 1 to this one
 abbrev pub with_number : ℤ → Rule → Rule
-with_number end rule = record rule { parser = Some (numbers_below end); action = Some Set }
+with_number most rule = record rule { parser = Some (Signed (pos 1) most); action = Some Set }
 
 -- how clap reads a word of this name that is given so
 abbrev pub rule_as : Text → Kind → Rule
 rule_as name kinds.Needed = needed name
 rule_as name kinds.Optional = optional name
-rule_as name (kinds.Number end) = with_number end (new_rule name)
-rule_as name (kinds.Named end) =
-    record (with_number end (new_rule name)) { long = Some name; value_names = 1 }
+rule_as name (kinds.Number most) = with_number most (new_rule name)
+rule_as name (kinds.Named most) =
+    record (with_number most (new_rule name)) { long = Some name; value_names = 1 }
 rule_as name kinds.Flag = record (new_rule name) { long = Some name; action = Some SetTrue }
 
 -- how clap reads a word

@@ -1,10 +1,9 @@
 //! Why the program ends with a status other than 0 (docs/PROTOCOL.md, Statuses), and how it ends.
-ghost use Rattle.std.specs.Prelude.{◌≡◌, Some, IfSome, OnOk};
-ghost use Rattle.std.specs.Io.KnownBytes.{Appends};
+ghost use Rattle.std.specs.Prelude.{◌≡◌, Some, OnOk};
 ghost use Rattle.std.specs.Process.{exit_status};
 ghost use Rattle.clap.specs.Words.{kind_of};
-ghost use Rattle.relay_command.specs.Failure.{ended, ends_with, status_of, Tells, unbegun_text};
-ghost use Rattle.relay_command.specs.Failure.{TellsWords, check_status, words_status};
+ghost use Rattle.relay_command.specs.Failure.{ends_with, failure_text, status_of, Tells};
+ghost use Rattle.relay_command.specs.Failure.{TellsWords, check_status, unbegun_text, words_status};
 
 use crate::ask::AskError;
 use crate::explain::Unexplained;
@@ -52,32 +51,41 @@ impl error::Error for Unbegun {}
 #[derive(Error)]
 pub enum Failure {
     /// The words could not be had, or there was no memory for the output.
-    #[error(transparent)]
     Unbegun(Unbegun),
     /// The words are no command line, or ask for help or the version.
-    #[error(transparent)]
     Words(clap::Error),
     /// A configuration can't be had, or is not told.
-    #[error(transparent)]
     Check(CheckError),
     /// A configuration can't be had, or is not explained.
-    #[error(transparent)]
     Explain(Unexplained),
     /// A script did not run to its end.
-    #[error(transparent)]
     Drill(DrillError),
     /// A token is not told.
-    #[error(transparent)]
     Token(TokenFault),
     /// A relay was not served to its end, or its report not written.
-    #[error(transparent)]
     Serve(ServeError),
     /// A relay that is served can't be asked, or what it told is not written.
-    #[error(transparent)]
     Ask(AskError),
     /// Standard output took no more. What it took before stands.
-    #[error("stdout: unwritten")]
     Unwritten,
+}
+
+impl Display for Failure {
+    ghost output = { failure_text };
+
+    fn fmt<W: fmt::Write>(&self, formatter: &mut Formatter<W>) -> fmt::Result {
+        match self {
+            Failure::Unbegun(unbegun) => Display::fmt(unbegun, formatter),
+            Failure::Words(error) => Display::fmt(error, formatter),
+            Failure::Check(error) => Display::fmt(error, formatter),
+            Failure::Explain(unexplained) => Display::fmt(unexplained, formatter),
+            Failure::Drill(error) => Display::fmt(error, formatter),
+            Failure::Token(fault) => Display::fmt(fault, formatter),
+            Failure::Serve(error) => Display::fmt(error, formatter),
+            Failure::Ask(error) => Display::fmt(error, formatter),
+            Failure::Unwritten => formatter.write_str("stdout: unwritten"),
+        }
+    }
 }
 
 // Written out, so that no crate above proves anew how each part is let go.
@@ -161,24 +169,9 @@ pub fn print_failure<W: Write>(ran: &Result<(), Failure>, writer: &mut W) -> io:
 {
     match ran {
         Ok(()) => Ok(()),
-        Err(Failure::Unbegun(unbegun)) => print_line(writer, unbegun),
         Err(Failure::Words(error)) => print_words(error, writer),
-        Err(Failure::Check(error)) => print_line(writer, error),
-        Err(Failure::Explain(unexplained)) => print_line(writer, unexplained),
-        Err(Failure::Drill(error)) => print_line(writer, error),
-        Err(Failure::Token(fault)) => print_line(writer, fault),
-        Err(Failure::Serve(error)) => print_line(writer, error),
-        Err(Failure::Ask(error)) => print_line(writer, error),
-        Err(Failure::Unwritten) => writer.write_all(b"stdout: unwritten\n"),
+        Err(failure) => writeln!(writer, "{failure}"),
     }
-}
-
-/// Writes the text of a failure, and the end of its line.
-fn print_line<W: Write, T: Display>(writer: &mut W, told: &T) -> io::Result<()>
-    ensures { OnOk result (IfSome (T.output told.now) (λ text.
-        Appends (W.contents writer.old) (W.contents writer.new) (ended text))) }
-{
-    writeln!(writer, "{told}")
 }
 
 /// Writes what is told where the words ask for nothing that is done: the version where they ask for

@@ -1,14 +1,14 @@
 //! The words of the command line as data, and the command that reads them (docs/PROTOCOL.md,
 //! Commands).
-ghost use Rattle.std.specs.Prelude.{◌≡◌, map, IfOk};
-ghost use Rattle.clap.specs.Words.{App, rule_of};
+ghost use Rattle.std.specs.Prelude.{◌≡◌, IfOk};
+ghost use Rattle.clap.specs.Words.{App, rule_of, with_subcommand};
 ghost use Rattle.std.specs.Prelude.{false};
 ghost use Rattle.relay_command.specs.CommandLine.{Reads, program_words};
-ghost use Rattle.relay_command.specs.WordTable.{app_of_words, rule_of_word, with_commands};
-ghost use Rattle.relay_command.specs.WordTable.{with_number};
+ghost use Rattle.relay_command.specs.WordTable.{app_of_words, rule_of_word};
 
 use crate::version::VERSION;
-use clap::{Arg, ArgAction, Command, value_parser};
+use clap::builder::ValueParser;
+use clap::{Arg, ArgAction, Command};
 use std::alloc::{AllocError, Global};
 
 /// How a word of a command is given.
@@ -17,7 +17,7 @@ enum Kind {
     Needed,
     /// It may be left out.
     Optional,
-    /// It is a number from 1 on that is less than this one, and may be left out.
+    /// It is a number from 1 to this one, and may be left out.
     Number(i64),
     /// It is such a number behind the word's name.
     Named(i64),
@@ -71,14 +71,14 @@ const NEWSGROUPS: Word = Word {
 const SIZE: Word = Word {
     name: "SIZE",
     told: "The octets of that article, 2000 without it",
-    kind: Kind::Number(16_777_357),
+    kind: Kind::Number(16_777_356),
 };
 
 /// After how many connections each port ends.
 const SESSIONS: Word = Word {
     name: "sessions",
     told: "Each port ends after so many connections: 1 to 1000000",
-    kind: Kind::Named(1_000_001),
+    kind: Kind::Named(1_000_000),
 };
 
 /// That all buffers are formatted.
@@ -96,7 +96,7 @@ const TEXT: Word = Word {
 };
 
 /// The commands, in the order of the help.
-const COMMANDS: [Words; 7] = [
+const COMMANDS: &[Words] = &[
     Words {
         name: "check",
         does: "Reads a configuration and says what it has",
@@ -138,37 +138,29 @@ const COMMANDS: [Words; 7] = [
 pub(crate) fn command<'a>(alloc: Global) -> Result<Command<'a>, AllocError>
     ensures { IfOk result (λ command. Reads command program_words) }
 {
-    let program = Command::new(alloc, "cnrelay")
+    let mut command = Command::new(alloc, "cnrelay")
         .version(VERSION)
         .about("The incoming side of a Netnews transit server");
-    with_commands(alloc, program, &COMMANDS)
-}
-
-/// A command with these below it.
-fn with_commands<'a>(
-    alloc: Global,
-    command: Command<'a>,
-    below: &[Words],
-) -> Result<Command<'a>, AllocError>
-    ensures { (app : App) → Reads command.entry app
-        → IfOk result (λ one. Reads one (with_commands app (map app_of_words below.now))) }
-{
-    let mut command = command;
-    for words in below {
-        command = command.subcommand(command_of(alloc, words)?)?;
+    for words in COMMANDS {
+        command = with_command(alloc, command, words)?;
     }
     Ok(command)
 }
 
-/// The command of these words.
-fn command_of<'a>(alloc: Global, words: &Words) -> Result<Command<'a>, AllocError>
-    ensures { IfOk result (λ one. Reads one (app_of_words words.now)) }
+/// A command with the one of these words below it.
+fn with_command<'a>(
+    alloc: Global,
+    program: Command<'a>,
+    words: &Words,
+) -> Result<Command<'a>, AllocError>
+    ensures { (app : App) → Reads program.entry app
+        → IfOk result (λ one. Reads one (with_subcommand app (app_of_words words.now).top)) }
 {
     let mut command = Command::new(alloc, words.name).about(words.does);
     for word in words.words {
         command = command.arg(arg_of(alloc, word))?;
     }
-    Ok(command)
+    program.subcommand(command)
 }
 
 /// The argument that a word is.
@@ -176,21 +168,17 @@ fn arg_of<'a>(alloc: Global, word: &Word) -> Arg<'a>
     ensures rule { rule_of result ≡ rule_of_word word.now }
     ensures own { result.global ≡ false }
 {
-    let arg = Arg::new(alloc, word.name).help(word.told);
+    let arg = Arg::new(alloc, word.name)
+        .help(word.told)
+        .action(ArgAction::Set);
     match word.kind {
-        Kind::Needed => arg.action(ArgAction::Set).required(true),
-        Kind::Optional => arg.action(ArgAction::Set),
-        Kind::Number(end) => numbered(arg, end),
-        Kind::Named(end) => numbered(arg, end).long(word.name).value_name("N"),
+        Kind::Needed => arg.required(true),
+        Kind::Optional => arg,
+        Kind::Number(most) => arg.value_parser(ValueParser::signed(1, most)),
+        Kind::Named(most) => arg
+            .long(word.name)
+            .value_name("N")
+            .value_parser(ValueParser::signed(1, most)),
         Kind::Flag => arg.long(word.name).action(ArgAction::SetTrue),
     }
-}
-
-/// The argument as a number from 1 on that is less than this one.
-fn numbered<'a>(arg: Arg<'a>, end: i64) -> Arg<'a>
-    ensures rule { rule_of result ≡ with_number end (rule_of arg.entry) }
-    ensures own { result.global ≡ arg.entry.global }
-{
-    arg.action(ArgAction::Set)
-        .value_parser(value_parser!(u32).range(1..end))
 }

@@ -2,9 +2,10 @@ use Rattle.std.proofs.Common.{◌∙◌, refl, subst, sym, map}
 use Rattle.std.proofs.lemmas.List.{at_drop_all}
 use Rattle.clap.specs.Words.{App, new_app}
 use Rattle.relay_command.specs.CommandLine.{Reads}
-use Rattle.relay_command.specs.WordTable.{rule_of_word, with_rules}
-use Rattle.relay_command.proofs.CommandLines.{told_reads, with_word, word_next}
-use Rattle.relay_command.proofs.words.command_of.Goals as goal
+use Rattle.relay_command.specs.WordTable.{app_of_words, rule_of_word, with_rules}
+use Rattle.relay_command.proofs.CommandLines.{told_reads, with_subcommand_reads, with_word}
+use Rattle.relay_command.proofs.CommandLines.{word_next}
+use Rattle.relay_command.proofs.words.with_command.Goals as goal
 
 pub loop-word-init : goal.loop-word-init
 loop-word-init c =
@@ -27,9 +28,11 @@ loop-word-preserved c =
     )
 
 pub returns : goal.returns
-returns c =
+returns c = λ app reads.
     let so_far = c.loop-word.invariant in
-    subst (λ (app : App). Reads c.loop-word.command app)
+    let whole = subst (λ (a : App). Reads c.loop-word.command a)
     (sym (at_drop_all (λ left. with_rules so_far.0 (map rule_of_word left))
     c.args.words.now.words.now c.loop-word.word-index c.loop-word-test.false) ∙ so_far.2)
-    so_far.1
+    so_far.1 in
+    with_subcommand_reads _ _ c.subcommand.result app (app_of_words c.args.words.now) reads whole
+    c.subcommand.ensures

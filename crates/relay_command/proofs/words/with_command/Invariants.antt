@@ -2,7 +2,7 @@ use Rattle.std.proofs.Common.{◌≡◌, drop, map}
 use Rattle.clap.specs.Words.{App}
 use Rattle.relay_command.specs.CommandLine.{Reads}
 use Rattle.relay_command.specs.WordTable.{app_of_words, rule_of_word, with_rules}
-use Rattle.relay_command.proofs.words.command_of.Given as goal
+use Rattle.relay_command.proofs.words.with_command.Given as goal
 
 -- the command reads what came so far, and with the words that are left it reads all
 abbrev pub invariant-loop-word : goal.invariant-loop-word
