@@ -83,6 +83,12 @@ pub origin_serves : (config : Config) (error : ServeError) → IsOriginFault err
 origin_serves config error (inl memory) = subst (IsServeFault config) (sym memory) tt
 origin_serves config error (inr history) = subst (IsServeFault config) (sym history) tt
 
+-- nor does that it couldn't be stopped
+pub stop_serves : (config : Config) (error : ServeError) → IsStopFault error
+    → IsServeFault config error
+stop_serves config (faults.Stop fault) stops = tt
+stop_serves config error e = subst (IsServeFault config) (sym e) tt
+
 -- a writer that isn't called holds what it held
 kept : (held : Option (List ℕ)) → Keeps held held
 kept None = tt

@@ -126,7 +126,8 @@ fn is_of_earlier<R: Files>(
     buffer: &BufferConf,
 ) -> Result<bool, AllocError> {
     let own = place_of(rt, alloc, folder, buffer)?;
-    for earlier in settings.buffers.iter().take(count) {
+    let buffers = settings.buffers.as_slice();
+    for earlier in buffers.get(..count).unwrap_or(buffers) {
         let place = place_of(rt, alloc, folder, earlier)?;
         if is_same(own, place) {
             return Ok(true);

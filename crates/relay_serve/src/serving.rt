@@ -25,7 +25,7 @@ use relay_report::{ServeError, StopFault, Totals, print_totals};
 use run_blocks::RunBlocks;
 use std::alloc::Global;
 use std::fs::{File, Files};
-use std::io::Write;
+use std::io::{ErrorKind, Write};
 use std::marker::Brand;
 use std::net::{Net, TcpListener, TcpStream};
 use std::random::RandomSource;
@@ -144,10 +144,13 @@ where
             drop(desk);
             answer
         }
-        Err(_) => {
+        Err(error) => {
             drop(peer_sources);
             drop(unbegun);
-            Err(ServeError::Control)
+            match error.kind() {
+                ErrorKind::OutOfMemory => Err(ServeError::Memory),
+                _ => Err(ServeError::Control),
+            }
         }
     }
 }
@@ -204,7 +207,9 @@ struct Access<'a> {
     desk: &'a Desk<'a>,
 }
 
-/// Finds out what the relay begins from, then runs it.
+/// Finds out what the relay begins from, runs it, keeps its history once all that its stores were
+/// given is on their devices, and writes the report. Where there is no memory for the totals the
+/// history is kept all the same.
 fn begin_and_run<R, H: HistoryPlace, W: Write>(
     rt: &R,
     alloc: Global,
@@ -234,7 +239,8 @@ where
         stores: unbegun.stores,
         origin,
     };
-    let totals = run_on(rt, alloc, config, beginning, history, access)?;
+    let finished = run_watched(rt, alloc, config, beginning, access)?;
+    let totals = keep_finished(history, finished)?;
     let printed = print_totals(alloc, &totals, writer);
     drop(totals);
     printed
@@ -247,41 +253,6 @@ fn tell_start<R: Eprint>(rt: &R, origin: &Origin) {
     }
 }
 
-/// Runs the relay over what was opened, and keeps its history once all that its stores were given
-/// is on their devices. Where there is no memory for the totals the history is kept all the same.
-fn run_on<R, H: HistoryPlace>(
-    rt: &R,
-    alloc: Global,
-    config: &Config,
-    beginning: Beginning<RunBlocks>,
-    history: &mut H,
-    access: Access<'_>,
-) -> Result<Totals, ServeError>
-where
-    R: Threads + Wait + Clock + Eprint + RandomSource + Sync,
-    requires stores { map count_of beginning.stores.items
-        ≡ map (λ buffer. buffer.blocks) config.now.buffers.buffers.items }
-    requires few { length access.peer_sources.items < 2 ^ 62 }
-    ensures totals { IfOk result (AreOf config.now) }
-    ensures fault { IfErr result (IsServeFault config.now) }
-{
-    match ArticleLog::new(alloc) {
-        Ok(register) => {
-            let ran = run_watched(rt, alloc, config, beginning, &register, access);
-            drop(register);
-            match ran {
-                Ok(finished) => keep_finished(history, finished),
-                Err(error) => Err(error),
-            }
-        }
-        Err(_) => {
-            drop(access);
-            drop(beginning);
-            Err(ServeError::Memory)
-        }
-    }
-}
-
 /// Runs the relay over what was opened, by the machine's clock. Nothing says that a file of the
 /// machine is honest, so nothing is promised of what the stores give.
 fn run_watched<'a, R>(
@@ -289,7 +260,6 @@ fn run_watched<'a, R>(
     alloc: Global,
     config: &'a Config,
     beginning: Beginning<RunBlocks>,
-    register: &ArticleLog,
     access: Access<'_>,
 ) -> Result<Finished<Watched<'a, RunBlocks, R>>, ServeError>
 where
@@ -300,6 +270,7 @@ where
     ensures totals { IfOk result (λ run. IfOk run.totals (AreOf config.now)) }
     ensures fault { IfErr result (IsServeFault config.now) }
 {
+    let register = ArticleLog::new(alloc)?;
     let Beginning { stores, origin } = beginning;
     let stores = watch_all(rt, &config.buffers, stores)?;
     let clock = MachineClock::new(rt);
@@ -309,7 +280,7 @@ where
         config,
         Beginning { stores, origin },
         Records {
-            register,
+            register: &register,
             blank: Blank::new(channels_of(config) as u64),
         },
         access.peer_sources,
