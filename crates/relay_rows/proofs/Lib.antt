@@ -1,1 +1,1 @@
-mod Serving
+pub mod Made
