@@ -8,7 +8,7 @@ from pathlib import Path
 
 ROWS = Path(__file__).resolve().parent
 # Where the configurations stand that rows name.
-DATA = ROWS.parent.parent / "crates/relay_rows/data"
+DATA = ROWS / "data"
 # What a row begins with: how it is played, and what it shows.
 HEAD = re.compile(r"(?m)^(?==[=1#^] )")
 # A part of a library in front of the C library: the system gives no random numbers where the environment has REFUSE_RANDOM.
@@ -23,6 +23,30 @@ int getentropy(void *room, size_t size) {
         return -1;
     }
     return getrandom(room, size, 0) == (ssize_t)size ? 0 : -1;
+}
+"""
+# Another: standard output takes as many octets as ROWS_TAKES says, and then fails.
+TAKING = r"""
+#include <errno.h>
+#include <stdlib.h>
+#include <sys/syscall.h>
+#include <unistd.h>
+
+ssize_t write(int file, const void *octets, size_t count) {
+    static size_t taken;
+    const char *takes = file == 1 ? getenv("ROWS_TAKES") : 0;
+    ssize_t written;
+    if (!takes)
+        return syscall(SYS_write, file, octets, count);
+    if (taken + count > strtoul(takes, 0, 10))
+        count = strtoul(takes, 0, 10) - taken;
+    if (count == 0) {
+        errno = ENOSPC;
+        return -1;
+    }
+    written = syscall(SYS_write, file, octets, count);
+    taken += written > 0 ? written : 0;
+    return written;
 }
 """
 # The marks of the lines above a row's standard input.

@@ -282,7 +282,7 @@ class Started:
     # Those that may still run.
     running = []
 
-    def __init__(self, words, folder, user, passed, is_full=False):
+    def __init__(self, words, folder, user, passed, is_full, faults):
         self.out, self.err = tempfile.TemporaryFile(), tempfile.TemporaryFile()
         self.full, out = None, self.out
         if is_full:
@@ -290,7 +290,7 @@ class Started:
         settings = {"user": user, "group": user, "extra_groups": []} if user else {}
         self.process = subprocess.Popen(
             [str(it) for it in words], stdin=subprocess.DEVNULL, stdout=out, stderr=self.err,
-            cwd=folder, pass_fds=passed, **settings)
+            cwd=folder, pass_fds=passed, env={**os.environ, **faults}, **settings)
         Started.running.append(self.process)
         if is_full:
             os.close(out)

@@ -61,6 +61,8 @@ class Row:
         self.user, self.limit, self.threads, self.held, self.pipe = None, None, None, [], None
         # The standard streams that are closed, and whether standard output is a full pipe.
         self.closed, self.is_full = [], False
+        # What is set for the library that makes faults.
+        self.faults = {}
         self.sending = {}
         # What its last line `-- ` said, and the last check.
         self.at, self.told = "", ""
@@ -202,6 +204,10 @@ class Row:
             os.chown(it, self.user, self.user, follow_symlinks=False)
         return copy
 
+    def make_fault(self, **how):
+        """Programs meet this fault from here on."""
+        self.faults = {**self.faults, **how, "LD_PRELOAD": str(self.given.library)}
+
     def start(self, name, words):
         """Starts the program under this name."""
         if not (self.dir / "relay.conf").exists():
@@ -220,7 +226,7 @@ class Row:
             words = ["/bin/sh", "-c", f'exec "$0" "$@" {closes}', *words]
         passed = [self.pipe[0]] if self.pipe else []
         is_full = self.is_full and not name
-        self.started.append(Started(words, self.folder, self.user, passed, is_full))
+        self.started.append(Started(words, self.folder, self.user, passed, is_full, self.faults))
         self.programs[name] = self.started[-1]
         return self.started[-1]
 
@@ -437,6 +443,10 @@ class Row:
             self.closed = rest.split()
         elif line == "full":
             self.is_full = True
+        elif name == "takes":
+            self.make_fault(ROWS_TAKES=rest)
+        elif line == "unseeded":
+            self.make_fault(REFUSE_RANDOM="1")
         elif line == "flows":
             self.programs[""].flows()
         elif name in ("files", "octets"):
