@@ -55,8 +55,9 @@ impl Token {
     }
 
     /// The octets of the parts, high first.
-    fn octets(&self) -> [u8; 14]
-        ensures octets { result ≡ token_octets (token_view self.now) }
+    pub fn octets(self) -> [u8; 14]
+        ensures octets { result ≡ token_octets (token_view self) }
+        ensures parts { IsToken (token_view self) }
     {
         let cycle = self.cycle.to_be_bytes();
         let first = self.first.to_be_bytes();
@@ -80,7 +81,7 @@ impl Token {
     }
 
     /// The token whose parts have these octets.
-    fn from_octets(octets: &[u8; 14]) -> Token
+    pub fn from_octets(octets: &[u8; 14]) -> Token
         ensures octets { token_octets (token_view result) ≡ octets.now }
         ensures parts { IsToken (token_view result) }
     {
