@@ -2,9 +2,8 @@
 use Rattle.std.proofs.Common.{◌≡◌, ◌∙◌, ◌<◌, ◌≤◌, ◌+◌, ap, sym, subst, ℕ, List, [], ◌∷◌, ◌++◌}
 use Rattle.std.proofs.Common.{length, map, take, append_assoc}
 use Rattle.std.proofs.Math.ListN.{get_or}
-use Rattle.std.proofs.lemmas.List.{append-nil, length-map, map-id, map_push, take_more, take_all}
+use Rattle.std.proofs.lemmas.List.{append-nil, map_push, take_more, take_all}
 use Rattle.std.proofs.lemmas.List.Concat.{flat_map-append}
-use Rattle.std.specs.Int.{Width, to_be_bytes}
 use Rattle.std.specs.List.{AllByRecursion, flat_map}
 
 -- one more that holds
@@ -53,37 +52,6 @@ module _ {A B : Type 0} (octets : B → List ℕ) (F : B → Type 0) (view : A �
         so_far.written ∙ ap (λ (ys : List A). before ++ flat_map octets (map view ys)) all,
         subst (λ (ys : List A). AllByRecursion F (map view ys)) all so_far.fits,
       )
-
-  -- all were written, after their number
-  pub all_counted : (w : Width) (out before now : List ℕ) (xs : List A) (i : ℕ) → length xs ≤ i
-      → before ≡ out ++ to_be_bytes w (length xs) → IsPut before now xs i
-      → (now ≡ out ++ (to_be_bytes w (length (map view xs)) ++ flat_map octets (map view xs)))
-      × AllByRecursion F (map view xs)
-  all_counted w out before now xs i past start so_far =
-      let all = all_put before now xs i past so_far in
-      let count : to_be_bytes w (length xs) ≡ to_be_bytes w (length (map view xs)) =
-      ap (to_be_bytes w) (sym (length-map xs view)) in (
-        all.0
-            ∙ ap (λ (o : List ℕ). o ++ flat_map octets (map view xs))
-            (start ∙ ap (λ (o : List ℕ). out ++ o) count)
-            ∙ append_assoc out (to_be_bytes w (length (map view xs)))
-            (flat_map octets (map view xs)),
-        all.1,
-      )
-
--- all were written as they are, after their number
-pub all_put_so : {A : Type 0} (octets : A → List ℕ) (F : A → Type 0)
-    (out before now number : List ℕ) (xs : List A) (i : ℕ) → length xs ≤ i → before ≡ out ++ number
-    → IsPut octets F (λ (x : A). x) before now xs i
-    → (now ≡ out ++ (number ++ flat_map octets xs)) × AllByRecursion F xs
-all_put_so {A = A} octets F out before now number xs i past start so_far =
-    let all = all_put octets F (λ (x : A). x) before now xs i past so_far in (
-      all.0
-          ∙ ap (λ (ys : List A). before ++ flat_map octets ys) (map-id xs)
-          ∙ ap (λ (o : List ℕ). o ++ flat_map octets xs) start
-          ∙ append_assoc out number (flat_map octets xs),
-      subst (AllByRecursion F) (map-id xs) all.1,
-    )
 
 -- one after the other behind what was there
 pub behind : (was x y : List ℕ) {then now : List ℕ} → then ≡ was ++ x → now ≡ then ++ y

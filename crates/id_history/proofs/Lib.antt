@@ -22,4 +22,3 @@ mod RoomOfAll
 mod ShardsLemmas
 mod Tests
 mod Tokens
-mod Parts

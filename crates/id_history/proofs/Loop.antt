@@ -52,12 +52,3 @@ module _ {X : Type 0} where
       let step : with_front front (times_at at (count - i) bytes) ≡ Some (front, bytes) =
       rw k (ap (λ (xs : List X). Some (xs, bytes)) (append-nil front)) in
       sym so_far ∙ step
-
-  -- none was read yet
-  pub begins : (at : List ℕ → Option (X × List ℕ)) (count : ℕ) (bytes : List ℕ)
-      → with_front [] (times_at at count bytes) ≡ times_at at count bytes
-  begins at count bytes = same (times_at at count bytes)
-    where
-      same : (read : Option (List X × List ℕ)) → with_front [] read ≡ read
-      same (Some x) = refl
-      same None = refl

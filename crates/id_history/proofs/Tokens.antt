@@ -1,6 +1,8 @@
 -- Tokens and message-ids that are read are those that were written.
 use Rattle.std.proofs.Common.{◌≡◌, ℕ, zero, suc, ◌^◌, ◌<◌, List, [], ◌∷◌, ◌++◌, length}
 use Rattle.std.proofs.Common.{Option, Some, None, refl, sym, ap, subst, ◌∙◌, append_assoc}
+use Rattle.std.proofs.Common.{arith, take, drop}
+use Rattle.std.proofs.lemmas.List.{length-append, take-append-drop}
 use Rattle.std.specs.Prelude.{IfSome}
 use Rattle.std.specs.Int.{w32, w64, to_be_bytes}
 use Rattle.news_terms.specs.MessageId.{IdFault, id_fault}
@@ -71,6 +73,35 @@ token_again t rest fits =
       number_again w32 (2 ^ 32) wide32 t.first length_part fits.first,
       number_again w32 (2 ^ 32) wide32 t.length rest fits.length,
     ) refl
+
+-- what is read nowhere is nothing
+no_value : (read : Option (Token × List ℕ))
+    → ((x : Token × List ℕ) → read ≡ Some x → read ≡ None) → read ≡ None
+no_value None none = refl
+no_value (Some x) none = none x refl
+
+-- a token has fourteen octets
+fourteen : (t : Token) → length (token_octets t) ≡ 14
+fourteen t = refl
+
+-- fewer octets are no token
+pub short_token : (bytes : List ℕ) → IsBytes bytes → length bytes < 14 → token_at bytes ≡ None
+short_token bytes fits short =
+    no_value (token_at bytes) (λ x e. absurd (omega (
+      arith,
+      short,
+      ap (λ (octets : List ℕ). length octets) (token_takes bytes x fits e).0.parts,
+      length-append (token_octets x.0) x.1,
+      fourteen x.0,
+    )))
+
+-- the first fourteen octets are those of the token that is read
+pub token_of : (bytes : List ℕ) (t : Token) → token_octets t ≡ take 14 bytes → IsToken t
+    → token_at bytes ≡ Some (t, drop 14 bytes)
+token_of bytes t front fits =
+    ap token_at (sym (take-append-drop 14 bytes)
+    ∙ ap (λ (octets : List ℕ). octets ++ drop 14 bytes) (sym front))
+    ∙ token_again t (drop 14 bytes) fits
 
 -- a text that is without a fault
 without_is : (fault : Option IdFault) (text id : List ℕ) → without_fault fault text ≡ Some id

@@ -371,8 +371,10 @@ impl Shard {
         ensures ok { OnOk result (SetsMark self.old self.new id.now (entry_mark (Some entry))) }
         ensures err { OnErr result (SameMarks self.old self.new) }
     {
-        let id = id.copied(self.alloc)?;
-        self.insert(id, entry)
+        match id.copied(self.alloc) {
+            Ok(copy) => self.insert(copy, entry),
+            Err(error) => Err(error),
+        }
     }
 
     /// Makes an entry for the id, which may have had another.

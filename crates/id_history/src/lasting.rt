@@ -29,8 +29,10 @@ impl Shard {
         ensures room { OnOk result
             (vec_capacity list.new ≡ max (vec_capacity list.old) (vec_len list.new)) }
     {
-        reserve(list, self.counts())?;
-        self.append(list)
+        match reserve(list, self.counts()) {
+            Ok(()) => self.append(list),
+            Err(error) => Err(error),
+        }
     }
 }
 

@@ -1,11 +1,13 @@
 //! Reading the text of a history.
-ghost use Rattle.std.specs.Prelude.{◌≡◌, map, option_map, IfOk, Some};
+ghost use Rattle.std.specs.Prelude.{◌≡◌, ℕ, List, Option, map, option_map, IfOk, Some};
 ghost use Rattle.std.specs.Int.{w32, w64};
 ghost use Rattle.cyc_token.specs.Token.{token_view};
+ghost use Rattle.news_terms.specs.Token as terms;
 ghost use Rattle.id_history.specs.Reading.{Gives, number_at, token_at, id_at, fate_at};
 ghost use Rattle.id_history.specs.Reading.{kept_id_at, times_at, counted_at, feed_at, marked_at};
 ghost use Rattle.id_history.specs.Reading.{lists_at, all_of};
 ghost use Rattle.id_history.specs.History.{Kept, Fits, Holds, history_octets};
+ghost use Rattle.id_history.specs.History as kept;
 ghost use Rattle.id_history.specs.Views.{id_view, feed_view, history_view, setting_view};
 
 use crate::conditions::holds;
@@ -18,51 +20,62 @@ use std::alloc::Global;
 /// The four octets that a history begins with.
 pub(crate) const MARK: [u8; 4] = *b"CNR1";
 
+/// A kind of which a history has many, one after the other.
+trait Readable: Drop {
+    // What one says.
+    ghost Said: { Type 0 };
+
+    // A value that says this.
+    ghost said: { Self → Said };
+
+    // What the octets say from the front on, and those after it.
+    ghost at: { List ℕ → Option (Said × List ℕ) };
+
+    /// Reads one, and gives the octets after it.
+    fn read(alloc: Global, bytes: &[u8]) -> Result<(Self, &[u8]), HistoryError>
+        ensures { Gives (λ x. (said x.0, x.1.now)) result (at bytes.now) };
+}
+
 /// A number of four octets.
-fn number32(bytes: &[u8]) -> Option<(u32, &[u8])>
-    ensures { number_at w32 bytes.now ≡ option_map (λ x. (x.0, x.1.now)) result }
-{
-    if bytes.len() < 4 {
-        return None;
+impl Readable for u32 {
+    ghost Said = { ℕ };
+
+    ghost said = { λ number. number };
+
+    ghost at = { number_at w32 };
+
+    fn read(_alloc: Global, bytes: &[u8]) -> Result<(u32, &[u8]), HistoryError> {
+        match bytes.split_first_chunk::<4>() {
+            Some((octets, rest)) => Ok((u32::from_be_bytes(*octets), rest)),
+            None => Err(HistoryError::BadHistory),
+        }
     }
-    let (front, rest) = bytes.split_at(4);
-    let number = u32::from_be_bytes([front[0], front[1], front[2], front[3]]);
-    Some((number, rest))
 }
 
 /// A number of eight octets.
 fn number64(bytes: &[u8]) -> Option<(u64, &[u8])>
     ensures { number_at w64 bytes.now ≡ option_map (λ x. (x.0, x.1.now)) result }
 {
-    if bytes.len() < 8 {
-        return None;
+    match bytes.split_first_chunk::<8>() {
+        Some((octets, rest)) => Some((u64::from_be_bytes(*octets), rest)),
+        None => None,
     }
-    let (front, rest) = bytes.split_at(8);
-    let number = u64::from_be_bytes([
-        front[0], front[1], front[2], front[3], front[4], front[5], front[6], front[7],
-    ]);
-    Some((number, rest))
 }
 
 /// A token.
-#[tactic(auto, unfolding(crate::specs::Reading::token_at))]
-fn token(bytes: &[u8]) -> Option<(Token, &[u8])>
-    ensures { token_at bytes.now ≡ option_map (λ x. (token_view x.0, x.1.now)) result }
-{
-    let [class, buffer, rest @ ..] = bytes else {
-        return None;
-    };
-    let (cycle, rest) = number32(rest)?;
-    let (first, rest) = number32(rest)?;
-    let (length, rest) = number32(rest)?;
-    let token = Token {
-        class: *class,
-        buffer: *buffer,
-        cycle,
-        first,
-        length,
-    };
-    Some((token, rest))
+impl Readable for Token {
+    ghost Said = { terms.Token };
+
+    ghost said = { token_view };
+
+    ghost at = { token_at };
+
+    fn read(_alloc: Global, bytes: &[u8]) -> Result<(Token, &[u8]), HistoryError> {
+        let Some((octets, rest)) = bytes.split_first_chunk::<14>() else {
+            return Err(HistoryError::BadHistory);
+        };
+        Ok((Token::from_octets(octets), rest))
+    }
 }
 
 /// A message-id.
@@ -87,128 +100,109 @@ fn id(alloc: Global, bytes: &[u8]) -> Result<(MsgId, &[u8]), HistoryError>
 
 /// What became of a message-id: the token, where it is stored, and the moment.
 #[tactic(auto, unfolding(crate::specs::Reading::fate_at))]
-fn fate(bytes: &[u8]) -> Option<(Option<Token>, u64, &[u8])>
-    ensures { fate_at bytes.now
-        ≡ option_map (λ x. ((option_map token_view x.0, x.1), x.2.now)) result }
+fn fate(alloc: Global, bytes: &[u8]) -> Result<(Option<Token>, u64, &[u8]), HistoryError>
+    ensures { Gives (λ x. ((option_map token_view x.0, x.1), x.2.now)) result (fate_at bytes.now) }
 {
     let [kind, rest @ ..] = bytes else {
-        return None;
+        return Err(HistoryError::BadHistory);
     };
-    let (moment, rest) = number64(rest)?;
+    let Some((moment, rest)) = number64(rest) else {
+        return Err(HistoryError::BadHistory);
+    };
     match *kind {
-        1 => Some((None, moment, rest)),
-        2 => {
-            let (token, rest) = token(rest)?;
-            Some((Some(token), moment, rest))
-        }
-        _ => None,
+        1 => Ok((None, moment, rest)),
+        2 => match Token::read(alloc, rest) {
+            Ok((token, rest)) => Ok((Some(token), moment, rest)),
+            Err(error) => Err(error),
+        },
+        _ => Err(HistoryError::BadHistory),
     }
 }
 
 /// A message-id that is remembered.
-#[tactic(auto, unfolding(crate::specs::Reading::kept_id_at))]
-fn kept_id(alloc: Global, bytes: &[u8]) -> Result<(KeptId, &[u8]), HistoryError>
-    ensures { Gives (λ x. (id_view x.0, x.1.now)) result (kept_id_at bytes.now) }
-{
-    let (id, rest) = id(alloc, bytes)?;
-    match fate(rest) {
-        Some((token, moment, rest)) => Ok((KeptId { id, token, moment }, rest)),
-        None => Err(HistoryError::BadHistory),
-    }
-}
+impl Readable for KeptId {
+    ghost Said = { kept.KeptId };
 
-/// So many message-ids.
-fn kept_ids(alloc: Global, count: u64, bytes: &[u8]) -> Result<(Vec<KeptId>, &[u8]), HistoryError>
-    ensures { Gives (λ x. (map id_view x.0.items, x.1.now)) result
-        (times_at kept_id_at count bytes.now) }
-{
-    let mut ids = Vec::new(alloc);
-    let mut rest = bytes;
-    for _ in 0..count {
-        let (one, after) = kept_id(alloc, rest)?;
-        ids.push(one)?;
-        rest = after;
-    }
-    Ok((ids, rest))
-}
+    ghost said = { id_view };
 
-/// So many tokens.
-fn tokens(alloc: Global, count: u32, bytes: &[u8]) -> Result<(Vec<Token>, &[u8]), HistoryError>
-    ensures { Gives (λ x. (map token_view x.0.items, x.1.now)) result
-        (times_at token_at count bytes.now) }
-{
-    let mut tokens = Vec::new(alloc);
-    let mut rest = bytes;
-    for _ in 0..count {
-        let Some((one, after)) = token(rest) else {
-            return Err(HistoryError::BadHistory);
-        };
-        tokens.push(one)?;
-        rest = after;
+    ghost at = { kept_id_at };
+
+    #[tactic(auto, unfolding(crate::specs::Reading::kept_id_at))]
+    fn read(alloc: Global, bytes: &[u8]) -> Result<(KeptId, &[u8]), HistoryError> {
+        match id(alloc, bytes) {
+            Ok((id, rest)) => match fate(alloc, rest) {
+                Ok((token, moment, rest)) => Ok((KeptId { id, token, moment }, rest)),
+                Err(error) => Err(error),
+            },
+            Err(error) => Err(error),
+        }
     }
-    Ok((tokens, rest))
 }
 
 /// A feed.
-#[tactic(auto, unfolding(crate::specs::Reading::feed_at, crate::specs::Reading::counted_at))]
-fn feed(alloc: Global, bytes: &[u8]) -> Result<(KeptFeed, &[u8]), HistoryError>
-    ensures { Gives (λ x. (feed_view x.0, x.1.now)) result (feed_at bytes.now) }
-{
-    let Some((gained, rest)) = number64(bytes) else {
-        return Err(HistoryError::BadHistory);
-    };
-    let Some((passed, rest)) = number64(rest) else {
-        return Err(HistoryError::BadHistory);
-    };
-    let Some((taken, rest)) = number64(rest) else {
-        return Err(HistoryError::BadHistory);
-    };
-    let Some((count, rest)) = number32(rest) else {
-        return Err(HistoryError::BadHistory);
-    };
-    let (waiting, rest) = tokens(alloc, count, rest)?;
-    let feed = KeptFeed {
-        gained,
-        passed,
-        taken,
-        waiting,
-    };
-    Ok((feed, rest))
-}
+impl Readable for KeptFeed {
+    ghost Said = { kept.KeptFeed };
 
-/// So many feeds.
-fn feeds(alloc: Global, count: u32, bytes: &[u8]) -> Result<(Vec<KeptFeed>, &[u8]), HistoryError>
-    ensures { Gives (λ x. (map feed_view x.0.items, x.1.now)) result
-        (times_at feed_at count bytes.now) }
-{
-    let mut feeds = Vec::new(alloc);
-    let mut rest = bytes;
-    for _ in 0..count {
-        let (one, after) = feed(alloc, rest)?;
-        feeds.push(one)?;
-        rest = after;
-    }
-    Ok((feeds, rest))
-}
+    ghost said = { feed_view };
 
-/// So many positions.
-fn positions(alloc: Global, count: u32, bytes: &[u8]) -> Result<(Vec<u32>, &[u8]), HistoryError>
-    ensures { Gives (λ x. (x.0.items, x.1.now)) result
-        (times_at (number_at w32) count bytes.now) }
-{
-    let mut positions = Vec::new(alloc);
-    let mut rest = bytes;
-    for _ in 0..count {
-        let Some((one, after)) = number32(rest) else {
+    ghost at = { feed_at };
+
+    #[tactic(auto, unfolding(crate::specs::Reading::feed_at))]
+    fn read(alloc: Global, bytes: &[u8]) -> Result<(KeptFeed, &[u8]), HistoryError> {
+        let Some((gained, rest)) = number64(bytes) else {
             return Err(HistoryError::BadHistory);
         };
-        positions.push(one)?;
-        rest = after;
+        let Some((passed, rest)) = number64(rest) else {
+            return Err(HistoryError::BadHistory);
+        };
+        let Some((taken, rest)) = number64(rest) else {
+            return Err(HistoryError::BadHistory);
+        };
+        match counted(alloc, rest) {
+            Ok((waiting, rest)) => {
+                let feed = KeptFeed {
+                    gained,
+                    passed,
+                    taken,
+                    waiting,
+                };
+                Ok((feed, rest))
+            }
+            Err(error) => Err(error),
+        }
     }
-    Ok((positions, rest))
 }
 
-/// The message-ids, after their number.
+/// So many of a kind.
+fn times<T: Readable>(
+    alloc: Global,
+    count: u64,
+    bytes: &[u8],
+) -> Result<(Vec<T>, &[u8]), HistoryError>
+    ensures { Gives (λ x. (map T.said x.0.items, x.1.now)) result (times_at T.at count bytes.now) }
+{
+    let mut all = Vec::new(alloc);
+    let mut rest = bytes;
+    for _ in 0..count {
+        let (one, after) = T::read(alloc, rest)?;
+        all.push(one)?;
+        rest = after;
+    }
+    Ok((all, rest))
+}
+
+/// Those of a kind, after their number of four octets.
+#[tactic(auto, unfolding(crate::specs::Reading::counted_at))]
+fn counted<T: Readable>(alloc: Global, bytes: &[u8]) -> Result<(Vec<T>, &[u8]), HistoryError>
+    ensures { Gives (λ x. (map T.said x.0.items, x.1.now)) result (counted_at w32 T.at bytes.now) }
+{
+    match u32::read(alloc, bytes) {
+        Ok((count, rest)) => times(alloc, u64::from(count), rest),
+        Err(error) => Err(error),
+    }
+}
+
+/// The message-ids, after their number of eight octets.
 #[tactic(auto, unfolding(crate::specs::Reading::counted_at))]
 fn counted_ids(alloc: Global, bytes: &[u8]) -> Result<(Vec<KeptId>, &[u8]), HistoryError>
     ensures { Gives (λ x. (map id_view x.0.items, x.1.now)) result
@@ -217,11 +211,11 @@ fn counted_ids(alloc: Global, bytes: &[u8]) -> Result<(Vec<KeptId>, &[u8]), Hist
     let Some((count, rest)) = number64(bytes) else {
         return Err(HistoryError::BadHistory);
     };
-    kept_ids(alloc, count, rest)
+    times(alloc, count, rest)
 }
 
 /// The lists of a history, each after its number.
-#[tactic(auto, unfolding(crate::specs::Reading::lists_at, crate::specs::Reading::counted_at))]
+#[tactic(auto, unfolding(crate::specs::Reading::lists_at))]
 fn lists(
     alloc: Global,
     stop: u64,
@@ -230,14 +224,8 @@ fn lists(
 ) -> Result<(History, &[u8]), HistoryError>
     ensures { Gives (λ x. (history_view x.0, x.1.now)) result (lists_at stop newest bytes.now) }
 {
-    let Some((count, rest)) = number32(bytes) else {
-        return Err(HistoryError::BadHistory);
-    };
-    let (positions, rest) = positions(alloc, count, rest)?;
-    let Some((count, rest)) = number32(rest) else {
-        return Err(HistoryError::BadHistory);
-    };
-    let (feeds, rest) = feeds(alloc, count, rest)?;
+    let (positions, rest) = counted(alloc, bytes)?;
+    let (feeds, rest) = counted(alloc, rest)?;
     let (ids, rest) = match counted_ids(alloc, rest) {
         Ok(read) => read,
         Err(error) => {

@@ -19,8 +19,10 @@ pub fn read_back(
     requires holds { Holds (setting_view setting.now) (history_view history.now) }
     ensures { Gives history_view result (Some (history_view history.now)) }
 {
-    let text = write(alloc, history)?;
-    read(alloc, &text, setting)
+    match write(alloc, history) {
+        Ok(text) => read(alloc, &text, setting),
+        Err(_) => Err(HistoryError::Memory),
+    }
 }
 
 /// A text is that of one history.

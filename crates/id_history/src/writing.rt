@@ -1,13 +1,14 @@
 //! Writing the text of a history.
-ghost use Rattle.std.specs.Prelude.{◌≡◌, ◌<◌, ◌^◌, ◌++◌, length, map, option_map, IfOk, IfSome};
-ghost use Rattle.std.specs.Prelude.{OnOk};
+ghost use Rattle.std.specs.Prelude.{◌≡◌, ◌<◌, ◌^◌, ◌++◌, ⊤, ℕ, List, length, map, option_map};
+ghost use Rattle.std.specs.Prelude.{IfOk, IfSome, OnOk};
 ghost use Rattle.std.specs.Int.{to_be_bytes, w32, w64};
-ghost use Rattle.std.specs.List.{All, AllByRecursion};
+ghost use Rattle.std.specs.List.{All, AllByRecursion, flat_map};
 ghost use Rattle.cyc_token.specs.Token.{token_view};
 ghost use Rattle.news_terms.specs.Token.{IsToken, token_octets};
-ghost use Rattle.id_history.specs.History.{fate_octets, id_octets, ids_octets, tokens_octets};
-ghost use Rattle.id_history.specs.History.{feed_octets, feeds_octets, positions_octets, mark};
+ghost use Rattle.news_terms.specs.Token as terms;
+ghost use Rattle.id_history.specs.History.{fate_octets, id_octets, ids_octets, feed_octets, mark};
 ghost use Rattle.id_history.specs.History.{history_octets, PositionFits, FeedFits, IdFits, Fits};
+ghost use Rattle.id_history.specs.History as kept;
 ghost use Rattle.id_history.specs.Room.{HasRoom};
 ghost use Rattle.id_history.specs.Views.{id_view, feed_view, history_view};
 
@@ -24,29 +25,65 @@ pub fn write(alloc: Global, history: &History) -> Result<Vec<u8>, AllocError>
     // Each part has room in the text, so that it can be read again.
     ensures fits { IfOk result (λ text. Fits (history_view history.now)) }
 {
-    let mut out = Vec::new(alloc);
-    put_numbers(&mut out, history.stop, history.newest)?;
-    put_positions(&mut out, &history.positions)?;
-    put_feeds(&mut out, &history.feeds)?;
+    let mut out = begun(alloc, history.stop, history.newest)?;
+    put_counted(&mut out, &history.positions)?;
+    put_counted(&mut out, &history.feeds)?;
     put_ids(&mut out, &history.ids)?;
     Ok(out)
 }
 
 /// The mark, and the numbers of the stop and of the newest session.
-fn put_numbers(out: &mut Vec<u8>, stop: u64, newest: u64) -> Result<(), AllocError>
-    ensures { OnOk result (out.new.items
-        ≡ out.old.items ++ (mark ++ to_be_bytes w64 stop ++ to_be_bytes w64 newest)) }
+fn begun(alloc: Global, stop: u64, newest: u64) -> Result<Vec<u8>, AllocError>
+    ensures { IfOk result (λ out. out.items
+        ≡ mark ++ to_be_bytes w64 stop ++ to_be_bytes w64 newest) }
 {
-    out.extend_from_slice(&MARK)?;
-    put64(out, stop)?;
-    put64(out, newest)
+    [
+        MARK.as_slice(),
+        stop.to_be_bytes().as_slice(),
+        newest.to_be_bytes().as_slice(),
+    ]
+    .concat(alloc)
+}
+
+/// A kind of which a history has many, one after the other.
+trait Writable {
+    // What one says.
+    ghost Said: { Type 0 };
+
+    // A value that says this.
+    ghost said: { Self → Said };
+
+    // Its octets.
+    ghost octets: { Said → List ℕ };
+
+    // Each part has room in the text.
+    ghost Fits: { Said → Type 0 };
+
+    // What is no part of its type: that the number of what it lists has room.
+    ghost HasRoom: { Self → Type 0 };
+
+    /// Puts the octets of one behind the others.
+    fn put(&self, out: &mut Vec<u8>) -> Result<(), AllocError>
+        requires { HasRoom self.now }
+        ensures octets { OnOk result (out.new.items ≡ out.old.items ++ octets (said self.now)) }
+        ensures fits { OnOk result (Fits (said self.now)) };
 }
 
 /// A number of four octets.
-fn put32(out: &mut Vec<u8>, number: u32) -> Result<(), AllocError>
-    ensures { OnOk result (out.new.items ≡ out.old.items ++ to_be_bytes w32 number) }
-{
-    out.extend_from_slice(&number.to_be_bytes())
+impl Writable for u32 {
+    ghost Said = { ℕ };
+
+    ghost said = { λ number. number };
+
+    ghost octets = { to_be_bytes w32 };
+
+    ghost Fits = { PositionFits };
+
+    ghost HasRoom = { λ number. ⊤ };
+
+    fn put(&self, out: &mut Vec<u8>) -> Result<(), AllocError> {
+        out.extend_from_slice(&self.to_be_bytes())
+    }
 }
 
 /// A number of eight octets.
@@ -56,96 +93,106 @@ fn put64(out: &mut Vec<u8>, number: u64) -> Result<(), AllocError>
     out.extend_from_slice(&number.to_be_bytes())
 }
 
-/// The positions, after their number.
-fn put_positions(out: &mut Vec<u8>, positions: &[u32]) -> Result<(), AllocError>
-    requires { length positions.now < 2 ^ 32 }
+/// Those of a kind.
+fn put_all<T: Writable>(out: &mut Vec<u8>, all: &[T]) -> Result<(), AllocError>
+    requires { All T.HasRoom all.now }
     ensures octets { OnOk result
-        (out.new.items ≡ out.old.items ++ positions_octets positions.now) }
-    ensures fits { OnOk result (AllByRecursion PositionFits positions.now) }
+        (out.new.items ≡ out.old.items ++ flat_map T.octets (map T.said all.now)) }
+    ensures fits { OnOk result (AllByRecursion T.Fits (map T.said all.now)) }
 {
-    put32(out, positions.len() as u32)?;
-    for position in positions {
-        put32(out, *position)?;
+    for one in all {
+        one.put(out)?;
     }
     Ok(())
 }
 
-/// The feeds, after their number.
-fn put_feeds(out: &mut Vec<u8>, feeds: &[KeptFeed]) -> Result<(), AllocError>
-    requires number { length feeds.now < 2 ^ 32 }
-    requires waiting { All (λ (feed : KeptFeed). length feed.waiting.items < 2 ^ 32) feeds.now }
-    ensures octets { OnOk result
-        (out.new.items ≡ out.old.items ++ feeds_octets (map feed_view feeds.now)) }
-    ensures fits { OnOk result (AllByRecursion FeedFits (map feed_view feeds.now)) }
+/// Those of a kind, after their number of four octets.
+fn put_counted<T: Writable>(out: &mut Vec<u8>, all: &[T]) -> Result<(), AllocError>
+    requires number { length all.now < 2 ^ 32 }
+    requires room { All T.HasRoom all.now }
+    ensures octets { OnOk result (out.new.items ≡ out.old.items
+        ++ (to_be_bytes w32 (length (map T.said all.now))
+        ++ flat_map T.octets (map T.said all.now))) }
+    ensures fits { OnOk result (AllByRecursion T.Fits (map T.said all.now)) }
 {
-    put32(out, feeds.len() as u32)?;
-    for feed in feeds {
-        put_feed(out, feed)?;
+    match (all.len() as u32).put(out) {
+        Ok(()) => put_all(out, all),
+        Err(error) => Err(error),
     }
-    Ok(())
 }
 
 /// A feed.
-fn put_feed(out: &mut Vec<u8>, feed: &KeptFeed) -> Result<(), AllocError>
-    requires { length feed.now.waiting.items < 2 ^ 32 }
-    ensures octets { OnOk result
-        (out.new.items ≡ out.old.items ++ feed_octets (feed_view feed.now)) }
-    ensures fits { OnOk result (FeedFits (feed_view feed.now)) }
-{
-    put64(out, feed.gained)?;
-    put64(out, feed.passed)?;
-    put64(out, feed.taken)?;
-    put_tokens(out, &feed.waiting)
-}
+impl Writable for KeptFeed {
+    ghost Said = { kept.KeptFeed };
 
-/// The tokens, after their number.
-fn put_tokens(out: &mut Vec<u8>, tokens: &[Token]) -> Result<(), AllocError>
-    requires { length tokens.now < 2 ^ 32 }
-    ensures octets { OnOk result
-        (out.new.items ≡ out.old.items ++ tokens_octets (map token_view tokens.now)) }
-    ensures fits { OnOk result (AllByRecursion IsToken (map token_view tokens.now)) }
-{
-    put32(out, tokens.len() as u32)?;
-    for token in tokens {
-        put_token(out, *token)?;
+    ghost said = { feed_view };
+
+    ghost octets = { feed_octets };
+
+    ghost Fits = { FeedFits };
+
+    ghost HasRoom = { λ feed. length feed.waiting.items < 2 ^ 32 };
+
+    fn put(&self, out: &mut Vec<u8>) -> Result<(), AllocError> {
+        let counts = [
+            self.gained.to_be_bytes(),
+            self.passed.to_be_bytes(),
+            self.taken.to_be_bytes(),
+        ];
+        match out.extend_from_slice(counts.as_flattened()) {
+            Ok(()) => put_counted(out, &self.waiting),
+            Err(error) => Err(error),
+        }
     }
-    Ok(())
 }
 
 /// A token.
-fn put_token(out: &mut Vec<u8>, token: Token) -> Result<(), AllocError>
-    ensures octets { OnOk result
-        (out.new.items ≡ out.old.items ++ token_octets (token_view token)) }
-    ensures fits { OnOk result (IsToken (token_view token)) }
-{
-    out.extend_from_slice(&[token.class, token.buffer])?;
-    put32(out, token.cycle)?;
-    put32(out, token.first)?;
-    put32(out, token.length)
+impl Writable for Token {
+    ghost Said = { terms.Token };
+
+    ghost said = { token_view };
+
+    ghost octets = { token_octets };
+
+    ghost Fits = { IsToken };
+
+    ghost HasRoom = { λ token. ⊤ };
+
+    fn put(&self, out: &mut Vec<u8>) -> Result<(), AllocError> {
+        out.extend_from_slice(&self.octets())
+    }
 }
 
-/// The message-ids, after their number.
+/// The message-ids, after their number of eight octets.
 fn put_ids(out: &mut Vec<u8>, ids: &[KeptId]) -> Result<(), AllocError>
     ensures octets { OnOk result
         (out.new.items ≡ out.old.items ++ ids_octets (map id_view ids.now)) }
     ensures fits { OnOk result (AllByRecursion IdFits (map id_view ids.now)) }
 {
-    put64(out, ids.len() as u64)?;
-    for one in ids {
-        put_id(out, one)?;
+    match put64(out, ids.len() as u64) {
+        Ok(()) => put_all(out, ids),
+        Err(error) => Err(error),
     }
-    Ok(())
 }
 
 /// A message-id, with what became of it.
-fn put_id(out: &mut Vec<u8>, one: &KeptId) -> Result<(), AllocError>
-    ensures octets { OnOk result (out.new.items ≡ out.old.items ++ id_octets (id_view one.now)) }
-    ensures fits { OnOk result (IdFits (id_view one.now)) }
-{
-    let octets = one.id.as_bytes();
-    out.push(octets.len() as u8)?;
-    out.extend_from_slice(octets)?;
-    put_fate(out, one.token, one.moment)
+impl Writable for KeptId {
+    ghost Said = { kept.KeptId };
+
+    ghost said = { id_view };
+
+    ghost octets = { id_octets };
+
+    ghost Fits = { IdFits };
+
+    ghost HasRoom = { λ one. ⊤ };
+
+    fn put(&self, out: &mut Vec<u8>) -> Result<(), AllocError> {
+        let octets = self.id.as_bytes();
+        out.push(octets.len() as u8)?;
+        out.extend_from_slice(octets)?;
+        put_fate(out, self.token, self.moment)
+    }
 }
 
 /// What became of a message-id.
@@ -163,7 +210,7 @@ fn put_fate(out: &mut Vec<u8>, token: Option<Token>, moment: u64) -> Result<(), 
         Some(token) => {
             out.push(2)?;
             put64(out, moment)?;
-            put_token(out, token)
+            token.put(out)
         }
     }
 }

@@ -19,8 +19,8 @@ pub returns-in_ok-put64-in-Some-clause-octets : goal.returns-in_ok-put64-in-Some
 returns-in_ok-put64-in-Some-clause-octets c =
     let moment = to_be_bytes w64 c.args.moment in
     let token = token_octets (token_view c.in-Some.token) in
-    rw c.in-Some.is (on_ok_weaker c.put_token.result
+    rw c.in-Some.is (on_ok_weaker c.put.result
     (λ last. behind c.args.out.now.items (2 ∷ []) (moment ++ token)
     c.in_ok-push-in-Some.ensures.items
     (behind c.push-in-Some.new.self.items moment token c.in_ok-put64-in-Some.ensures last))
-    c.put_token.ensures.octets)
+    c.put.ensures.octets)
