@@ -126,7 +126,7 @@ impl Read for Line<'_> {
                 return Ok(0);
             }
             match self.stream.read(buf) {
-                Err(error) if is_wait(&error) => {}
+                Err(error) if is_late(&error) => {}
                 answer => return answer,
             }
         }
@@ -146,7 +146,7 @@ impl Write for Line<'_> {
                     .set_write_timeout(Some(Duration::from_millis(LATE_PART)))?;
             }
             match self.stream.write(buf) {
-                Err(error) if is_wait(&error) && !self.stop.is_asked() => {}
+                Err(error) if is_late(&error) && !self.stop.is_asked() => {}
                 answer => return answer,
             }
         }
@@ -159,9 +159,11 @@ impl Write for Line<'_> {
 }
 
 /// Whether a part of a wait has passed, and nothing came or went.
+fn is_late(error: &io::Error) -> bool {
+    matches!(error.kind(), ErrorKind::WouldBlock | ErrorKind::TimedOut)
+}
+
+/// Whether a part of a wait has passed, or a signal came first.
 pub(crate) fn is_wait(error: &io::Error) -> bool {
-    matches!(
-        error.kind(),
-        ErrorKind::WouldBlock | ErrorKind::TimedOut | ErrorKind::Interrupted
-    )
+    is_late(error) || error.kind() == ErrorKind::Interrupted
 }
