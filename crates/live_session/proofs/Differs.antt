@@ -25,6 +25,15 @@ rests-held is = cc
 pub memory-held : turned.Memory ≢ turned.Held
 memory-held is = cc
 
+pub memory-says : (octets : Vec ℕ) → turned.Memory ≢ turned.Says octets
+memory-says octets is = cc
+
+pub rests-says : (octets : Vec ℕ) → turned.Rests ≢ turned.Says octets
+rests-says octets is = cc
+
+pub held-says : (octets : Vec ℕ) → turned.Held ≢ turned.Says octets
+held-says octets is = cc
+
 pub held-spent : finishes.Held ≢ finishes.TurnsSpent
 held-spent is = cc
 

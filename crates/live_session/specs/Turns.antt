@@ -1,19 +1,22 @@
 -- What a turn of a session comes to. No public contract cites it.
-use Rattle.std.specs.Prelude.{◌≡◌, ◌≢◌, true, false, List, [], Some, is_some}
+use Rattle.std.specs.Prelude.{ℕ, ◌≡◌, ◌≢◌, true, false, List, [], None, Some, is_some}
+use Rattle.std.specs.Global.{Vec}
 use Rattle.live_jobs.specs.Seats.{IsSeatOf, end_of}
 use Rattle.live_jobs.specs.declared.channel.JobChannel.{JobChannel}
 use Rattle.live_session.specs.Carried.{Carried, Lasts, LastsOrHeld, Refusal, ServesOn}
+use Rattle.live_session.specs.Commands.{WasAsked, WasLetIn, newest_in}
 use Rattle.live_session.specs.Counts.{most_turns, turns_in}
 use Rattle.live_session.specs.Going.{HearsAnswer, KeepsButSession, KeepsPlace, LetsGo, SharesFor}
 use Rattle.live_session.specs.Going.{StaysSame, WentOn, said_in}
 use Rattle.live_session.specs.declared.commands.Command.{Command}
+use Rattle.live_session.specs.declared.commands.Commands.{Commands}
 use Rattle.live_session.specs.declared.counts.Counts.{Counts}
 use Rattle.live_session.specs.declared.live.LiveSession.{LiveSession}
 use Rattle.live_session.specs.declared.live.Turned.{Turned}
 use Rattle.live_session.specs.declared.live.Turned.TheVariants as turns
 use Rattle.live_session.specs.declared.wire.Finish.TheVariants as finishes
 use Rattle.live_store.specs.declared.record.StorePremises.{Ghosts}
-use Rattle.peer_session.specs.Session.{session_view}
+use Rattle.peer_session.specs.Session.{reads_command, session_view}
 use Rattle.peer_session.specs.declared.steps.Answer.{Answer}
 use Rattle.peer_session.specs.declared.steps.Answer.TheVariants as answers
 use Rattle.peer_session.specs.declared.steps.Step.{Step}
@@ -53,14 +56,19 @@ pub record HasHeard {J : Type 0} {g : Ghosts J} (old : LiveSession J g) (answer 
   pub let_in : turned ≢ turns.Held
 
 -- a turn was had or not: the session went on by what it said, on the same seat, and it is held only
--- where the gate said no
-pub record HadTurn {J : Type 0} {g : Ghosts J} (w : Terms) (refuses : Command → Type 0)
-    (channels : List JobChannel) (old new : LiveSession J g) (turned : Turned)
+-- where the gate said no; else the newest command was let in, and where it said something of a
+-- command that is the next one
+pub record HadTurn {J : Type 0} {g : Ghosts J} (w : Terms) (refuses admits : Command → Type 0)
+    (channels : List JobChannel) (old new : LiveSession J g) (commands commands' : Commands)
+    (turned : Turned)
     : Type 0 where
   pub seat : IsSeatOf channels new.seat
   pub end : end_of new.seat ≡ end_of old.seat
   pub went : WentOn w old (said_in turned) new
   pub held : turned ≡ turns.Held → Refusal refuses
+  pub newest : turned ≢ turns.Held → WasLetIn admits (newest_in commands')
+  pub asked : (said : Vec ℕ) → turned ≡ turns.Says said
+      → WasAsked (reads_command old.session.phase) commands commands'
 
 -- turns were had, each with its reply, or what waits was written and the session read: its
 -- connection carries them on, on the same seat
@@ -72,13 +80,15 @@ pub record Conversed {J : Type 0} {g : Ghosts J} (w : Terms) (refuses : Command 
   pub served : ServesOn w old new before after
   pub ends : LastsOrHeld refuses before.finish after.finish
 
--- the same of one turn, which isn't counted
-pub record HadRound {J : Type 0} {g : Ghosts J} (w : Terms) (refuses : Command → Type 0)
+-- the same of one turn, which isn't counted; the newest command was let in where the session goes
+-- on
+pub record HadRound {J : Type 0} {g : Ghosts J} (w : Terms) (refuses admits : Command → Type 0)
     (channels : List JobChannel) (old new : LiveSession J g) (before after : Carried)
-    (counts counts' : Counts)
+    (counts counts' : Counts) (commands : Commands)
     : Type 0 where
   pub conversed : Conversed w refuses channels old new before after
   pub turns : turns_in counts' ≡ turns_in counts
+  pub newest : after.finish ≡ None → WasLetIn admits (newest_in commands)
 
 -- a session read, where it reads: its connection carries that on, and no turn is counted
 pub record HasRead {J : Type 0} {g : Ghosts J} (old new : LiveSession J g) (before after : Carried)

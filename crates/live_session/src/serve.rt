@@ -5,6 +5,7 @@ ghost use Rattle.article_verdict.specs.Config.{terms_of};
 ghost use Rattle.live_jobs.specs.Seats.{IsSeatOf, count_of, end_of};
 ghost use Rattle.live_session.specs.Carried.{Begins, CarriesSame, IsFormed, IsServed, IsServedBy};
 ghost use Rattle.live_session.specs.Carried.{Lasts, Refusal, ServesOn, carried};
+ghost use Rattle.live_session.specs.Commands.{WasLetIn, newest_in};
 ghost use Rattle.live_session.specs.Counts.{most_turns, turns_in};
 ghost use Rattle.live_session.specs.Going.{hands_at};
 ghost use Rattle.live_session.specs.Turns.{Conversed, HadRound, HasRead, ServedThrough};
@@ -288,12 +289,13 @@ fn round<S: Shares<J, R>, C: Clock, G: Gate<R>, J: StorePremises, H: Hears, W: S
 )
     requires register { context.now.register.now ≡ J.register }
     requires seat { IsSeatOf context.now.channels.now talk.old.live.seat }
+    requires newest { WasLetIn (G.admits context.now.gate.now) (newest_in commands.old) }
     ensures { HadRound (terms_of context.now.config.now) (G.refuses context.now.gate.now)
-        context.now.channels.now talk.old.live talk.new.live
+        (G.admits context.now.gate.now) context.now.channels.now talk.old.live talk.new.live
         (carried (H.heard talk.old.wire.reader) (W.said talk.old.wire.writer)
         talk.old.wire.outbox talk.old.wire.finish)
         (carried (H.heard talk.new.wire.reader) (W.said talk.new.wire.writer)
-        talk.new.wire.outbox talk.new.wire.finish) talk.old.counts talk.new.counts }
+        talk.new.wire.outbox talk.new.wire.finish) talk.old.counts talk.new.counts commands.new }
 {
     match turn(rt, alloc, context, &mut talk.live, commands) {
         Turned::Says(said) => {
@@ -321,6 +323,8 @@ fn write_on<G: Gate<R>, H: Hears, W: Says, R>(
     wire: &mut Wire<H, W>,
     newest: Option<Command>,
 )
+    requires newest { WasLetIn (G.admits gate.now) newest }
+    ensures written { G.one_by_one gate.now ≡ true → wire.new.outbox.items ≡ [] }
     ensures same { CarriesSame
         (carried (H.heard wire.old.reader) (W.said wire.old.writer) wire.old.outbox wire.old.finish)
         (carried (H.heard wire.new.reader) (W.said wire.new.writer)

@@ -84,21 +84,30 @@ pub trait Clock {
 
 /// What lets commands in, one by one, and is told of sessions.
 pub trait Gate<R> {
-    ghost use Rattle.std.specs.Prelude.{◌≡◌, false};
+    ghost use Rattle.std.specs.Prelude.{◌≡◌, Bool, false, true};
     ghost use Rattle.live_session.specs.declared.commands.Command.{Command};
 
     /// What is so of a command to which it says no.
     ghost refuses: { Self → Command → Type 0 };
 
+    /// What is so of a command that it lets in.
+    ghost admits: { Self → Command → Type 0 };
+
+    /// Whether it lets commands in one by one.
+    ghost one_by_one: { Self → Bool };
+
     /// Before a command of a session: whether it may go on. It may wait.
     fn enter(&self, rt: &R, command: Command) -> bool
-        ensures { result ≡ false → ∥ refuses self.now command ∥₁ };
+        ensures no { result ≡ false → ∥ refuses self.now command ∥₁ }
+        ensures yes { result ≡ true → ∥ admits self.now command ∥₁ };
 
     /// Whether each reply is written before the next command is let in, so that `leave` tells it.
-    fn is_one_by_one(&self) -> bool;
+    fn is_one_by_one(&self) -> bool
+        ensures { result ≡ one_by_one self.now };
 
-    /// After the reply of the newest command of a session was written.
-    fn leave(&self, rt: &R, command: Command);
+    /// After the reply of the newest command of a session was written, which was let in.
+    fn leave(&self, rt: &R, command: Command)
+        requires { ∥ admits self.now command ∥₁ };
 
     /// A session of a peer begins.
     fn opened(&self, _rt: &R, _peer: usize, _session: u64) {}

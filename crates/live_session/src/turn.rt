@@ -1,8 +1,9 @@
 //! A turn: the session plans, its step is done, and it hears the answer.
-ghost use Rattle.std.specs.Prelude.{◌≡◌, ◌≢◌, ◌≤◌, [], false};
+ghost use Rattle.std.specs.Prelude.{◌≡◌, ◌≢◌, ◌≤◌, [], false, true};
 ghost use Rattle.article_verdict.specs.Config.{terms_of};
 ghost use Rattle.live_jobs.specs.Seats.{IsSeatOf, end_of};
 ghost use Rattle.live_session.specs.Carried.{Refusal};
+ghost use Rattle.live_session.specs.Commands.{WasAsked, WasLetIn, newest_in};
 ghost use Rattle.live_session.specs.Going.{KeepsButSession, LetsGo};
 ghost use Rattle.live_session.specs.Going.{TakesPlanned, said_in};
 ghost use Rattle.live_session.specs.Turns.{HadTurn, HasHeard};
@@ -28,8 +29,10 @@ pub(crate) fn turn<S: Shares<J, R>, C: Clock, G: Gate<R>, J: StorePremises, R: W
 ) -> Turned
     requires register { context.now.register.now ≡ J.register }
     requires seat { IsSeatOf context.now.channels.now live.old.seat }
+    requires newest { WasLetIn (G.admits context.now.gate.now) (newest_in commands.old) }
     ensures { HadTurn (terms_of context.now.config.now) (G.refuses context.now.gate.now)
-        context.now.channels.now live.old live.new result }
+        (G.admits context.now.gate.now) context.now.channels.now live.old live.new commands.old
+        commands.new result }
 {
     let at_command = live.session.is_at_command();
     let now = context.clock.now();
@@ -40,7 +43,7 @@ pub(crate) fn turn<S: Shares<J, R>, C: Clock, G: Gate<R>, J: StorePremises, R: W
         give_up(live, step);
         return Turned::Rests;
     }
-    if at_command && !is_let_in(rt, context.gate, commands) {
+    if !is_let_in(rt, context.gate, commands, at_command) {
         give_up(live, step);
         return Turned::Held;
     }
@@ -85,10 +88,16 @@ fn give_up<J: StorePremises>(live: &mut LiveSession<J>, step: Step)
     forget(live);
 }
 
-/// Whether the gate lets the next command in.
-fn is_let_in<G: Gate<R>, R>(rt: &R, gate: &G, commands: &mut Commands) -> bool
-    ensures { result ≡ false → Refusal (G.refuses gate.now) }
+/// Whether the session may go on: where it is at a command, whether the gate lets that in.
+fn is_let_in<G: Gate<R>, R>(rt: &R, gate: &G, commands: &mut Commands, at_command: bool) -> bool
+    requires newest { WasLetIn (G.admits gate.now) (newest_in commands.old) }
+    ensures no { result ≡ false → Refusal (G.refuses gate.now) }
+    ensures yes { result ≡ true → WasLetIn (G.admits gate.now) (newest_in commands.new) }
+    ensures asked { WasAsked at_command commands.old commands.new }
 {
+    if !at_command {
+        return true;
+    }
     let command = commands.next();
     gate.enter(rt, command)
 }

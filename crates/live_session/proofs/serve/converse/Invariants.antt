@@ -1,6 +1,7 @@
-use Rattle.std.proofs.Common.{◌≡◌}
+use Rattle.std.proofs.Common.{◌≡◌, None}
 use Rattle.article_verdict.specs.Config.{terms_of}
 use Rattle.live_session.specs.Carried.{carried}
+use Rattle.live_session.specs.Commands.{WasLetIn, newest_in}
 use Rattle.live_session.specs.Counts.{turns_in}
 use Rattle.live_session.specs.Turns.{Conversed}
 use Rattle.live_session.proofs.serve.converse.Given as goal
@@ -14,4 +15,6 @@ invariant-loop g l = record {
       (carried (g.H.Hears.heard l.talk.wire.reader) (g.W.Says.said l.talk.wire.writer)
       l.talk.wire.outbox l.talk.wire.finish);
   turns : turns_in l.talk.counts ≡ l.counter;
+  newest : l.talk.wire.finish ≡ None
+      → WasLetIn (g.G.Gate.admits l.context.gate.now) (newest_in l.commands);
 }

@@ -3,7 +3,7 @@ use Rattle.article_verdict.specs.Config.{terms_of}
 use Rattle.live_jobs.specs.Seats.{IsSeatOf, end_of}
 use Rattle.live_jobs.specs.declared.session.SessionSeat.{SessionSeat}
 use Rattle.live_session.proofs.Carrying.{lasts_broken, lasts_on, stopped_for, stopped_over}
-use Rattle.live_session.proofs.Differs.{held-spent}
+use Rattle.live_session.proofs.Differs.{held-spent, memory-held, rests-held, says-held}
 use Rattle.live_session.proofs.LiveSessions.{served_still, served_turn, then_on, then_same}
 use Rattle.live_session.proofs.serve.round.Goals as goal
 use Rattle.live_session.specs.Carried.{carried}
@@ -25,8 +25,9 @@ returns-in-Says g c =
     let after = carried (g.H.Hears.heard last.reader) (g.W.Says.said last.writer) last.outbox
     last.finish in
     subst (λ l. HadRound w (g.G.Gate.refuses c.args.context.now.gate.now)
-    c.args.context.now.channels.now live l before after c.args.talk.now.counts
-    c.say.new.talk.counts) (sym c.say.ensures.live)
+    (g.G.Gate.admits c.args.context.now.gate.now) c.args.context.now.channels.now live l before
+    after c.args.talk.now.counts c.say.new.talk.counts c.turn.new.commands)
+    (sym c.say.ensures.live)
     (record {
       conversed = record {
         seat = c.turn.ensures.seat;
@@ -39,6 +40,7 @@ returns-in-Says g c =
             c.write_on.ensures.ends;
       };
       turns = c.say.ensures.turns;
+      newest = λ _. c.in-Says.ensures.newest (says-held c.in-Says.said);
     })
 
 pub returns-in-Rests : goal.returns-in-Rests
@@ -67,6 +69,7 @@ returns-in-Rests g c =
             c.receive.ensures.ends;
       };
       turns = c.receive.ensures.turns ∙ c.tell.ensures.rest.1;
+      newest = λ _. c.in-Rests.ensures.newest rests-held;
     }
 
 -- the gate said no
@@ -94,6 +97,8 @@ returns-in-Held g c =
         };
       };
       turns = refl;
+      newest = λ none. absurd (stopped_over wire.finish last.finish finishes.Held
+          c.stop.ensures.finish none);
     }
 
 pub returns-in-Memory : goal.returns-in-Memory
@@ -122,4 +127,5 @@ returns-in-Memory g c =
             (lasts_broken flushed.finish last.finish c.stop-in-Memory.ensures.finish);
       };
       turns = refl;
+      newest = λ _. c.in-Memory.ensures.newest memory-held;
     }

@@ -2,9 +2,11 @@ use Rattle.std.proofs.Common.{[], ap, refl, subst, sym}
 use Rattle.article_verdict.specs.Config.{terms_of}
 use Rattle.live_jobs.specs.Seats.{IsSeatOf, end_of}
 use Rattle.live_jobs.specs.declared.session.SessionSeat.{SessionSeat}
-use Rattle.live_session.proofs.Differs.{memory-held, rests-held}
+use Rattle.live_session.proofs.Differs.{held-says, memory-held, memory-says, rests-held}
+use Rattle.live_session.proofs.Differs.{rests-says}
 use Rattle.live_session.proofs.LiveSessions.{let_go, still}
 use Rattle.live_session.proofs.turn.turn.Goals as goal
+use Rattle.live_session.specs.Commands.{WasAsked}
 
 -- memory was refused, and the session is as it was
 pub returns-in_default : goal.returns-in_default
@@ -17,6 +19,8 @@ returns-in_default g c =
       went = still w live (record live { session = c.plan.new.self }) refl refl
           (record { number = refl; end_is = refl }) (c.in_default.ensures.err w);
       held = λ e. absurd (memory-held e);
+      newest = λ _. c.requires.newest;
+      asked = λ said e. absurd (memory-says said e);
     }
 
 pub returns-then-is_resting : goal.returns-then-is_resting
@@ -34,6 +38,8 @@ returns-then-is_resting g c =
           (record { session = refl; reads = refl; hands = refl })
           (record { number = refl; end_is = refl }) c.give_up.ensures.gone c.give_up.ensures.rest;
       held = λ e. absurd (rests-held e);
+      newest = λ _. c.requires.newest;
+      asked = λ said e. absurd (rests-says said e);
     }
 
 -- the gate says no to the command
@@ -52,7 +58,9 @@ returns-then-not-is_let_in g c =
           (record { reads = refl; hands = refl; place = record { number = refl; end_is = refl } })
           (record { session = refl; reads = refl; hands = refl })
           (record { number = refl; end_is = refl }) gone.ensures.gone gone.ensures.rest;
-      held = λ e. c.is_let_in.ensures c.if-not-is_let_in.true;
+      held = λ _. c.is_let_in.ensures.no c.if-not-is_let_in.true;
+      newest = λ differs. absurd (differs refl);
+      asked = λ said e. absurd (held-says said e);
     }
 
 -- a turn that was had isn't held
@@ -64,4 +72,7 @@ returns g c = record {
       c.in-Ok.ensures.due
       (record { reads = refl; hands = refl; place = record { number = refl; end_is = refl } });
   held = λ held. absurd (c.take_planned.ensures.let_in held);
+  newest = λ _. c.is_let_in.ensures.yes c.if-not-is_let_in.false;
+  asked = λ _ _. subst (λ it. WasAsked it c.args.commands.now c.is_let_in.new.commands)
+      c.is_at_command-at_command.ensures c.is_let_in.ensures.asked;
 }
