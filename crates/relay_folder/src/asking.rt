@@ -19,8 +19,10 @@ pub fn ask<N: Net>(net: &N, alloc: Global, folder: &str, word: Word) -> io::Resu
 
 /// A connection to the relay of a folder.
 fn connect<N: Net>(net: &N, alloc: Global, folder: &str) -> io::Result<UnixStream> {
-    let path = path_in(alloc, folder, NAME)?;
-    UnixStream::connect(net, path.as_str())
+    match path_in(alloc, folder, NAME) {
+        Ok(path) => UnixStream::connect(net, path.as_str()),
+        Err(error) => Err(io::Error::from(error)),
+    }
 }
 
 /// Says the word to the relay.

@@ -86,8 +86,13 @@ impl Control {
 /// Lets the listener wait in parts of so many milliseconds. The time is the socket's own, and stays
 /// when the other descriptor of it, by which it is set, is closed.
 fn wait_in_parts(listener: &UnixListener, part: u64) -> io::Result<()> {
-    let socket = UnixStream::from(OwnedFd::from(listener.try_clone()?));
-    socket.set_read_timeout(Some(Duration::from_millis(part)))
+    match listener.try_clone() {
+        Ok(other) => {
+            let socket = UnixStream::from(OwnedFd::from(other));
+            socket.set_read_timeout(Some(Duration::from_millis(part)))
+        }
+        Err(error) => Err(error),
+    }
 }
 
 /// The word that somebody says, none where what he says is no word, or no whole one in time.

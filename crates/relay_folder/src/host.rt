@@ -96,9 +96,11 @@ impl<R: Files<File = File>> HistoryPlace for HostHistory<'_, R> {
 
     fn put_in_place(&mut self) -> io::Result<()> {
         self.written = None;
-        self.rt.rename(self.beside.as_str(), self.path.as_str())?;
-        flush_folder(self.rt, self.folder);
-        Ok(())
+        let renamed = self.rt.rename(self.beside.as_str(), self.path.as_str());
+        if renamed.is_ok() {
+            flush_folder(self.rt, self.folder);
+        }
+        renamed
     }
 }
 
@@ -109,10 +111,14 @@ fn text_at<R: Files<File = File>>(
     path: &str,
 ) -> io::Result<Option<Vec<u8>>> {
     // The opening of a pipe would wait for whoever writes it.
-    if !is_file_at(rt, path)? {
-        return Ok(None);
+    match is_file_at(rt, path) {
+        Ok(true) => match fs::read(&(rt, alloc), path) {
+            Ok(text) => Ok(Some(text)),
+            Err(error) => Err(error),
+        },
+        Ok(false) => Ok(None),
+        Err(error) => Err(error),
     }
-    Ok(Some(fs::read(&(rt, alloc), path)?))
 }
 
 /// Whether a file stands at a path, or nothing does. Anything else is the error.

@@ -37,11 +37,12 @@ pub(crate) fn listen_in<R: Files + Net>(
     folder: &str,
 ) -> io::Result<Control> {
     let path = path_in(alloc, folder, NAME)?;
-    let there = path_in(alloc, folder, THERE)?;
+    let made_at = path_in(alloc, folder, THERE)?;
+    let there = made_at.as_str();
     clear(rt, path.as_str())?;
-    leave_room(rt, there.as_str());
-    let made = listen_at(rt, there.as_str(), path.as_str());
-    leave_room(rt, there.as_str());
+    leave_room(rt, there);
+    let made = listen_at(rt, there, path.as_str());
+    leave_room(rt, there);
     made
 }
 
