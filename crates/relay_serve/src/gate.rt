@@ -123,8 +123,14 @@ fn word_of(finish: Finish) -> &'static str {
 }
 
 impl<R: Eprint> Gate<R> for CountingGate<'_> {
-    // It says no to none.
+    ghost use Rattle.std.specs.Prelude.{⊤, false};
+
+    // It says no to none, and nothing is said of one that it lets in.
     ghost refuses = { λ _ _. ⊥ };
+
+    ghost admits = { λ _ _. ⊤ };
+
+    ghost one_by_one = { λ _. false };
 
     fn enter(&self, _rt: &R, _command: Command) -> bool {
         true

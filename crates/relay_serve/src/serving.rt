@@ -241,9 +241,20 @@ where
     };
     let finished = run_watched(rt, alloc, config, beginning, access)?;
     let totals = keep_finished(history, finished)?;
+    tell_counted(rt, &totals);
     let printed = print_totals(alloc, &totals, writer);
     drop(totals);
     printed
+}
+
+/// Tells of how many kept articles the receipt was not the writer's, and how many ids were stored
+/// again, where there is any.
+fn tell_counted<R: Eprint>(rt: &R, totals: &Totals) {
+    let mismatched = totals.mismatched_receipts;
+    let again = totals.ids_stored_again;
+    if mismatched > 0 || again > 0 {
+        let _lost = eprintln!(rt; "counted mismatched={mismatched} again={again}");
+    }
 }
 
 /// Tells that the relay starts from what it was stopped with, where it does.
