@@ -1,9 +1,9 @@
 //! Rows for the octets of blocks (cyc_block). The octets of a block are a word without the zeros at
 //! its end.
 
+use crate::row_text::{Cells, Sheet, place_of};
 use crate::runs::{number, octet};
 use cyc_block::{BLOCK_OCTETS, CHUNK_OCTETS, Stamp, block_image, read_image};
-use row_text::{Cells, Sheet, place_of};
 
 /// Writes the answer of a call.
 pub fn answer(call: &[u8], cells: &Cells, sheet: &Sheet) {

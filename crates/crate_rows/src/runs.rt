@@ -1,7 +1,7 @@
 //! Walks over a text, whose answers are written in runs.
 
+use crate::row_text::{Cells, Sheet, copy_of};
 use line_words::is;
-use row_text::{Cells, Sheet, copy_of};
 use std::alloc::Global;
 
 /// What is done to a text at a place.

@@ -1,11 +1,11 @@
 //! A row for sessions (peer_session): what one says where a step of its own hears the answer to
 //! another.
 
+use crate::row_text::{Cells, Sheet, place_of};
 use id_history::{Offer, Take};
 use line_words::is;
 use peer_session::{Answer, Outcome, Session};
 use relay_conf::Config;
-use row_text::{Cells, Sheet, place_of};
 use std::hash::RandomState;
 
 /// The number of the session.

@@ -1,11 +1,11 @@
 //! The articles of a buffer. The text of an article is computed from its class and its octets.
+use crate::row_text::{Cells, Sheet};
 use crate::runs::{number, octet};
 use crate::stops::bench::Bench;
 use cyc_block::{BlockStore, CHUNK_OCTETS};
 use cyc_buffer::{BufError, Buffer, Found, Open};
 use cyc_token::Token;
 use line_words::is;
-use row_text::{Cells, Sheet};
 
 /// How an article that was begun ends.
 #[derive(Clone, Copy)]

@@ -1,9 +1,9 @@
 //! A device in memory, and the buffer that runs over it, where one does.
 
+use crate::row_text::{Cells, Sheet};
 use crate::runs::{number, octet};
 use cyc_block::{FailAt, MemoryBlocks};
 use cyc_buffer::{Buffer, FormatError, Unopened};
-use row_text::{Cells, Sheet};
 use std::mem;
 
 /// Blocks in memory, a call of which can fail.

@@ -1,11 +1,11 @@
 //! The calls and their names.
 
+use crate::row_text::{Cells, Sheet, place_of};
 use crate::runs::{Change, octet};
 use crate::stops::Stops;
 use crate::stops::articles::End;
 use crate::stops::bench::Bench;
 use crate::stops::histories::Texts;
-use row_text::{Cells, Sheet, place_of};
 
 /// The names of the calls, in the order of `answer`, but for those of a step.
 const NAMES: &str = "format zeros fail each store abandon unfinished read numbers octets put \

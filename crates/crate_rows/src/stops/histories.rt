@@ -1,13 +1,13 @@
 //! Texts of histories.
 ghost use Rattle.id_history.specs.Room.{HasRoom};
 
+use crate::row_text::{Cells, Sheet, joined};
 use crate::runs::{Change, number};
 use crate::stops::octets::octets_by;
 use crate::stops::steps::put_tokens;
 use crate::texts::{Look, walk};
 use id_history::{History, HistoryError, KeptFeed, KeptId, Setting, read, write};
 use line_words::{cut, is};
-use row_text::{Cells, Sheet, joined};
 use std::alloc::Global;
 use std::mem;
 

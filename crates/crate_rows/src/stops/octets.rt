@@ -1,12 +1,12 @@
 //! The octets of a device on which no buffer runs.
 
 use crate::blocks::{block_of, with_part, without_zeros};
+use crate::row_text::{Cells, Sheet, place_of};
 use crate::runs::{Change, Runs, changed, number, octet};
 use crate::stops::bench::Bench;
 use crate::stops::steps::{Step, start_in};
 use cyc_block::{BLOCK_OCTETS, BlockStore, head_count};
 use hex::FromHexError;
-use row_text::{Cells, Sheet, place_of};
 use std::alloc::AllocError;
 
 /// A block of a device.

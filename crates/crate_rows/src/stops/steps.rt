@@ -1,10 +1,10 @@
 //! The stops and starts of a buffer.
 
+use crate::row_text::{Cells, Sheet, place_of};
 use crate::runs::{Runs, number, octet};
 use crate::stops::bench::{Bench, Store};
 use cyc_buffer::{Buffer, Unopened};
 use cyc_token::Token;
-use row_text::{Cells, Sheet, place_of};
 use std::mem;
 
 /// A stop or a start.

@@ -1,5 +1,6 @@
 //! The calls of `article_parse`, `path_rules`, `article_fetch` and `date_rules`.
 
+use crate::row_text::Sheet;
 use crate::runs::Change;
 use crate::texts::lines::{put_first, put_made, put_some};
 use crate::texts::walks::{Look, walk};
@@ -7,7 +8,6 @@ use article_fetch::{LINE_ROOM, line, put_line};
 use article_parse::Article;
 use date_rules::judge;
 use path_rules::{identities, loops, updated};
-use row_text::Sheet;
 
 /// Writes the answer of a call of a text, behind these cells.
 pub fn of_text(call: usize, first: &[u8], second: &[u8], octets: &[u8], sheet: &Sheet) {

@@ -1,9 +1,9 @@
 //! The calls and their names.
 
+use crate::row_text::{Cells, Sheet, joined, place_of};
 use crate::texts::articles::of_text;
 use crate::texts::lines::{of_line, of_two};
 use crate::texts::streams::of_pieces;
-use row_text::{Cells, Sheet, joined, place_of};
 
 /// The names of the calls, each of which is answered by its place: up to `stamp` those of one cell,
 /// up to `judge` of two, up to `cut_in_two` of the pieces of a stream; the others are of the parts

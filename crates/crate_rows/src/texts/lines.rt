@@ -1,5 +1,6 @@
 //! The calls of `nntp_text` and `uwild`, and those of the other crates that take one content.
 
+use crate::row_text::Sheet;
 use crate::runs::Change;
 use crate::texts::articles::put_identities;
 use crate::texts::walks::{Look, put_look, walk};
@@ -7,7 +8,6 @@ use article_parse::{is_blank, unfolded};
 use date_rules::{seconds, stamp};
 use nntp_text::MsgId;
 use path_rules::loops;
-use row_text::Sheet;
 use std::alloc::AllocError;
 use stream_cut::stuff;
 use uwild::Expr;

@@ -1,8 +1,8 @@
 //! The calls of `stream_cut`.
 
+use crate::row_text::{Cells, Sheet, add_octets};
 use crate::runs::Change;
 use crate::texts::walks::{Look, walk};
-use row_text::{Cells, Sheet, add_octets};
 use stream_cut::{Block, Cut, Want, cut_all};
 
 /// Writes the answer of a call of pieces, which come behind a limit and what is wanted: what is cut

@@ -1,12 +1,12 @@
 //! Walks over a text.
 
+use crate::row_text::{Sheet, add_octets};
 use crate::runs::{Change, Runs, changed};
 use crate::stops::put_kept;
 use crate::texts::articles::{put_front_line, put_reading};
 use crate::texts::streams::put_cuts;
 use id_history::Setting;
 use nntp_text::Command;
-use row_text::{Sheet, add_octets};
 use uwild::Expr;
 
 /// What is looked at in a walk.

@@ -1,6 +1,0 @@
-use Rattle.std.proofs.Common.{length}
-use Rattle.line_words.specs.Parts.{parts_after}
-use Rattle.relay_rows.proofs.threads.relay.figures.count_codes.Given as goal
-
-abbrev pub decreases-loop-unread : goal.decreases-loop-unread
-decreases-loop-unread l = length (parts_after 10 l.unread)

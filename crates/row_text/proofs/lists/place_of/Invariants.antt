@@ -1,6 +1,0 @@
-use Rattle.std.proofs.Common.{length}
-use Rattle.line_words.specs.Parts.{parts_after}
-use Rattle.row_text.proofs.lists.place_of.Given as goal
-
-abbrev pub decreases-loop-unread : goal.decreases-loop-unread
-decreases-loop-unread l = length (parts_after 32 l.unread)
