@@ -43,9 +43,9 @@ def block(one, octets, group="misc.test"):
     return article(one, octets, group=group) + ".\r\n"
 
 
-def kept(one, octets, peer="p1"):
+def kept(one, octets, peer="p1", group="misc.test"):
     """The article as it is kept from a peer."""
-    return article(one, octets, BEFORE[peer])
+    return article(one, octets, BEFORE[peer], group)
 
 
 TEXTS = {

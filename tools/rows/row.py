@@ -7,10 +7,11 @@ import resource
 import shutil
 import socket
 import time
-from collections import namedtuple
+from collections import Counter, namedtuple
 
 from peers import GREETING, NOBODY, TEXTS, Client, Started, Taken, Wrong, cut_to, listening
 from plays import PLAYS
+from shared import Shared
 
 K1 = {
     "cycbuff.conf": ["cycbuff:A:a.buf:4", "metacycbuff:G:A"],
@@ -39,6 +40,9 @@ EVENT = re.compile(r"(serving|starting|closed|failed|waiting)( \w+=\S*)+|stoppin
 FILES = ("file", "folder", "pipe", "link", "symlink", "mode", "cut", "poke", "remove", "missing",
          "holds")
 
+# The lines that set something of the program while it runs.
+SHARES = ("clock", "stall", "stalled", "release", "fails", "peers")
+
 # The users of programs that may have a few threads alone: each program has one of its own, since the
 # system counts a user's.
 USERS = itertools.count(61_000 + os.getpid() % 3_000)
@@ -61,8 +65,13 @@ class Row:
         self.user, self.limit, self.threads, self.held, self.pipe = None, None, None, [], None
         # The standard streams that are closed, and whether standard output is a full pipe.
         self.closed, self.is_full = [], False
-        # What is set for the library that makes faults.
-        self.faults = {}
+        # What is set for the library that makes faults, and what the program shares with it.
+        self.faults, self.shared = {}, None
+        if any(line.partition(" ")[0] in SHARES for _, line, _ in steps):
+            self.shared = Shared(folder / "shared")
+            self.make_fault(ROWS_SHARED=str(self.shared.path))
+        # How many lines that clients were sent had which code.
+        self.codes = Counter()
         self.sending = {}
         # What its last line `-- ` said, and the last check.
         self.at, self.told = "", ""
@@ -207,6 +216,31 @@ class Row:
     def make_fault(self, **how):
         """Programs meet this fault from here on."""
         self.faults = {**self.faults, **how, "LD_PRELOAD": str(self.given.library)}
+
+    def share(self, name, rest):
+        """Sets something of the program."""
+        word, _, more = rest.partition(" ")
+        if name == "clock":
+            self.shared.set(clock=int(rest) + 1)
+        elif name == "stall":
+            self.shared.stall(word, more)
+        elif name == "stalled":
+            self.see_stalled()
+        elif name == "release":
+            self.shared.release()
+        elif name == "fails":
+            self.shared.set(fails=int(rest))
+        else:
+            takes = int(more) + 1 if more else 0
+            self.shared.set(takes=takes, breaks=word == "break", octets=word == "octets")
+
+    def see_stalled(self):
+        """A call that has to wait has come."""
+        end = time.monotonic() + self.given.patience
+        while not self.shared.get("stalled"):
+            if time.monotonic() > end:
+                raise Wrong(f"nothing waits after {self.given.patience} seconds")
+            time.sleep(0.001)
 
     def start(self, name, words):
         """Starts the program under this name."""
@@ -381,6 +415,8 @@ class Row:
         elif word == "<":
             octets = self.octets(rest)
             client.expect(octets if octets.endswith(b"\n") else octets + b"\r\n")
+        elif word == "counts":
+            self.codes.update(client.line()[:3].decode() for _ in range(int(rest or 1)))
         elif word == "gone":
             client.gone(*(float(it) for it in rest.split("-") if it))
         elif word == "silent":
@@ -395,6 +431,11 @@ class Row:
             getattr(client, word)()
         else:
             raise Wrong(f"no line has this form: {name} {word} {rest}")
+
+    def see_times(self, times, code):
+        """So many of the counted lines had this code."""
+        if self.codes[code] != int(times):
+            raise Wrong(f"{self.codes[code]} times {code}: {dict(self.codes)}")
 
     def add(self, name, word, rest):
         """Adds to what a client sends in its next write."""
@@ -451,6 +492,10 @@ class Row:
             self.programs[""].flows()
         elif name in ("files", "octets"):
             self.may_have(name, rest)
+        elif name in SHARES:
+            self.share(name, rest)
+        elif name == "times":
+            self.see_times(*rest.split())
         elif name == "waits":
             time.sleep(float(rest))
         elif name == "serves":
