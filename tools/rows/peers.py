@@ -219,9 +219,12 @@ class Client:
             self.expect(b"239 <%s%d@x>\r\n" % (name.encode(), number))
 
     def sips(self, octets):
-        """From here on reads so many octets every fiftieth of a second, in a thread, with little room
-        for what has come."""
+        """The same as `drinks`, with little room for what has come."""
         self.socket.setsockopt(socket.SOL_SOCKET, socket.SO_RCVBUF, 4_096)
+        self.drinks(octets)
+
+    def drinks(self, octets):
+        """From here on reads so many octets every fiftieth of a second, in a thread."""
 
         def read():
             try:

@@ -425,8 +425,8 @@ class Row:
             client.streams(*rest.split(" "))
         elif word == "streamed":
             self.counts[name] = client.streamed()
-        elif word == "sips":
-            client.sips(int(rest))
+        elif word in ("sips", "drinks"):
+            getattr(client, word)(int(rest))
         elif word in ("ended", "unheard", "closes", "shuts", "resets"):
             getattr(client, word)()
         else:
