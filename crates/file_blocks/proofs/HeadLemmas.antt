@@ -66,21 +66,6 @@ other_heads n k place old new h at c =
     (drop (n * BLOCK_OCTETS) new) (head_within n k old h) refl
     (head_change n k place old new at c)
 
--- a change at the place of a block leaves the head blocks as they are
-pub heads_stay : (n k place : ℕ) (old new : List ℕ) → k < length (blocks_of n old)
-    → place ≡ k * BLOCK_OCTETS → ChangesOnlyAt place old new → heads_of n new ≡ heads_of n old
-heads_stay n k place old new h at c =
-    let end = n * BLOCK_OCTETS in
-    let block_end = place + BLOCK_OCTETS in
-    let e : block_end + (end - block_end) ≡ end = omega (arith, at, within n k old h) in
-    let rest : drop end new ≡ drop end old =
-    sym (ap (λ p. drop p new) e)
-    ∙ sym (drop-drop (end - block_end) block_end new)
-    ∙ ap (λ (octets : List ℕ). drop (end - block_end) octets) c.behind
-    ∙ drop-drop (end - block_end) block_end old
-    ∙ ap (λ p. drop p old) e in
-    ap (blocks_of (head_blocks n)) rest
-
 -- a change at the place of a head block leaves the blocks as they are
 pub blocks_stay : (n k place : ℕ) (old new : List ℕ)
     → place ≡ n * BLOCK_OCTETS + k * BLOCK_OCTETS → ChangesOnlyAt place old new

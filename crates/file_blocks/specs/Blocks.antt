@@ -1,11 +1,12 @@
 -- The blocks of a file, by its octets (docs/FORMATS.md, Blocks on the device, Head blocks).
-use Rattle.std.specs.Prelude.{◌≡◌, ◌+◌, ◌*◌, ℕ, zero, suc, List, [], ◌∷◌, All, take, drop}
+use Rattle.std.specs.Prelude.{◌≡◌, ◌*◌, ℕ, zero, suc, List, [], ◌∷◌, All, drop}
 use Rattle.cyc_block.specs.declared.TheConstants.{BLOCK_OCTETS}
 use Rattle.news_terms.specs.HeadBlocks.{head_blocks}
+use Rattle.file_blocks.specs.File.{octets_in, ChangesOnlyIn}
 
 -- the 512 octets at a place, fewer where the octets end before
 abbrev pub octets_at : List ℕ → (place : ℕ) → List ℕ
-octets_at octets place = take BLOCK_OCTETS (drop place octets)
+octets_at octets place = octets_in octets place BLOCK_OCTETS
 
 -- octets cut into so many blocks, one behind the other
 unfoldable pub blocks_of : ℕ → List ℕ → List (List ℕ)
@@ -23,6 +24,5 @@ IsBlank n octets = All (λ octet. octet ≡ 0) (octets_at octets 0)
     × All (λ octet. octet ≡ 0) (octets_at octets (n * BLOCK_OCTETS))
 
 -- only the 512 octets at a place are others than before
-pub record ChangesOnlyAt (place : ℕ) (old new : List ℕ) : Type 0 where
-  pub before : take place new ≡ take place old
-  pub behind : drop (place + BLOCK_OCTETS) new ≡ drop (place + BLOCK_OCTETS) old
+abbrev pub ChangesOnlyAt : (place : ℕ) → (old new : List ℕ) → Type 0
+ChangesOnlyAt place old new = ChangesOnlyIn place BLOCK_OCTETS old new

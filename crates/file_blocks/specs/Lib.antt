@@ -1,3 +1,9 @@
+pub mod Asked
 pub mod Blocks
+pub mod File
+pub mod Fitted
 pub mod Host
+pub mod Overlay
+pub mod Run
 pub mod Store
+pub mod Writing

@@ -5,7 +5,7 @@ ghost use Rattle.std.specs.Fs.{file_type, IsFile};
 ghost use Rattle.file_blocks.specs.declared.host.Unusable.TheVariants as unusable;
 ghost use Rattle.file_blocks.specs.Host.{asked_of, failed_in, held_identity, identity_of};
 
-use crate::octets::OctetFile;
+use crate::file::RunFile;
 use cyc_block::{BLOCK_OCTETS, DeviceFailed};
 use http_server::Log;
 use std::fs::{File, Files, Metadata, OpenOptions, TryLockError};
@@ -115,32 +115,6 @@ pub struct HostFile {
 }
 
 impl HostFile {
-    /// Reads the octets at a place, as many as the slice has.
-    pub fn read_octets(&mut self, place: u64, octets: &mut [u8]) -> Result<(), DeviceFailed>
-        // It is one call, at this place.
-        ensures asked { asked_of self.new ≡ asked_of self.old ++ (place, is_err result) ∷ [] }
-        ensures failed { OnErr result (failed_in (asked_of self.new)
-            ≡ failed_in (asked_of self.old) + 1) }
-        ensures no_failure { OnOk result (failed_in (asked_of self.new)
-            ≡ failed_in (asked_of self.old)) }
-    {
-        let answer = self.file.read_exact_at(octets, place);
-        self.answer(place, answer)
-    }
-
-    /// Writes these octets at a place.
-    pub fn write_octets(&mut self, place: u64, octets: &[u8]) -> Result<(), DeviceFailed>
-        // It is one call, at this place.
-        ensures asked { asked_of self.new ≡ asked_of self.old ++ (place, is_err result) ∷ [] }
-        ensures failed { OnErr result (failed_in (asked_of self.new)
-            ≡ failed_in (asked_of self.old) + 1) }
-        ensures no_failure { OnOk result (failed_in (asked_of self.new)
-            ≡ failed_in (asked_of self.old)) }
-    {
-        let answer = self.file.write_all_at(octets, place);
-        self.answer(place, answer)
-    }
-
     /// Has the device take all that was written.
     pub fn flush(&self) -> Result<(), DeviceFailed> {
         match self.file.sync_all() {
@@ -166,7 +140,7 @@ impl HostFile {
     }
 }
 
-impl OctetFile for HostFile {
+impl RunFile for HostFile {
     // Of a file of the machine nothing is promised, so contracts see no octet of it, and nothing
     // says that it is honest.
     ghost held = { λ file. [] };
@@ -177,7 +151,7 @@ impl OctetFile for HostFile {
 
     ghost failures = { λ file. failed_in (asked_of file) };
 
-    fn read(&mut self, place: u64, octets: &mut [u8; BLOCK_OCTETS]) -> Result<(), DeviceFailed>
+    fn read(&mut self, place: u64, octets: &mut [u8]) -> Result<(), DeviceFailed>
         // It is one call, at this place.
         ensures asked { asked_of self.new ≡ asked_of self.old ++ (place, is_err result) ∷ [] }
         ensures failed { OnErr result (failed_in (asked_of self.new)
@@ -185,10 +159,11 @@ impl OctetFile for HostFile {
         ensures no_failure { OnOk result (failed_in (asked_of self.new)
             ≡ failed_in (asked_of self.old)) }
     {
-        self.read_octets(place, octets)
+        let answer = self.file.read_exact_at(octets, place);
+        self.answer(place, answer)
     }
 
-    fn write(&mut self, place: u64, octets: &[u8; BLOCK_OCTETS]) -> Result<(), DeviceFailed>
+    fn write(&mut self, place: u64, octets: &[u8]) -> Result<(), DeviceFailed>
         // It is one call, at this place.
         ensures asked { asked_of self.new ≡ asked_of self.old ++ (place, is_err result) ∷ [] }
         ensures failed { OnErr result (failed_in (asked_of self.new)
@@ -196,7 +171,8 @@ impl OctetFile for HostFile {
         ensures no_failure { OnOk result (failed_in (asked_of self.new)
             ≡ failed_in (asked_of self.old)) }
     {
-        self.write_octets(place, octets)
+        let answer = self.file.write_all_at(octets, place);
+        self.answer(place, answer)
     }
 }
 

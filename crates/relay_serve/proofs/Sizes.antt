@@ -3,27 +3,27 @@ use Rattle.std.proofs.Common.{◌≡◌, ◌∙◌, ℕ, List, [], ◌∷◌, ap
 use Rattle.std.proofs.lemmas.List.{length-map}
 use Rattle.file_blocks.specs.Blocks.{blocks_of}
 use Rattle.file_blocks.specs.declared.host.HostFile.{HostFile}
-use Rattle.run_blocks.specs.Overlay.{overlaid}
-use Rattle.run_blocks.specs.Run.{blocks_in}
-use Rattle.run_blocks.specs.Store.{count_of}
-use Rattle.run_blocks.specs.declared.store.RunBlocks.{RunBlocks}
-use Rattle.run_blocks.proofs.SeenLemmas.{length-seen}
+use Rattle.file_blocks.specs.Overlay.{overlaid}
+use Rattle.file_blocks.specs.Run.{blocks_in}
+use Rattle.file_blocks.specs.Store.{count_of}
+use Rattle.file_blocks.specs.declared.store.FileBlocks.{FileBlocks}
+use Rattle.file_blocks.proofs.SeenLemmas.{length-seen}
 use Rattle.relay_serve.specs.Watched.{store_in}
 use Rattle.relay_serve.specs.declared.watched.Watched.{Watched}
 
 -- how many blocks are seen of a store in a file of the machine, of which contracts see no octet
-abbrev pub seen_of : RunBlocks HostFile → ℕ
+abbrev pub seen_of : FileBlocks HostFile → ℕ
 seen_of store =
     length (overlaid store.gathered.first (blocks_in store.gathered) (blocks_of store.count []))
 
 -- Of files of the machine contracts see as many blocks as were asked for; those that are watched
 -- are these.
-pub watched_sizes : {R : Type 0} (all : List (Watched (RunBlocks HostFile) R))
-    → map (λ (one : Watched (RunBlocks HostFile) R). seen_of one.store) all
+pub watched_sizes : {R : Type 0} (all : List (Watched (FileBlocks HostFile) R))
+    → map (λ (one : Watched (FileBlocks HostFile) R). seen_of one.store) all
     ≡ map count_of (map store_in all)
 watched_sizes [] = refl
 watched_sizes {R} (one ∷ all) =
-    ap (λ n. n ∷ map (λ (other : Watched (RunBlocks HostFile) R). seen_of other.store) all)
+    ap (λ n. n ∷ map (λ (other : Watched (FileBlocks HostFile) R). seen_of other.store) all)
     (length-seen one.store.count one.store.gathered.first one.store.gathered.count []
     one.store.gathered.octets.items one.store.gathered_within)
     ∙ ap (λ (ns : List ℕ). one.store.count ∷ ns) (watched_sizes all)

@@ -1,15 +1,14 @@
 //! The files of the buffers (docs/FORMATS.md, cycbuff.conf).
 ghost use Rattle.std.specs.Prelude.{◌≡◌, length, map, All, Any, IfErr, IfOk, MatchBool};
-ghost use Rattle.file_blocks.specs.Store.{count_of as blocks_counted};
+ghost use Rattle.file_blocks.specs.Fitted.{count_of as blocks_counted};
 ghost use Rattle.relay_serve.specs.Files.{HasReason, IsFaultAt, IsFaultOf, IsFileFault};
 ghost use Rattle.relay_serve.specs.Files.{SharesFile};
-ghost use Rattle.run_blocks.specs.Store.{count_of};
+ghost use Rattle.file_blocks.specs.Store.{count_of};
 
 use crate::reasons::reason_of;
-use file_blocks::{FileBlocks, HeldFile, Unusable};
+use file_blocks::{FileBlocks, FittedFile, HeldFile, Unusable};
 use relay_conf::{BufferConf, Buffers};
 use relay_report::{LostFile, Reason, ServeError};
-use run_blocks::RunBlocks;
 use std::alloc::{AllocError, Global};
 use std::fs::{File, Files};
 use std::os::unix::fs::MetadataExt;
@@ -182,7 +181,7 @@ pub(crate) fn fit_files(
     alloc: Global,
     settings: &Buffers,
     files: Vec<HeldFile>,
-) -> Result<(Vec<RunBlocks>, bool), ServeError>
+) -> Result<(Vec<FileBlocks>, bool), ServeError>
     requires count { length files.items ≡ length settings.now.buffers.items }
     ensures blocks { IfOk result (λ fitted. map count_of fitted.0.items
         ≡ map (λ buffer. buffer.blocks) settings.now.buffers.items) }
@@ -207,21 +206,21 @@ fn fit_file(
     alloc: Global,
     buffer: &BufferConf,
     file: HeldFile,
-) -> Result<(RunBlocks, bool), ServeError>
+) -> Result<(FileBlocks, bool), ServeError>
     ensures blocks { IfOk result (λ fitted. count_of fitted.0 ≡ buffer.now.blocks) }
     ensures fault { IfErr result (IsFaultOf buffer.now) }
 {
-    match FileBlocks::of_held(file, buffer.blocks) {
+    match FittedFile::of_held(file, buffer.blocks) {
         Ok(mut file) => {
             let is_blank = is_blank(&mut file);
-            Ok((RunBlocks::of_blocks(alloc, file)?, is_blank))
+            Ok((FileBlocks::of_fitted(alloc, file)?, is_blank))
         }
         Err(refused) => Err(unfit(alloc, buffer, &refused)),
     }
 }
 
 /// Whether no buffer was kept in a file, as far as that can be read.
-fn is_blank(file: &mut FileBlocks) -> bool
+fn is_blank(file: &mut FittedFile) -> bool
     ensures count { blocks_counted file.new ≡ blocks_counted file.old }
 {
     file.is_blank().unwrap_or(false)

@@ -4,7 +4,7 @@ ghost use Rattle.relay_serve.specs.Files.{IsFileFault};
 ghost use Rattle.relay_serve.specs.Ports.{IsPortFault};
 ghost use Rattle.relay_serve.specs.Running.{IsServeFault, IsStopFault};
 ghost use Rattle.relay_report.specs.Serve.{AreOf, ServeGives};
-ghost use Rattle.run_blocks.specs.Store.{count_of};
+ghost use Rattle.file_blocks.specs.Store.{count_of};
 
 use crate::clock::MachineClock;
 use crate::desk::Desk;
@@ -15,6 +15,7 @@ use crate::ports::open_ports;
 use crate::running::{Beginning, Finished, Records, Surroundings, channels_of, run_relay};
 use crate::streams::fill_streams;
 use crate::watched::{Watched, watch_all};
+use file_blocks::FileBlocks;
 use live_store::ArticleLog;
 use live_wire::{Port, Stop};
 use relay_conf::Config;
@@ -22,7 +23,6 @@ use relay_core::Stopped;
 use relay_folder::{Control, HistoryPlace, HostHistory, Origin};
 use relay_live::PeerSource;
 use relay_report::{ServeError, StopFault, Totals, print_totals};
-use run_blocks::RunBlocks;
 use std::alloc::Global;
 use std::fs::{File, Files};
 use std::io::{ErrorKind, Write};
@@ -191,7 +191,7 @@ fn tell_serving<R: Eprint>(rt: &R, ports: usize, buffers: usize) {
 /// What a relay may begin over, before it is known from what.
 #[derive(Drop)]
 struct Unbegun {
-    stores: Vec<RunBlocks>,
+    stores: Vec<FileBlocks>,
     /// Whether it is asked to begin from nothing.
     fresh: bool,
     /// Whether no buffer was kept in any file.
@@ -270,9 +270,9 @@ fn run_watched<'a, R>(
     rt: &'a R,
     alloc: Global,
     config: &'a Config,
-    beginning: Beginning<RunBlocks>,
+    beginning: Beginning<FileBlocks>,
     access: Access<'_>,
-) -> Result<Finished<Watched<'a, RunBlocks, R>>, ServeError>
+) -> Result<Finished<Watched<'a, FileBlocks, R>>, ServeError>
 where
     R: Threads + Wait + Clock + Eprint + RandomSource + Sync,
     requires stores { map count_of beginning.stores.items
@@ -285,7 +285,7 @@ where
     let Beginning { stores, origin } = beginning;
     let stores = watch_all(rt, &config.buffers, stores)?;
     let clock = MachineClock::new(rt);
-    run_relay::<Watched<'a, RunBlocks, R>, Brand, Brand, R>(
+    run_relay::<Watched<'a, FileBlocks, R>, Brand, Brand, R>(
         rt,
         alloc,
         config,
@@ -307,7 +307,7 @@ where
 /// for them.
 fn keep_finished<R, H: HistoryPlace>(
     history: &mut H,
-    finished: Finished<Watched<'_, RunBlocks, R>>,
+    finished: Finished<Watched<'_, FileBlocks, R>>,
 ) -> Result<Totals, ServeError>
     ensures totals { IfOk result (λ totals. finished.entry.totals ≡ Ok totals) }
     ensures fault { IfErr result IsStopFault }
@@ -332,7 +332,7 @@ fn keep_finished<R, H: HistoryPlace>(
 /// the devices haven't got.
 fn keep_stopped<R, H: HistoryPlace>(
     history: &mut H,
-    stopped: &Stopped<Watched<'_, RunBlocks, R>>,
+    stopped: &Stopped<Watched<'_, FileBlocks, R>>,
 ) -> Result<(), ServeError>
     ensures fault { IfErr result IsStopFault }
 {

@@ -3,8 +3,8 @@ ghost use Rattle.std.specs.Prelude.{◌≡◌, IfOk, length, map};
 ghost use Rattle.relay_serve.specs.Watched.{store_in};
 
 use cyc_block::{BLOCK_OCTETS, BlockStore, DeviceFailed};
+use file_blocks::FileBlocks;
 use relay_conf::{BufferConf, Buffers};
-use run_blocks::RunBlocks;
 use std::alloc::AllocError;
 use std::str;
 use std::time::Clock;
@@ -66,7 +66,7 @@ impl<'a, S, R: Clock + Eprint> Watched<'a, S, R> {
     }
 }
 
-impl<R> Watched<'_, RunBlocks, R> {
+impl<R> Watched<'_, FileBlocks, R> {
     /// Has the device take all that was written to the file.
     pub(crate) fn sync(&self) -> Result<(), DeviceFailed> {
         self.store.sync()

@@ -1,7 +1,7 @@
 use Rattle.std.proofs.Common.{◌∙◌, ◌+◌, ap, arith, length, map, sym}
 use Rattle.std.proofs.lemmas.List.{take_all}
 use Rattle.std.proofs.lemmas.Result.{err_from_is_err_and}
-use Rattle.run_blocks.specs.Store.{count_of}
+use Rattle.file_blocks.specs.Store.{count_of}
 use Rattle.relay_serve.proofs.FileFaults.{fault_at}
 use Rattle.relay_live.proofs.Rooms.{index_fits_as, no_more, room_of, still_fits}
 use Rattle.relay_serve.proofs.Rows.{longer, one_more_made}

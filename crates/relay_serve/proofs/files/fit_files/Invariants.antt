@@ -1,7 +1,7 @@
 use Rattle.std.proofs.Common.{◌≡◌, ◌+◌, ◌≤◌, length, map, take}
 use Rattle.std.specs.Prelude.{vec_capacity}
 use Rattle.std.specs.Vec.Iter.{into_iter_len}
-use Rattle.run_blocks.specs.Store.{count_of}
+use Rattle.file_blocks.specs.Store.{count_of}
 use Rattle.relay_serve.proofs.files.fit_files.Given as goal
 
 -- a store for each buffer so far, of its blocks, room for the others, and their files

@@ -1,7 +1,7 @@
 use Rattle.std.proofs.Common.{◌∙◌, List, ap, map}
 use Rattle.file_blocks.specs.declared.host.HostFile.{HostFile}
-use Rattle.run_blocks.specs.Store.{count_of}
-use Rattle.run_blocks.specs.declared.store.RunBlocks.{RunBlocks}
+use Rattle.file_blocks.specs.Store.{count_of}
+use Rattle.file_blocks.specs.declared.store.FileBlocks.{FileBlocks}
 use Rattle.relay_serve.proofs.Sizes.{same_count, watched_sizes}
 use Rattle.relay_serve.proofs.Starts.{unrun_serves}
 use Rattle.relay_serve.proofs.serving.run_watched.Goals as goal
@@ -17,7 +17,7 @@ watch_all-requires g c = record {
 pub run_relay-requires-clause-stores : goal.run_relay-requires-clause-stores
 run_relay-requires-clause-stores g c κs within =
     watched_sizes _
-    ∙ ap (λ (stores : List (RunBlocks HostFile)). map count_of stores) c.in_ok-stores.ensures.stores
+    ∙ ap (λ (stores : List (FileBlocks HostFile)). map count_of stores) c.in_ok-stores.ensures.stores
     ∙ c.requires.stores
 
 pub returns-clause-fault : goal.returns-clause-fault

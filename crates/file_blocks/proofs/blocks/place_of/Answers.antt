@@ -1,6 +1,0 @@
--- A block is 512 octets behind the one before.
-use Rattle.std.proofs.Common.{arith}
-use Rattle.file_blocks.proofs.blocks.place_of.Goals as goal
-
-pub returns : goal.returns
-returns c = omega (arith, c.from.ensures)

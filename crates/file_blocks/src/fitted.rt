@@ -1,0 +1,99 @@
+//! Files that are long enough for their blocks, and where in a file blocks begin.
+ghost use Rattle.std.specs.Prelude.{◌≡◌, ◌+◌, ◌*◌, ◌↔◌, [], All, IfOk, IsTrue};
+ghost use Rattle.news_terms.specs.HeadBlocks.{head_blocks};
+ghost use Rattle.file_blocks.specs.Blocks.{IsBlank, octets_at};
+ghost use Rattle.file_blocks.specs.Fitted.{count_of, file_of};
+ghost use Rattle.file_blocks.specs.Host.{asked_of, held_identity, identity_of};
+
+use crate::file::RunFile;
+use crate::host::{HeldFile, HostFile, Unusable};
+use cyc_block::{BLOCK_OCTETS, DeviceFailed, are_zeros, head_count};
+
+/// A file that has room for so many blocks and their head blocks.
+#[derive(Drop)]
+pub struct FittedFile<F = HostFile> {
+    file: F,
+    /// For how many blocks it has room.
+    count: u32,
+}
+
+impl<F: RunFile> FittedFile<F> {
+    /// A file that has room for n blocks and their head blocks.
+    pub fn new(file: F, n: u32) -> FittedFile<F>
+        ensures file { file_of result ≡ file }
+        ensures count { count_of result ≡ n }
+    {
+        FittedFile { file, count: n }
+    }
+
+    /// The file, and for how many blocks it has room.
+    pub fn into_parts(self) -> (F, u32)
+        ensures file { result.0 ≡ file_of self }
+        ensures count { result.1 ≡ count_of self }
+    {
+        (self.file, self.count)
+    }
+
+    /// Whether no buffer was kept in the file: each octet of its first block and of its first head
+    /// block is 0, as in a file that was just made.
+    pub fn is_blank(&mut self) -> Result<bool, DeviceFailed>
+        ensures blank { F.honest (file_of self.old) → IfOk result (λ blank. IsTrue blank
+            ↔ IsBlank (count_of self.old) (F.held (file_of self.old))) }
+        ensures count { count_of self.new ≡ count_of self.old }
+        ensures same { F.honest (file_of self.old)
+            → F.held (file_of self.new) ≡ F.held (file_of self.old) }
+        ensures honest { F.honest (file_of self.old) → F.honest (file_of self.new) }
+    {
+        let block = self.is_zero_at(0)?;
+        let head = self.is_zero_at(place_of(self.count))?;
+        Ok(block && head)
+    }
+
+    /// Whether each of the 512 octets at a place is 0.
+    fn is_zero_at(&mut self, place: u64) -> Result<bool, DeviceFailed>
+        ensures zero { F.honest self.old.file → IfOk result (λ zero. IsTrue zero
+            ↔ All (λ octet. octet ≡ 0) (octets_at (F.held self.old.file) place)) }
+        ensures count { self.new.count ≡ self.old.count }
+        ensures same { F.honest self.old.file
+            → F.held self.new.file ≡ F.held self.old.file }
+        ensures honest { F.honest self.old.file → F.honest self.new.file }
+    {
+        let mut octets = [0; BLOCK_OCTETS];
+        self.file.read(place, &mut octets)?;
+        Ok(are_zeros(&octets))
+    }
+}
+
+impl FittedFile<HostFile> {
+    /// A file that is held, for n blocks and their head blocks. It is made longer with zeros where
+    /// it is shorter; octets that it has stay. The error says why it can't be used, and then
+    /// nothing is promised of the file.
+    pub fn of_held(held: HeldFile, n: u32) -> Result<FittedFile<HostFile>, Unusable>
+        ensures count { IfOk result (λ fitted. count_of fitted ≡ n) }
+        ensures unasked { IfOk result (λ fitted. asked_of (file_of fitted) ≡ []) }
+        ensures same { IfOk result (λ fitted. identity_of (file_of fitted) ≡ held_identity held) }
+    {
+        Ok(FittedFile::new(held.fit(size_of(n))?, n))
+    }
+}
+
+/// How many octets of a file n blocks and their head blocks take.
+fn size_of(n: u32) -> u64
+    ensures { result ≡ (n + head_blocks n) * BLOCK_OCTETS }
+{
+    (u64::from(n) + u64::from(head_count(n))) * BLOCK_OCTETS as u64
+}
+
+/// Where block k begins, in octets from the front of the file.
+pub(crate) fn place_of(k: u32) -> u64
+    ensures { result ≡ k * BLOCK_OCTETS }
+{
+    u64::from(k) * BLOCK_OCTETS as u64
+}
+
+/// Where head block k of a file of n blocks begins, in octets from the front of the file.
+pub(crate) fn head_place_of(n: u32, k: u32) -> u64
+    ensures { result ≡ n * BLOCK_OCTETS + k * BLOCK_OCTETS }
+{
+    place_of(n) + place_of(k)
+}

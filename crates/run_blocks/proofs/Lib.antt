@@ -1,9 +1,0 @@
-pub mod AsideLemmas
-pub mod CallLemmas
-pub mod CopyLemmas
-pub mod KeptLemmas
-pub mod OverlayLemmas
-pub mod PlaceLemmas
-pub mod RunLemmas
-pub mod SeenLemmas
-pub mod StoreLemmas

@@ -1,6 +1,0 @@
-pub mod Asked
-pub mod File
-pub mod Overlay
-pub mod Run
-pub mod Store
-pub mod Writing
