@@ -36,22 +36,6 @@ impl Group {
     ghost use Rattle.news_terms.specs.Positions.{index_after, position_of};
     ghost use Rattle.relay_conf.specs.Places.{mode_view};
 
-    /// A group whose buffers have so many blocks, in order, before anything is begun.
-    pub fn new(mode: Mode, blocks: Vec<u32>) -> Group
-        requires { 0 < length blocks.items }
-        ensures places { (group : places.Group) → mode_view mode ≡ group.mode
-            → blocks.items ≡ blocks_in group.buffers → KeepsPlaces result group [] }
-        ensures mode { group_mode result ≡ mode }
-        ensures blocks { group_blocks result ≡ blocks.items }
-    {
-        Group {
-            mode,
-            blocks,
-            position: 0,
-            used: 0,
-        }
-    }
-
     /// A group that was at this place of its buffers, as it is again: where one is filled after the
     /// other with so many blocks used of the current one's run; where they take turns these are 0.
     pub fn resume(mode: Mode, blocks: Vec<u32>, position: usize, used: u32) -> Group

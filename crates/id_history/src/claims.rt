@@ -51,13 +51,6 @@ pub struct Settled {
 impl Settled {
     ghost use Rattle.id_history.specs.Answers.{token_of};
 
-    /// The token under which the article is stored.
-    pub fn token(&self) -> Token
-        ensures { result ≡ token_of self.now }
-    {
-        self.token
-    }
-
     /// Uses it up for its token.
     pub fn spend(self) -> Token
         ensures { result ≡ token_of self }

@@ -52,14 +52,6 @@ impl<O> FinishedList<O> {
         }
     }
 
-    /// How many jobs there are.
-    pub fn len(&self) -> usize
-        ensures count { result ≡ length self.now.items }
-        ensures few { length self.now.items < 2 ^ 62 }
-    {
-        self.names.len()
-    }
-
     /// Finds room for one job more, whichever it is. An error is want of memory.
     pub fn reserve_one(&mut self) -> Result<(), AllocError>
         ensures items { self.new.items ≡ self.old.items }

@@ -104,14 +104,6 @@ impl<S: BlockStore, J: StorePremises> NumberedBuffer<S, J> {
     {
         self.buffer.stored()
     }
-
-    /// How many blocks the buffer has.
-    pub fn blocks(&self) -> u32
-        ensures { (trusted : Bool) (h : History) → Agrees trusted (buffer_of self.now) h
-            → result ≡ h.buffer.blocks }
-    {
-        self.buffer.blocks()
-    }
 }
 
 /// No number for each block.

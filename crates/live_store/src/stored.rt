@@ -73,13 +73,6 @@ impl<J: StorePremises> Finished<J> {
         self.token
     }
 
-    /// The receipt.
-    pub fn receipt(&self) -> &Receipt<J>
-        ensures { result.now ≡ self.now.receipt }
-    {
-        &self.receipt
-    }
-
     /// The receipt alone.
     pub fn into_receipt(self) -> Receipt<J>
         ensures { result ≡ self.receipt }

@@ -36,13 +36,6 @@ impl Peers {
         }
     }
 
-    /// How many places there are, lent out or not.
-    pub fn len(&self) -> usize
-        ensures { result ≡ place_count self.now }
-    {
-        self.peers.len()
-    }
-
     /// Whether the session of this number is here and has turns.
     pub fn is_running(&self, number: u64) -> bool
         ensures { result ≡ run.is_there run.is_running (session_at self.now number) }

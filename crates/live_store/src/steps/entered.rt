@@ -23,11 +23,4 @@ impl Entered {
     {
         Entered { token, shown }
     }
-
-    /// Its record's number.
-    pub fn shown(&self) -> &RecordNumber
-        ensures { result.now ≡ self.now.shown }
-    {
-        &self.shown
-    }
 }

@@ -29,11 +29,6 @@ impl Begun {
     {
         Begun { token, fresh }
     }
-
-    /// Lets the article go, which stays begun: its buffer begins no other.
-    pub fn let_go(self) {
-        let Begun { token: _, fresh: _ } = self;
-    }
 }
 
 /// An article that was begun, for contracts alone: its token, whether it was begun at the front of

@@ -17,7 +17,8 @@ watch_all-requires g c = record {
 pub run_relay-requires-clause-stores : goal.run_relay-requires-clause-stores
 run_relay-requires-clause-stores g c κs within =
     watched_sizes _
-    ∙ ap (λ (stores : List (FileBlocks HostFile)). map count_of stores) c.in_ok-stores.ensures.stores
+    ∙ ap (λ (stores : List (FileBlocks HostFile)). map count_of stores)
+    c.in_ok-stores.ensures.stores
     ∙ c.requires.stores
 
 pub returns-clause-fault : goal.returns-clause-fault

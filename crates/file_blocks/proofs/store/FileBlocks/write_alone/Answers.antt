@@ -1,7 +1,8 @@
 -- A block that isn't gathered is written alone.
 use Rattle.std.proofs.Common.{length, refl}
 use Rattle.std.proofs.lemmas.Result.{on_ok_weaker}
-use Rattle.file_blocks.proofs.AsideLemmas.{changed_seen, one_changed, one_run, one_written, set_seen}
+use Rattle.file_blocks.proofs.AsideLemmas.{changed_seen, one_changed, one_run, one_written}
+use Rattle.file_blocks.proofs.AsideLemmas.{set_seen}
 use Rattle.file_blocks.proofs.CopyLemmas.{copy_left}
 use Rattle.file_blocks.proofs.StoreLemmas.{run_heads}
 use Rattle.file_blocks.proofs.store.FileBlocks.write_alone.Goals as goal
