@@ -321,12 +321,6 @@ gives_longer test xs ys (errors.EmptyField name) g =
 gives_longer test xs ys errors.BadId g = found_goes test xs ys BadId g
 gives_longer test xs ys errors.BadGroups g = found_goes test xs ys BadGroups g
 
--- and of that behind them
-pub gives_later : (test : Fault → Bool) (xs ys : List Fault) (error : ArtError)
-    → first_that test xs ≡ None → ErrorGives error (first_that test ys)
-    → ErrorGives error (first_that test (xs ++ ys))
-gives_later test xs ys error none g = subst (ErrorGives error) (sym (found_later test xs ys none)) g
-
 -- what is answered of the tests behind those that find none is answered of all
 pub answered_later : {X : Type 0} (r : Result X ArtError) (test : Fault → Bool) (xs ys : List Fault)
     → first_that test xs ≡ None → FaultGives r (first_that test ys)

@@ -156,26 +156,6 @@ keeps-missing rings sizes feeds k feed past keeps =
       ];
     }
 
--- one ring counts at most one more
-pub counts-set : (rings : List Ring) (k : ℕ) (one later : Ring) (most : ℕ) → k < length rings
-    → one ≡ get_or rings k one → later.gained ≤ one.gained + 1 → CountBelow rings most
-    → CountBelow (set rings k later) (most + 1)
-counts-set rings k one later most there at step below f none within =
-    elim (eqb_tells f k) [
-      | inl same ↦
-          let set_here : get_or (set rings k later) f none ≡ later =
-          ap (λ i. get_or (set rings k later) i none) same.1
-          ∙ get_or-set_same rings k later none there in
-          let here : one.gained < most = subst (λ (r : Ring). r.gained < most) (sym at)
-          (below k one there) in
-          subst (λ (r : Ring). r.gained < most + 1) (sym set_here) (omega (arith, here, step))
-      | inr other ↦
-          let set_there = get_or-set_other rings k f later none other.1 in
-          let there : (get_or rings f none).gained < most =
-          below f none (subst (λ n. f < n) (length-set rings k later) within) in
-          subst (λ (r : Ring). r.gained < most + 1) (sym set_there) (omega (arith, there))
-    ]
-
 -- a bound on counts that is above one
 pub counts-above : (rings : List Ring) (most more : ℕ) → most ≤ more → CountBelow rings most
     → CountBelow rings more

@@ -112,13 +112,6 @@ passed-keeps old size feed keeps =
     ∙ ap (λ n. length feed.gained - n) (waiting old size feed keeps)
     ∙ sym (passed-ring size (as_ring feed) keeps.within)
 
--- how many were overwritten untaken
-pub missed-keeps : (old : Ring) (size : ℕ) (feed : Feed) → KeepsFeed old size feed
-    → old.gained - length old.tokens.items - old.passed ≡ missed size (as_ring feed)
-missed-keeps old size feed keeps =
-    ap (λ n. n - old.passed) (passed-keeps old size feed keeps)
-    ∙ ap (λ n. passed_now size (as_ring feed) - n) keeps.passed
-
 -- what a take gives
 pub items-keeps : (old : Ring) (size most : ℕ) (feed : Feed) → KeepsFeed old size feed
     → map item_view (enumerate_from (old.gained - length old.tokens.items + 1)

@@ -62,20 +62,6 @@ IsLeft-kept one left gained passed taken waiting size feed keeps = record {
   within = keeps.within;
 }
 
--- a ring that holds and counts what is left of a feed keeps it
-pub KeepsFeed-left : (one : Ring) (left : kept.KeptFeed) (size : ℕ) → one.tokens.capacity ≡ size
-    → one.tokens.items ≡ left.waiting.items → one.gained ≡ left.gained
-    → one.passed ≡ left.passed → one.taken ≡ left.taken → (feed : Feed)
-    → IsLeft (feed_view left) size feed → KeepsFeed one size feed
-KeepsFeed-left one left size room items gained passed taken feed is = record {
-  room = room;
-  tokens = ap (map token_view) items ∙ is.waiting;
-  gained = gained ∙ is.gained;
-  passed = passed ∙ is.passed;
-  taken = taken ∙ is.taken;
-  within = is.within;
-}
-
 -- two lists that go together have one length
 zip_long : {A B : Type 0} (R : A → B → Type 0) (xs : List A) (ys : List B) → AllZip R xs ys
     → length xs ≡ length ys

@@ -71,13 +71,6 @@ some_part p (x ∷ xs) = by_test (p x) refl (some_part p xs)
 pub not_one : (p : ℕ → Bool) (word rest : List ℕ) → one_of (word ∷ slice_split p rest) ≡ None
 not_one p word rest = let some = some_part p rest in rw some.2 refl
 
--- Two parts are one, and one after it.
-pub two_of_one : (first : List ℕ) (after : List (List ℕ))
-    → two_of (first ∷ after) ≡ option_map (λ (word : List ℕ). (first, word)) (one_of after)
-two_of_one first [] = refl
-two_of_one first (second ∷ []) = refl
-two_of_one first (second ∷ third ∷ more) = refl
-
 -- The first place among what elements are mapped to.
 pub position_map : {X Y : Type 0} (p : Y → Bool) (f : X → Y) (xs : List X)
     → position_or_len p (map f xs) ≡ position_or_len (λ x. p (f x)) xs
@@ -89,11 +82,6 @@ position_map p f (x ∷ xs) = by_test (p (f x)) refl (position_map p f xs)
         → position_or_len p (map f (x ∷ xs)) ≡ position_or_len (λ x. p (f x)) (x ∷ xs)
     by_test true e after = rw e refl
     by_test false e after = rw (e, after) refl
-
--- `position` among elements finds the place among what they are mapped to.
-pub place_map : {X Y : Type 0} (p : Y → Bool) (f : X → Y) (xs : List X)
-    → place_of (λ x. p (f x)) xs ≡ place_of p (map f xs)
-place_map p f xs = rw (position_map p f xs, length-map) refl
 
 -- A text has at most one part more than octets.
 pub few_parts : (octet : ℕ) (text : List ℕ) → length (parts octet text) ≤ length text + 1

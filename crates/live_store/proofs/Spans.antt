@@ -111,14 +111,6 @@ one_place index a s j b t k here there = (octave, part, place)
     place : j ≡ k
     place = omega (arith, same.before, there.before)
 
--- a number that has a place is below the limit
-pub index_few : (index a s j : ℕ) → IsAt index a s j → index + 512 < 2 ^ 63
-index_few index a s j at =
-    let few = span_few a at.octaves in
-    let most : 16 + s ≤ 31 = omega (arith, at.parts) in
-    let x = mul-le-mul_right (span a) most in
-    omega (arith, few, x, at.places, at.before)
-
 -- numbers of one place that show one value are one
 pub same_where : {T : Type 0} (index : ℕ) {v w : T} {b c r s i j : ℕ} → v ≡ w → b ≡ c → r ≡ s
     → i ≡ j

@@ -72,13 +72,6 @@ own_token h token live = λ i. record {
   length = sym live.octets i;
 }
 
--- its article begins in the buffer
-pub first_of_live : (r : BufferState) (h : History) (token : codes.Token) → Keeps r h
-    → IsLiveToken h (token_view token) → token.first < h.buffer.blocks
-first_of_live r h token keeps live =
-    let l = lies h.buffer h.begins token.cycle token.first live.article keeps.sizes live.finished
-    in omega (arith, l.some, l.within)
-
 module _ (trusted : Bool) (register : Shelves) (h : History) (token : codes.Token)
     (shown : Where Record) (numbers : List (Option (Where Record)))
     (live : IsLiveToken h (token_view token))
@@ -196,13 +189,6 @@ firsts_item tokens n d shown numbers inside named within firsts j other less in_
       ]
     ])
     (λ before. firsts j other (ltb-true j n before) in_tokens)
-
--- with no token gone over nothing is said
-pub numbered_none : (trusted : Bool) (register : Shelves) (h : History) (tokens : List codes.Token)
-    (numbers : List (Option (Where Record)))
-    → AreNumberedTo trusted register h tokens 0 numbers
-numbered_none trusted register h tokens numbers cycle first article there j less is =
-    absurd (omega (arith, less))
 
 -- once all tokens are gone over, each live finished article has its number
 pub all_numbered : (trusted : Bool) (register : Shelves) (h : History) (tokens : List codes.Token)

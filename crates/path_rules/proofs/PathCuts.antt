@@ -209,12 +209,6 @@ pub has-dropped : (own text piece rest : List ℕ) → text ≡ piece ++ byte "!
 has-dropped own text piece rest e h n f =
     ap (list_any (str_eq_ignore_ascii_case own)) (identities-dropped text piece rest e h n f)
 
--- what is behind the first `!` is shorter
-pub rest-shorter : (text piece rest : List ℕ) → text ≡ piece ++ byte "!" ∷ rest
-    → length rest < length text
-rest-shorter text piece rest e =
-    omega (arith, ap length e, length-append piece (byte "!" ∷ rest))
-
 -- an identity is put behind the ones before it
 pub step-kept : (before after : List (List ℕ)) (text piece rest : List ℕ)
     → after ≡ before ++ path_octets piece ∷ []

@@ -170,14 +170,6 @@ own_hand job o e = ap (in_hand job.id) e ∙ ap (λ b. cond b 1 0) (is_itself jo
 pub other_hand : (id : List ℕ) (job : Job) → is_of id job ≡ false → in_hand id (Some job) ≡ 0
 other_hand id job e = ap (λ b. cond b 1 0) e
 
--- a hand that doesn't count for an id has no job of it
-pub hand_apart : (id : List ℕ) (job : Job) → in_hand id (Some job) ≡ 0 → is_of id job ≡ false
-hand_apart id job e = by (is_of id job) (omega (arith, e))
-  where
-    by : (b : Bool) → cond b 1 0 ≤ 0 → b ≡ false
-    by true few = absurd (omega (arith, few))
-    by false few = refl
-
 -- the same counts where hand, queue and writer's job are the same
 pub same_count : (x y : World) (id : List ℕ) (s g : ℕ)
     → hand_of (y.state.session s) ≡ hand_of (x.state.session s)

@@ -74,12 +74,6 @@ front_before before after text rest f =
       gained = f.gained;
     }
 
--- All of a text is a front of it.
-pub front_all : (text : List ℕ) (before after : Option (List ℕ)) → Appends before after text
-    → GainsFront text before after
-front_all text before after a =
-    record { front = text; left = []; cut = sym (append-nil text); gained = a }
-
 -- A front of what follows a text that was written is a front of both.
 pub front_behind : (done text : List ℕ) (old mid new : Option (List ℕ)) → Appends old mid done
     → GainsFront text mid new → GainsFront (done ++ text) old new

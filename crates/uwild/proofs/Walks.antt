@@ -83,53 +83,11 @@ walk_star pattern name (Some star) at rest h step = record {
       let b = h.octets in omega (arith, simp length-append at e, b);
 }
 
--- the walk goes on where the star has one octet more
-pub walk_further : (pattern : List Item) (name : List ℕ) (star : Option Rest) (at rest : Rest)
-    → IsWalk pattern name star at → goes at ≡ false → FurtherGives star (Some rest)
-    → IsWalk pattern name (Some rest) rest
-walk_further pattern name None at rest h stuck f = absurd cc
-walk_further pattern name (Some star) at rest h stuck f = record {
-  same = h.same ∙ ap (λ b. b || later (items_left star) star.name.now) stuck
-      ∙ ap (λ x. later (items_left star) x) f.name
-      ∙ star_tried (items_left star) rest.name.now
-      ∙ ap (λ x. matches x rest.name.now || later x rest.name.now) (same_items star rest f);
-  since = at_star rest;
-  parts = let e = ap length (same_items star rest f) in let b = h.parts in omega (arith, e, b);
-  octets = let e = ap length f.name in let b = h.octets in omega (arith, e, b);
-}
-  where
-    same_items : (star rest : Rest) → IsFurther star rest → items_left star ≡ items_left rest
-    same_items star rest f = ap (map item_view) (sym f.items)
-
--- where the walk is stuck and the star has no octet more, nothing matches
-pub walk_ends : (pattern : List Item) (name : List ℕ) (star : Option Rest) (at : Rest)
-    → IsWalk pattern name star at → goes at ≡ false → FurtherGives star None
-    → matches pattern name ≡ false
-walk_ends pattern name None at h stuck f = h.same ∙ stuck
-walk_ends pattern name (Some star) at h stuck f =
-    h.same ∙ ap (λ b. b || later (items_left star) star.name.now) stuck
-    ∙ ap (λ x. later (items_left star) x) f
-
--- where what is left matches, the pattern does
-pub walk_matches : (pattern : List Item) (name : List ℕ) (star : Option Rest) (at : Rest)
-    → IsWalk pattern name star at → goes at ≡ true → matches pattern name ≡ true
-walk_matches pattern name None at h whole = h.same ∙ whole
-walk_matches pattern name (Some star) at h whole =
-    h.same ∙ ap (λ b. b || later (items_left star) star.name.now) whole
-
 -- a number with a lower first digit is lower
 lower_digit : (x y a b m : ℕ) → x < y → a ≤ m → x * (m + 1) + a < y * (m + 1) + b
 lower_digit x y a b m lt le =
     let product : (x + 1) * (m + 1) ≤ y * (m + 1) = mul-le-mul_right (m + 1) (omega arith) in
     omega (arith, add-mul x 1 (m + 1), product)
-
--- an octet leaves fewer steps
-pub steps_octet : (parts octets : ℕ) (star : Option Rest) (at rest : Rest) → IsBehindOctet at rest
-    → steps_left parts octets star rest < steps_left parts octets star at
-steps_octet parts octets None at rest step =
-    let e = ap length step.items in omega (arith, e)
-steps_octet parts octets (Some star) at rest step =
-    let e = ap length step.items in omega (arith, e)
 
 -- a star leaves fewer steps
 pub steps_star : (pattern : List Item) (name : List ℕ) (star : Option Rest) (at rest : Rest)
@@ -154,20 +112,3 @@ steps_star pattern name (Some star) at rest h step =
     lower_digit _ _ _ _ (length pattern)
     (lower_digit _ _ _ _ (length name) (omega (arith, l)) (omega (arith, o, n)))
     (omega (arith, l, b))
-
--- one octet more of a star leaves fewer steps
-pub steps_further : (pattern : List Item) (name : List ℕ) (star : Option Rest) (at rest : Rest)
-    → IsWalk pattern name star at → FurtherGives star (Some rest)
-    → steps_left (length pattern) (length name) (Some rest) rest
-    < steps_left (length pattern) (length name) star at
-steps_further pattern name None at rest h f = absurd cc
-steps_further pattern name (Some star) at rest h f =
-    let e : length (items_left rest) ≡ length (items_left star) =
-    ap (λ x. length (map item_view x)) f.items in
-    let n = ap length f.name in
-    let b = h.parts in
-    lower_digit _ _ _ _ (length pattern)
-    (subst (λ (k : ℕ). k * (length name + 1) + length rest.name.now
-    < length (items_left star) * (length name + 1) + length star.name.now) (sym e)
-    (omega (arith, n)))
-    (omega (arith, e, b))
