@@ -11,13 +11,11 @@ mod jobs;
 mod queues;
 mod row_text;
 mod runs;
-mod sessions;
 mod stops;
 mod texts;
 
 use crate::row_text::{Answers, Cells, Names, Sheet, copy_of, failed, joined, place_of};
 use line_words::is;
-use std::hash::RandomState;
 use std::io;
 use std::io::Read;
 use std::process::ExitCode;
@@ -36,11 +34,9 @@ fn main(rt: HostRuntime) -> ExitCode {
 fn play<R: RandomSource + Wait>(rt: &HostRuntime, waits: &R) -> io::Result<()> {
     let mut text = Vec::new(rt.alloc());
     rt.reader().read_to_end(&mut text)?;
-    let hasher = RandomState::new(rt)?;
     let mut rows = Rows {
         waits,
         part: Part::Texts,
-        hasher,
         stops: Stops::new(rt.alloc()),
     };
     let played = row_text::play(rt, &text, &mut rows);
@@ -49,26 +45,23 @@ fn play<R: RandomSource + Wait>(rt: &HostRuntime, waits: &R) -> io::Result<()> {
 }
 
 /// The names of the parts, in the order of `begin`.
-const PARTS: &str = "texts blocks sessions stops fetches queues";
+const PARTS: &str = "texts blocks stops fetches queues";
 
 /// Which crates a row is of.
 #[derive(Clone, Copy)]
 enum Part {
     Texts,
     Blocks,
-    Sessions,
     Stops,
     Fetches,
     Queues,
 }
 
-/// What may wait for locks, the part that the next row is of, the random numbers of sessions, and
-/// what stops have left.
+/// What may wait for locks, the part that the next row is of, and what stops have left.
 #[derive(Drop)]
 struct Rows<'a, R> {
     waits: &'a R,
     part: Part,
-    hasher: RandomState,
     stops: Stops,
 }
 
@@ -90,9 +83,8 @@ impl<R: RandomSource + Wait> Rows<'_, R> {
         self.part = match place_of(PARTS, cells.next()) {
             Some(0) => Part::Texts,
             Some(1) => Part::Blocks,
-            Some(2) => Part::Sessions,
-            Some(3) => Part::Stops,
-            Some(4) => Part::Fetches,
+            Some(2) => Part::Stops,
+            Some(3) => Part::Fetches,
             Some(_) => Part::Queues,
             None => return sheet.refuse(),
         };
@@ -117,7 +109,6 @@ impl<R: RandomSource + Wait> Rows<'_, R> {
         match self.part {
             Part::Texts => texts::answer(call, cells, sheet),
             Part::Blocks => blocks::answer(call, cells, sheet),
-            Part::Sessions => sessions::answer(self.hasher, call, cells, sheet),
             Part::Stops => self.stops.answer(call, cells, sheet),
             Part::Fetches => fetches::answer(self.waits, call, cells, sheet),
             Part::Queues => queues::answer(self.waits, call, sheet),

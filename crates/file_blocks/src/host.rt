@@ -88,7 +88,7 @@ impl HeldFile {
 
     /// The file, which has so many octets afterwards, or more: it is made longer with zeros where
     /// it is shorter, and is left as it is where it is longer. Its last block of these is tried.
-    pub fn fit(self, size: u64) -> Result<HostFile, Unusable>
+    pub(crate) fn fit(self, size: u64) -> Result<HostFile, Unusable>
         ensures unasked { IfOk result (λ file. asked_of file ≡ []) }
         ensures same { IfOk result (λ file. identity_of file ≡ held_identity self) }
     {

@@ -28,14 +28,6 @@ unfolding ids_from
 ids_kept {J} {g} d left rest from is =
     ap (λ (ds : List (FinishedJob (StoreResult J g))). kept_ids ds) from ∙ ap (ids_from d rest) is
 
--- and from one on that isn't
-pub ids_not_kept : {J : Type 0} {g : Ghosts J} (d : FinishedJob (StoreResult J g))
-    (left rest : List (FinishedJob (StoreResult J g))) → left ≡ d ∷ rest → is_kept d.outcome ≡ false
-    → kept_ids left ≡ kept_ids rest
-unfolding ids_from
-ids_not_kept {J} {g} d left rest from is =
-    ap (λ (ds : List (FinishedJob (StoreResult J g))). kept_ids ds) from ∙ ap (ids_from d rest) is
-
 -- one job more, kept or not, where as many of the others are kept as there are ids
 kept_more : {J : Type 0} {g : Ghosts J} (d : FinishedJob (StoreResult J g))
     (finished : List (FinishedJob (StoreResult J g)))

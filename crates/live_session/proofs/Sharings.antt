@@ -440,11 +440,3 @@ module _ (register : Shelves) (token : Token) (k : ℕ) (old new : Option (Where
       → ReadsFor honest register token k old chunk new
   block_begun honest mid chunk begins reads asked gathered front =
       reads asked gathered (λ trusted. begins gathered (front trusted))
-
--- a fetch that has had no Turn has gathered nothing
-pub front_none : (shown : Option (Where Record)) (k : ℕ) (gathered : List ℕ) → k ≡ 0
-    → IsFrontOf shown k gathered → IsFrontOf None k gathered
-front_none shown k gathered first (inl none) = inl none
-front_none None k gathered first (inr some) = absurd some
-front_none (Some one) k gathered first (inr some) =
-    inl (first, some ∙ ap (λ n. take (chunk_size * n) (text_in one)) first)

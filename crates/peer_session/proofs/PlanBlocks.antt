@@ -2,14 +2,14 @@
 use Rattle.std.proofs.Common.{◌≡◌, ◌∙◌, ◌+◌, ap, refl, sym, subst, drop, ℕ, List, Option, None}
 use Rattle.std.proofs.Common.{Some, Ok, Err}
 use Rattle.buffer_group.specs.Jobs.{article_view}
-use Rattle.news_terms.specs.Blocks.{NextBlock, Unfinished, Whole, next_block, unstuffed}
+use Rattle.news_terms.specs.Blocks.{NextBlock, Unfinished, next_block}
 use Rattle.news_terms.specs.Reply.{SyntaxError}
 use Rattle.relay_model.specs.Asks.{Due, IsDue, IsDueIn, IsDueOfBlock, IsDueWhereOwing, due_as}
 use Rattle.relay_model.specs.Asks as asks
 use Rattle.relay_model.specs.State as model
 use Rattle.relay_model.specs.State.{in_phase, with_unread}
 use Rattle.relay_model.specs.Terms.{Terms}
-use Rattle.stream_cut.specs.Stream.{AwaitsEnd, ShowsBlock, Stream, shown_lines}
+use Rattle.stream_cut.specs.Stream.{AwaitsEnd, Stream}
 use Rattle.peer_session.specs.Asking.{IsJudged, IsOwedAsked, IsSaying, IsAwaitingBlock, TextAt}
 use Rattle.peer_session.specs.Asking.{next_text}
 use Rattle.peer_session.specs.Asking.{IsAccepted, IsRefused}
@@ -23,7 +23,7 @@ use Rattle.peer_session.specs.declared.phase.Todo.TheVariants as todos
 use Rattle.peer_session.specs.declared.session.Session.{Session}
 use Rattle.peer_session.specs.declared.steps.Step.{Step}
 use Rattle.peer_session.specs.declared.steps.Step.TheVariants as steps
-use Rattle.peer_session.proofs.PlanCommon.{all_kept, plan_of, stands_so, with_stream}
+use Rattle.peer_session.proofs.PlanCommon.{plan_of, stands_so, with_stream}
 
 -- what is due of a session that owes a block
 pub due_where_owing : (w : Terms) (session : Session) (now : ℕ) (transfer : Transfer)
@@ -147,11 +147,3 @@ plans_owed w session now read transfer None text one owes text_at asked =
     plans_syntax w session now read transfer text one owes text_at asked
 plans_owed w session now read transfer (Some id) text one owes text_at asked =
     plans_judged w session now read transfer id text one owes text_at asked
-
--- the text of a block that is there
-pub text_of_block : (stream : Stream) (octets dots : ℕ) (text : List ℕ)
-    → ShowsBlock stream octets dots → text ≡ unstuffed (shown_lines stream octets)
-    → TextAt (octets + 3) (Some text) stream
-text_of_block stream octets dots text shows is =
-    shows.cut ∙ ap (λ text. Whole text (drop (octets + 3) stream.unread)) (sym is)
-    ∙ ap (λ count. Whole text (drop count stream.unread)) (all_kept stream (octets + 3) shows.kept)

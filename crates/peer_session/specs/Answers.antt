@@ -1,5 +1,5 @@
 -- What the step of a session's plan is in the definitions, and what its answer is.
-use Rattle.std.specs.Prelude.{◌≡◌, ◌⊎◌, ℕ, ◌≤◌, ◌<◌, Bool, true, false, List, []}
+use Rattle.std.specs.Prelude.{◌≡◌, ◌≢◌, ◌⊎◌, ℕ, ◌≤◌, ◌<◌, Bool, true, false, List, []}
 use Rattle.std.specs.Prelude.{length, map, option_map, Option, Some}
 use Rattle.article_fetch.specs.Fetch.{Fetch, FoundAs}
 use Rattle.article_fetch.specs.declared.chunk.Chunk.{Chunk}
@@ -19,6 +19,8 @@ use Rattle.relay_model.specs.Shares as shares
 use Rattle.relay_model.specs.State as model
 use Rattle.relay_model.specs.Terms.{Terms}
 use Rattle.peer_session.specs.Session.{outcome_view}
+use Rattle.peer_session.specs.declared.phase.Todo.{Todo}
+use Rattle.peer_session.specs.declared.phase.Todo.TheVariants as todos
 use Rattle.peer_session.specs.declared.steps.Answer.{Answer}
 use Rattle.peer_session.specs.declared.steps.Answer.TheVariants as answers
 use Rattle.peer_session.specs.declared.steps.Outcome.{Outcome}
@@ -130,3 +132,23 @@ handed (answers.Chunk chunk) = false
 handed (answers.Queue taken) = false
 handed (answers.Take told) = false
 handed (answers.Slot outcome) = false
+
+-- no answer to what is planned, but to something else
+abbrev pub IsOther : Todo → Answer → Type 0
+IsOther todos.Rest answer = answer ≢ answers.Nothing
+IsOther (todos.Owe id) answer = answer ≢ answers.Nothing
+IsOther (todos.Say octets) answer = answer ≢ answers.Nothing
+IsOther (todos.Leave octets) answer = answer ≢ answers.Nothing
+IsOther (todos.Check id room) answer = (told : Offer) → answer ≢ answers.Offer told
+IsOther (todos.Ihave id copy room) answer = (told : Offer) → answer ≢ answers.Offer told
+IsOther (todos.Look part id room) answer = (told : Option Token) → answer ≢ answers.Look told
+IsOther (todos.Fetch reading) answer = (chunk : Chunk) → answer ≢ answers.Chunk chunk
+IsOther todos.ReadOn answer = (chunk : Chunk) → answer ≢ answers.Chunk chunk
+IsOther (todos.Queue room) answer = (taken : Taken) → answer ≢ answers.Queue taken
+IsOther (todos.Refuse room) answer = answer ≢ answers.Nothing
+IsOther (todos.Take id article room) answer = (told : Take) → answer ≢ answers.Take told
+IsOther (todos.TakeHeld id) answer = (told : Take) → answer ≢ answers.Take told
+IsOther todos.Push answer = (has_room : Bool) → answer ≢ answers.Pushed has_room
+IsOther todos.Slot answer = (told : Option Outcome) → answer ≢ answers.Slot told
+IsOther todos.Release answer = answer ≢ answers.Nothing
+IsOther todos.End answer = answer ≢ answers.Nothing

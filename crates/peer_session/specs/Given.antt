@@ -12,7 +12,8 @@ use Rattle.relay_model.specs.Hears.{Heard, goes_on, says, silent}
 use Rattle.relay_model.specs.State as model
 use Rattle.relay_model.specs.State.{Asked, in_phase}
 use Rattle.relay_model.specs.Terms.{Terms}
-use Rattle.peer_session.specs.Hearing.{Heeds}
+use Rattle.peer_session.specs.Answers.{IsOther}
+use Rattle.peer_session.specs.Hearing.{Heeds, LeavesAsIs}
 use Rattle.peer_session.specs.Planning.{Planned}
 use Rattle.peer_session.specs.Said.{IsSaid}
 use Rattle.peer_session.specs.Session.{HasAll, Stands, gathered_of, has_parted, session_view}
@@ -68,8 +69,10 @@ pub record ReadAnyIs (said : List ℕ) (old : Session) (session : model.Session)
       fetch.gathered chunk
 
 -- The session of this number heard the answer to what it had planned: as the definitions say, and
--- of a read whatever that gave. No public contract cites it.
-pub record HearsPlanned (s : ℕ) (old : Session) (answer : Answer) (said : List ℕ) (new : Session)
-    : Type 0 where
+-- of a read whatever that gave; of another one it says nothing, and is as it was once nothing was
+-- planned any more. No public contract cites it.
+pub record HearsPlanned (s : ℕ) (old rest : Session) (answer : Answer) (said : List ℕ)
+    (new : Session) : Type 0 where
   pub heard : Heeds s old answer said new
   pub given : HeedsRead old answer said new
+  pub other : IsOther old.planned.todo answer → LeavesAsIs said rest new

@@ -16,7 +16,6 @@ use Rattle.peer_session.specs.Session.{HasAll, Stands, HasReadNone, gathered_of,
 use Rattle.peer_session.specs.Session.{session_view}
 use Rattle.peer_session.specs.declared.session.Session.{Session}
 use Rattle.peer_session.specs.declared.steps.Answer.{Answer}
-use Rattle.peer_session.specs.declared.steps.Answer.TheVariants as answers
 
 -- what the session has gathered after it heard the answer: nothing, or the front of the text that
 -- was told
@@ -77,15 +76,19 @@ pub record ReadHeardIs (said : List ℕ) (old : Session) (session : model.Sessio
   pub gathers : Gathers (asks.Reads fetch.asked fetch.token fetch.had) (shares.ToRead found)
       heard.session.phase (gathered_of new.phase)
 
--- What is so of an answer was heard; where memory was refused the session is as before. No public
--- contract cites it.
-pub record HeardUnless (Heard : Type 0) (answer : Answer) (old new : Session) : Type 0 where
+-- nothing is said, and the session is as it was
+abbrev pub LeavesAsIs : List ℕ → Session → Session → Type 0
+LeavesAsIs said old new = (said ≡ []) × (new ≡ old)
+
+-- What is so of an answer was heard; what is said of another one is nothing, and it leaves the
+-- session as it is. No public contract cites it.
+pub record HeardUnless (Heard Other : Type 0) (said : List ℕ) (old new : Session) : Type 0 where
   pub heard : Heard
-  pub memory : answer ≡ answers.Memory → new ≡ old
+  pub other : Other → LeavesAsIs said old new
 
 -- The same of a read, with what is so whatever that gave.
-pub record ReadUnless (Heard Given : Type 0) (answer : Answer) (old new : Session)
+pub record ReadUnless (Heard Given Other : Type 0) (said : List ℕ) (old new : Session)
     : Type 0 where
   pub heard : Heard
   pub given : Given
-  pub memory : answer ≡ answers.Memory → new ≡ old
+  pub other : Other → LeavesAsIs said old new

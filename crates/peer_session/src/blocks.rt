@@ -1,5 +1,5 @@
 //! Blocks: the article of one is judged, and what is made of the answer.
-ghost use Rattle.std.specs.Prelude.{◌≡◌, ◌≤◌, Option, Some, None, IfOk, IsOk, OnErr};
+ghost use Rattle.std.specs.Prelude.{◌≡◌, ◌≢◌, ◌≤◌, Option, Some, None, IfOk, IsOk, OnErr};
 ghost use Rattle.std.specs.Option.{option_copied};
 ghost use Rattle.article_verdict.specs.Config.{terms_of};
 ghost use Rattle.buffer_group.specs.Jobs.{article_view};
@@ -114,7 +114,8 @@ impl Session {
             → self.old.phase ≡ Phase.AwaitsBlock transfer (Some id)
             → HeardIs result.items self.old (says (block_passed read self.old id)
             (hears.rejected (transfer_view transfer) id)) self.new)
-            answer self.old self.new }
+            (answer ≢ Answer.Nothing)
+            result.items self.old self.new }
     {
         match answer {
             Answer::Nothing => match self.take_owed(read) {
@@ -140,7 +141,8 @@ impl Session {
             → self.old.phase ≡ Phase.AwaitsBlock transfer (Some copy)
             → HeardIs result.items self.old (take_heard number (block_passed read self.old copy)
             (transfer_view transfer) copy (article_view article) (take_view told)) self.new)
-            answer self.old self.new }
+            ((told : Take) → answer ≢ Answer.Take told)
+            result.items self.old self.new }
     {
         match answer {
             Answer::Take(told) => match self.take_owed(read) {

@@ -1,6 +1,6 @@
 //! Fetches by message-id and by token, and what was taken of a queue.
-ghost use Rattle.std.specs.Prelude.{◌≡◌, ◌≤◌, Option, Some, None, IfOk, IsOk, OnErr, option_map};
-ghost use Rattle.std.specs.Prelude.{length, map, true};
+ghost use Rattle.std.specs.Prelude.{◌≡◌, ◌≢◌, ◌≤◌, Option, Some, None, IfOk, IsOk, OnErr};
+ghost use Rattle.std.specs.Prelude.{option_map, length, map, true};
 ghost use Rattle.article_fetch.specs.Fetch.{FoundAs};
 ghost use Rattle.cyc_token.specs.Token.{token_view};
 ghost use Rattle.cyc_token.specs.declared.Token.{Token};
@@ -55,7 +55,8 @@ impl Session {
             → self.old.phase ≡ Phase.Ready
             → HeardIs result.items self.old (look_heard (passed read self.old) (part_view part) id
             (option_map token_view told)) self.new)
-            answer self.old self.new }
+            ((told : Option Token) → answer ≢ Answer.Look told)
+            result.items self.old self.new }
     {
         match answer {
             Answer::Look(Some(token)) => {
@@ -83,7 +84,8 @@ impl Session {
             ((chunk : Chunk) → answer ≡ Answer.Chunk chunk → reading.prepared ≡ true
             → self.old.phase ≡ Phase.Ready
             → ReadAnyIs result.items self.old (passed read self.old) reading chunk self.new)
-            answer self.old self.new }
+            ((chunk : Chunk) → answer ≢ Answer.Chunk chunk)
+            result.items self.old self.new }
     {
         match answer {
             Answer::Chunk(chunk) => {
@@ -121,7 +123,8 @@ impl Session {
             → self.old.cutter.dropped ≡ 0
             → ReadAnyIs result.items self.old (in_phase (session_view self.old) model.Ready)
             reading chunk self.new)
-            answer self.old self.new }
+            ((chunk : Chunk) → answer ≢ Answer.Chunk chunk)
+            result.items self.old self.new }
     {
         match answer {
             Answer::Chunk(chunk) => match self.take_reading() {
@@ -157,7 +160,8 @@ impl Session {
             → length taken.items.items ≤ room → self.old.phase ≡ Phase.Ready
             → HeardIs result.items self.old (says (passed read self.old)
             (QueueFollows taken.missed (map item_view taken.items.items))) self.new)
-            answer self.old self.new }
+            ((taken : Taken) → answer ≢ Answer.Queue taken)
+            result.items self.old self.new }
     {
         match answer {
             Answer::Queue(taken) => {

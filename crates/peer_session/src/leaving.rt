@@ -1,5 +1,5 @@
 //! A session that leaves gives up what it had, one thing a turn.
-ghost use Rattle.std.specs.Prelude.{◌≡◌, ℕ, List, ◌∷◌, IfOk, IsOk};
+ghost use Rattle.std.specs.Prelude.{◌≡◌, ◌≢◌, ℕ, List, ◌∷◌, IfOk, IsOk};
 ghost use Rattle.relay_model.specs.Hears.{silent};
 ghost use Rattle.relay_model.specs.State as model;
 ghost use Rattle.relay_model.specs.State.{in_phase, with_offers};
@@ -50,7 +50,8 @@ impl Session {
             → self.old.phase ≡ Phase.Leaving → self.old.offers ≡ id ∷ later
             → HeardIs result.items self.old (silent (with_offers (session_view self.old) later))
             self.new)
-            answer self.old self.new }
+            (answer ≢ Answer.Nothing)
+            result.items self.old self.new }
     {
         if let Answer::Nothing = answer {
             drop(self.offers.close_oldest());
@@ -63,7 +64,8 @@ impl Session {
         ensures { HeardUnless
             (answer ≡ Answer.Nothing → HeardIs result.items self.old
             (silent (in_phase (session_view self.old) model.Ended)) self.new)
-            answer self.old self.new }
+            (answer ≢ Answer.Nothing)
+            result.items self.old self.new }
     {
         if let Answer::Nothing = answer {
             self.enter(Phase::Ended);

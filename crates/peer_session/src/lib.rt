@@ -14,6 +14,7 @@
 mod blocks;
 mod chains;
 mod fetches;
+pub mod laws;
 mod leaving;
 mod lines;
 mod offers;

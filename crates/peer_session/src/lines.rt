@@ -1,5 +1,5 @@
 //! Command lines: what each asks, and what is made of the answer to an offer.
-ghost use Rattle.std.specs.Prelude.{◌≡◌, ◌≤◌, ◌<◌, ◌==◌, ℕ, false, Ok, IfOk, IfSome, IsOk};
+ghost use Rattle.std.specs.Prelude.{◌≡◌, ◌≢◌, ◌≤◌, ◌<◌, ◌==◌, ℕ, false, Ok, IfOk, IfSome, IsOk};
 ghost use Rattle.std.specs.Prelude.{OnErr, Some, length, map, position};
 ghost use Rattle.article_verdict.specs.Config.{terms_of};
 ghost use Rattle.feed_queue.specs.Permission.{feed_view};
@@ -137,7 +137,8 @@ impl Session {
             → self.old.phase ≡ Phase.Ready
             → HeardIs result.items self.old (offer_heard (passed read self.old)
             (transfer_view transfer) id (offer_view told)) self.new)
-            answer self.old self.new }
+            ((told : Offer) → answer ≢ Answer.Offer told)
+            result.items self.old self.new }
     {
         match answer {
             Answer::Offer(told) => {

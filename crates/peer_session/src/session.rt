@@ -1,5 +1,5 @@
 //! The session: what it plans, what it makes of an answer, and what comes to it.
-ghost use Rattle.std.specs.Prelude.{◌≡◌, ◌≤◌, [], length, IfOk, IsOk, OnErr};
+ghost use Rattle.std.specs.Prelude.{◌≡◌, ◌≢◌, ◌≤◌, [], length, IfOk, IsOk, OnErr};
 ghost use Rattle.article_verdict.specs.Config.{terms_of};
 ghost use Rattle.news_terms.specs.Reply.{Reply};
 ghost use Rattle.relay_model.specs.Hears.{parts, says, silent};
@@ -7,9 +7,10 @@ ghost use Rattle.relay_model.specs.Run as run;
 ghost use Rattle.relay_model.specs.State as model;
 ghost use Rattle.relay_model.specs.State.{in_phase};
 ghost use Rattle.relay_model.specs.Terms.{last_moment};
+ghost use Rattle.peer_session.specs.Answers.{IsOther};
 ghost use Rattle.peer_session.specs.Asking.{DueOf, IsAwaitingBlock};
 ghost use Rattle.peer_session.specs.Given.{HearsPlanned, HeedsRead};
-ghost use Rattle.peer_session.specs.Hearing.{Forgets, HeardIs, HeardUnless, Heeds};
+ghost use Rattle.peer_session.specs.Hearing.{Forgets, HeardIs, HeardUnless, Heeds, LeavesAsIs};
 ghost use Rattle.peer_session.specs.Planning.{DueGiven, HandsOver, rests};
 ghost use Rattle.peer_session.specs.Said.{IsReply};
 ghost use Rattle.peer_session.specs.Session.{BrokenOff, Fed, IsBounded, NewStands, PlansFree};
@@ -187,10 +188,12 @@ impl Session {
 
     /// The session of this number hears the answer to the step that it planned: what it says, in
     /// octets. It takes no memory. The answer `Memory` leaves the session as it was before the
-    /// plan, and nothing planned.
+    /// plan, and nothing planned; so does one to another step, and nothing is said.
     pub fn absorb(&mut self, number: u64, answer: Answer) -> Vec<u8>
         ensures heard { Heeds number self.old answer result.items self.new }
         ensures given { HeedsRead self.old answer result.items self.new }
+        ensures other { IsOther self.old.planned.todo answer
+            → LeavesAsIs result.items (without_plan self.old) self.new }
         ensures memory { answer ≡ answers.Memory → Forgets self.old self.new }
         ensures plan { answer ≡ answers.Memory → self.new ≡ without_plan self.old }
         ensures quiet { answer ≡ answers.Memory → result.items ≡ [] }
@@ -209,8 +212,8 @@ impl Session {
 
     /// The answer to the step of this plan, which is the session's no more.
     fn hear(&mut self, number: u64, planned: Planned, answer: Answer) -> Vec<u8>
-        ensures { HearsPlanned number (record self.old { planned = planned }) answer result.items
-            self.new }
+        ensures { HearsPlanned number (record self.old { planned = planned }) self.old answer
+            result.items self.new }
     {
         let Planned { todo, read } = planned;
         match todo {
@@ -246,7 +249,8 @@ impl Session {
             (answer ≡ answers.Nothing
             → HeardIs result.items self.old (silent (in_phase (passed read self.old)
             (model.AwaitsBlock model.TakesThis id))) self.new)
-            answer self.old self.new }
+            (answer ≢ answers.Nothing)
+            result.items self.old self.new }
     {
         if let Answer::Nothing = answer {
             self.cutter.pass(read);
@@ -261,7 +265,8 @@ impl Session {
             ((reply : Reply) → answer ≡ answers.Nothing → IsReply octets.items reply
             → HeardIs result.items self.old
             (says (in_phase (passed read self.old) model.Ready) reply) self.new)
-            answer self.old self.new }
+            (answer ≢ answers.Nothing)
+            result.items self.old self.new }
     {
         match answer {
             Answer::Nothing => {
@@ -280,7 +285,8 @@ impl Session {
             ((reply : Reply) → answer ≡ answers.Nothing → IsReply octets.items reply
             → HeardIs result.items self.old
             (parts (passed read self.old) reply) self.new)
-            answer self.old self.new }
+            (answer ≢ answers.Nothing)
+            result.items self.old self.new }
     {
         match answer {
             Answer::Nothing => {

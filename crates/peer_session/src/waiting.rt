@@ -1,5 +1,5 @@
 //! An accepted article that is held or whose outcome is awaited.
-ghost use Rattle.std.specs.Prelude.{◌≡◌, ◌≤◌, Option, Some, None, IfOk, option_map};
+ghost use Rattle.std.specs.Prelude.{◌≡◌, ◌≢◌, ◌≤◌, Option, Some, None, IfOk, option_map};
 ghost use Rattle.buffer_group.specs.Jobs.{article_view};
 ghost use Rattle.buffer_group.specs.declared.job.Accepted.{Accepted};
 ghost use Rattle.id_history.specs.declared.claims.Take.{Take};
@@ -67,7 +67,8 @@ impl Session {
             → HeardIs result.items self.old
             (take_heard number (in_phase (session_view self.old) model.Ready) model.TakesThis copy
             (article_view article) (take_view told)) self.new)
-            answer self.old self.new }
+            ((told : Take) → answer ≢ Answer.Take told)
+            result.items self.old self.new }
     {
         match answer {
             Answer::Take(told) => match mem::replace(&mut self.phase, Phase::Ready) {
@@ -96,7 +97,8 @@ impl Session {
             → self.old.cutter.dropped ≡ 0
             → HeardIs result.items self.old (slot_heard (session_view self.old)
             (transfer_view transfer) id (option_map outcome_view told)) self.new)
-            answer self.old self.new }
+            ((told : Option Outcome) → answer ≢ Answer.Slot told)
+            result.items self.old self.new }
     {
         match answer {
             Answer::Slot(Some(outcome)) => match mem::replace(&mut self.phase, Phase::Ready) {

@@ -2,17 +2,17 @@
 use Rattle.std.proofs.Common.{◌≡◌, ◌+◌, ◌<◌, ℕ, List, [], ◌∷◌, ◌++◌, Some, Result, Ok, Err, None}
 use Rattle.std.proofs.Common.{Option, ap, drop, false, get_or, length, map, refl, sym}
 use Rattle.std.proofs.Common.{subst, ◌∙◌}
-use Rattle.std.proofs.lemmas.List.{append_assoc, at_drop_more, map_push}
+use Rattle.std.proofs.lemmas.List.{append_assoc, map_push}
 use Rattle.std.specs.List.{position_or_len}
 use Rattle.std.specs.declared.alloc.AllocError.{AllocError}
 use Rattle.std.specs.Str.{bytes_eq}
 use Rattle.line_words.specs.Comments.{is_skipped}
 use Rattle.relay_conf.proofs.FirstFaults.{drop_one}
 use Rattle.std.specs.Option.{option_map}
-use Rattle.relay_drill.specs.Fault.{LineGives, keyword_among, keyword_view, line_view}
+use Rattle.relay_drill.specs.Fault.{LineGives, keyword_view, line_view}
 use Rattle.relay_drill.specs.declared.line.Line as code
 use Rattle.relay_drill.specs.declared.script.Keyword as keys
-use Rattle.relay_drill.specs.Script.{Keyword, Line, Names, keyword_of, line_before, line_of}
+use Rattle.relay_drill.specs.Script.{Line, Names, keyword_of, line_before, line_of}
 use Rattle.relay_drill.specs.Script.{line_with, script_from}
 use Rattle.line_words.specs.Parts.{parts}
 
@@ -20,14 +20,6 @@ use Rattle.line_words.specs.Parts.{parts}
 abbrev pub after_lines : List Line → Result (List Line) ℕ → Result (List Line) ℕ
 after_lines lines (Ok more) = Ok (lines ++ more)
 after_lines lines (Err bad) = Err bad
-
--- Where a keyword hasn't the spelling, what is left of the list has it or none has.
-pub spelled_behind : (spelled : List (List ℕ × Keyword)) (word : List ℕ) (at : ℕ)
-    (one : List ℕ × Keyword) → at < length spelled → one ≡ get_or spelled at one
-    → bytes_eq word one.0 ≡ false
-    → keyword_among (drop at spelled) word ≡ keyword_among (drop (at + 1) spelled) word
-spelled_behind spelled word at one within is other =
-    at_drop_more (λ left. keyword_among left word) spelled at one within ∙ rw (← is, other) refl
 
 -- What the words say is what the line gives.
 pub line_gives : (result : Option code.Line) (says : Option Line)

@@ -1,5 +1,5 @@
 -- What is added up of the elements so far, and of one more.
-use Rattle.std.proofs.Common.{◌≡◌, ◌≤◌, ◌<◌, ◌+◌, ◌*◌, ap, arith, ℕ, List, length, take}
+use Rattle.std.proofs.Common.{◌≡◌, ◌<◌, ◌+◌, ap, arith, ℕ, List, length, take}
 use Rattle.std.proofs.Math.ListN.{get_or}
 use Rattle.std.proofs.lemmas.List.Sums.{sum_by_more}
 use Rattle.std.specs.List.{sum_by}
@@ -15,8 +15,3 @@ one_more f xs one k had part at there is of = omega (
   ap f at,
   sum_by_more f xs k one there,
 )
-
--- What is no more than so much for each is so for one more.
-pub most_more : (k had part each : ℕ) → had ≤ k * each → part ≤ each
-    → had + part ≤ (k + 1) * each
-most_more k had part each h p = omega (arith, h, p)

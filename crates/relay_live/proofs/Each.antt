@@ -24,23 +24,6 @@ both_mapped P Q f k xs ys are so = record {
       };
 }
 
--- what is made of the items of the first list belongs to those of the second
-pub first_mapped : {X Y A : Type 0} (P : ℕ → X → Y → Type 0) (Q : ℕ → A → Y → Type 0) (f : X → A)
-    (xs : List X) (ys : List Y) → AreEach P xs ys
-    → ((b : ℕ) (x : X) (y : Y) → slice_get xs b ≡ Some x → P b x y → Q b (f x) y)
-    → AreEach Q (map f xs) ys
-first_mapped P Q f xs ys are so = record {
-  count = are.count ∙ sym (length-map xs f);
-  each = λ b a is.
-      let at = mapped_at f xs b a is in
-      let was = are.each b at.0 at.1 in
-      record {
-        item = was.item;
-        there = was.there;
-        belongs = subst (λ one. Q b one was.item) at.2 (so b at.0 was.item at.1 was.belongs);
-      };
-}
-
 -- what belongs to what was made of the items of the first list belongs to these
 pub first_unmapped : {X Y A : Type 0} (P : ℕ → A → Y → Type 0) (f : X → A) (xs : List X)
     (ys : List Y) → AreEach P (map f xs) ys → AreEach (λ b x y. P b (f x) y) xs ys

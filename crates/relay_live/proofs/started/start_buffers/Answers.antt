@@ -1,4 +1,4 @@
-use Rattle.std.proofs.Common.{◌≡◌, ◌∙◌, ◌++◌, ◌∷◌, ◌<◌, [], ap, arith, length, map}
+use Rattle.std.proofs.Common.{◌∙◌, ◌++◌, ◌∷◌, ◌<◌, [], ap, arith, length, map}
 use Rattle.std.proofs.Common.{None, refl, subst, sym}
 use Rattle.std.proofs.lemmas.List.{length-append, length-map}
 use Rattle.cyc_buffer.specs.Agreement.{store_of}

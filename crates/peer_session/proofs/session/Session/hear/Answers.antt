@@ -1,4 +1,5 @@
 use Rattle.std.proofs.Common.{ap, List, ℕ, refl, Some, subst, sym}
+use Rattle.peer_session.specs.Answers.{IsOther}
 use Rattle.peer_session.specs.Hearing.{Heeds}
 use Rattle.peer_session.specs.declared.phase.Todo.TheVariants as todos
 use Rattle.peer_session.proofs.GivenReads.{given_first, given_on, not_read}
@@ -22,6 +23,7 @@ returns-in-Rest c =
       given = not_read had (with_planned had c.args.self.now.planned) c.args.answer
           c.unheard.result.items todos.Rest c.args.planned.read refl
           (was_planned had c.args.planned _ refl c.in-Rest.is);
+      other = λ other. (c.unheard.ensures, refl);
     }
 
 pub returns-in-Push : goal.returns-in-Push
@@ -36,6 +38,7 @@ returns-in-Push c =
       given = not_read had (with_planned had c.args.self.now.planned) c.args.answer
           c.unheard-in-Push.result.items todos.Push c.args.planned.read refl
           (was_planned had c.args.planned _ refl c.in-Push.is);
+      other = λ other. (c.unheard-in-Push.ensures, refl);
     }
 
 pub returns-in-Owe : goal.returns-in-Owe
@@ -49,6 +52,8 @@ returns-in-Owe c =
       given = not_read had c.hear_owed.new.self c.args.answer c.hear_owed.result.items
           (todos.Owe c.in-Owe.id) c.args.planned.read refl
           (was_planned had c.args.planned _ refl c.in-Owe.is);
+      other = λ other. c.hear_owed.ensures.other
+          (subst (λ todo. IsOther todo c.args.answer) c.in-Owe.is other);
     }
 
 pub returns-in-Say : goal.returns-in-Say
@@ -63,6 +68,8 @@ returns-in-Say c =
       given = not_read had c.hear_said.new.self c.args.answer c.hear_said.result.items
           (todos.Say c.in-Say.octets) c.args.planned.read refl
           (was_planned had c.args.planned _ refl c.in-Say.is);
+      other = λ other. c.hear_said.ensures.other
+          (subst (λ todo. IsOther todo c.args.answer) c.in-Say.is other);
     }
 
 pub returns-in-Leave : goal.returns-in-Leave
@@ -77,6 +84,8 @@ returns-in-Leave c =
       given = not_read had c.hear_left.new.self c.args.answer c.hear_left.result.items
           (todos.Leave c.in-Leave.octets) c.args.planned.read refl
           (was_planned had c.args.planned _ refl c.in-Leave.is);
+      other = λ other. c.hear_left.ensures.other
+          (subst (λ todo. IsOther todo c.args.answer) c.in-Leave.is other);
     }
 
 pub returns-in-Check : goal.returns-in-Check
@@ -91,6 +100,8 @@ returns-in-Check c =
       given = not_read had c.hear_offer.new.self c.args.answer c.hear_offer.result.items
           (todos.Check c.in-Check.id c.in-Check.room) c.args.planned.read refl
           (was_planned had c.args.planned _ refl c.in-Check.is);
+      other = λ other. c.hear_offer.ensures.other
+          (subst (λ todo. IsOther todo c.args.answer) c.in-Check.is other);
     }
 
 pub returns-in-Ihave : goal.returns-in-Ihave
@@ -108,6 +119,8 @@ returns-in-Ihave c =
           c.hear_offer-in-Ihave.result.items
           (todos.Ihave c.in-Ihave.id c.in-Ihave.copy c.in-Ihave.room) c.args.planned.read refl
           (was_planned had c.args.planned _ refl c.in-Ihave.is);
+      other = λ other. c.hear_offer-in-Ihave.ensures.other
+          (subst (λ todo. IsOther todo c.args.answer) c.in-Ihave.is other);
     }
 
 pub returns-in-Look : goal.returns-in-Look
@@ -121,6 +134,8 @@ returns-in-Look c =
       given = not_read had c.hear_look.new.self c.args.answer c.hear_look.result.items
           (todos.Look c.in-Look.part c.in-Look.id c.in-Look.room) c.args.planned.read refl
           (was_planned had c.args.planned _ refl c.in-Look.is);
+      other = λ other. c.hear_look.ensures.other
+          (subst (λ todo. IsOther todo c.args.answer) c.in-Look.is other);
     }
 
 pub returns-in-Fetch : goal.returns-in-Fetch
@@ -136,6 +151,8 @@ returns-in-Fetch c =
           c.args.self.now.planned c.args.planned.read c.in-Fetch.reading
           (was_planned had c.args.planned _ refl c.in-Fetch.is)
           c.hear_first.ensures.given;
+      other = λ other. c.hear_first.ensures.other
+          (subst (λ todo. IsOther todo c.args.answer) c.in-Fetch.is other);
     }
 
 pub returns-in-ReadOn : goal.returns-in-ReadOn
@@ -153,6 +170,8 @@ returns-in-ReadOn c =
           (was_planned had c.args.planned _ refl
           c.in-ReadOn.is)
           c.hear_next.ensures.given;
+      other = λ other. c.hear_next.ensures.other
+          (subst (λ todo. IsOther todo c.args.answer) c.in-ReadOn.is other);
     }
 
 pub returns-in-Queue : goal.returns-in-Queue
@@ -167,6 +186,8 @@ returns-in-Queue c =
       given = not_read had c.hear_queue.new.self c.args.answer c.hear_queue.result.items
           (todos.Queue c.in-Queue.room) c.args.planned.read refl
           (was_planned had c.args.planned _ refl c.in-Queue.is);
+      other = λ other. c.hear_queue.ensures.other
+          (subst (λ todo. IsOther todo c.args.answer) c.in-Queue.is other);
     }
 
 pub returns-in-Refuse : goal.returns-in-Refuse
@@ -183,6 +204,8 @@ returns-in-Refuse c =
           (todos.Refuse c.in-Refuse.room) c.args.planned.read refl
           (was_planned had c.args.planned _ refl
           c.in-Refuse.is);
+      other = λ other. c.hear_refused.ensures.other
+          (subst (λ todo. IsOther todo c.args.answer) c.in-Refuse.is other);
     }
 
 pub returns-in-Take : goal.returns-in-Take
@@ -198,6 +221,8 @@ returns-in-Take c =
       given = not_read had c.hear_taken.new.self c.args.answer c.hear_taken.result.items
           (todos.Take c.in-Take.copy c.in-Take.article c.in-Take.room) c.args.planned.read refl
           (was_planned had c.args.planned _ refl c.in-Take.is);
+      other = λ other. c.hear_taken.ensures.other
+          (subst (λ todo. IsOther todo c.args.answer) c.in-Take.is other);
     }
 
 pub returns-in-TakeHeld : goal.returns-in-TakeHeld
@@ -214,6 +239,8 @@ returns-in-TakeHeld c =
           (todos.TakeHeld c.in-TakeHeld.copy) c.args.planned.read refl
           (was_planned had c.args.planned _ refl
           c.in-TakeHeld.is);
+      other = λ other. c.hear_held.ensures.other
+          (subst (λ todo. IsOther todo c.args.answer) c.in-TakeHeld.is other);
     }
 
 pub returns-in-Slot : goal.returns-in-Slot
@@ -228,6 +255,8 @@ returns-in-Slot c =
       given = not_read had c.hear_slot.new.self c.args.answer c.hear_slot.result.items
           todos.Slot c.args.planned.read refl
           (was_planned had c.args.planned _ refl c.in-Slot.is);
+      other = λ other. c.hear_slot.ensures.other
+          (subst (λ todo. IsOther todo c.args.answer) c.in-Slot.is other);
     }
 
 pub returns-in-Release : goal.returns-in-Release
@@ -244,6 +273,8 @@ returns-in-Release c =
           todos.Release c.args.planned.read refl
           (was_planned had c.args.planned _ refl
           c.in-Release.is);
+      other = λ other. c.hear_released.ensures.other
+          (subst (λ todo. IsOther todo c.args.answer) c.in-Release.is other);
     }
 
 pub returns-in-End : goal.returns-in-End
@@ -257,6 +288,8 @@ returns-in-End c =
       given = not_read had c.hear_ended.new.self c.args.answer c.hear_ended.result.items
           todos.End c.args.planned.read refl
           (was_planned had c.args.planned _ refl c.in-End.is);
+      other = λ other. c.hear_ended.ensures.other
+          (subst (λ todo. IsOther todo c.args.answer) c.in-End.is other);
     }
 
 -- what hears an answer asks nothing

@@ -6,5 +6,5 @@ pub returns-in_default : goal.returns-in_default
 returns-in_default c = record {
   heard = λ chunk found is found_as prepared ready. absurd (c.in_default.not-Chunk chunk is);
   given = λ chunk is prepared ready. absurd (c.in_default.not-Chunk chunk is);
-  memory = λ memory. refl;
+  other = λ other. (c.unheard.ensures, refl);
 }

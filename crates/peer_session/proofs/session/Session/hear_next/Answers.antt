@@ -7,5 +7,5 @@ returns-in_default c = record {
   heard = λ reading chunk found is phase found_as prepared kept.
       absurd (c.in_default.not-Chunk chunk is);
   given = λ reading chunk is phase prepared kept. absurd (c.in_default.not-Chunk chunk is);
-  memory = λ memory. refl;
+  other = λ other. (c.unheard.ensures, refl);
 }

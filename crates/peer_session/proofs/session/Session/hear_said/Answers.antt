@@ -5,5 +5,5 @@ use Rattle.peer_session.proofs.session.Session.hear_said.Goals as goal
 pub returns-in_default : goal.returns-in_default
 returns-in_default c = record {
   heard = λ reply is said. absurd (c.in_default.not-Nothing is);
-  memory = λ memory. refl;
+  other = λ other. (c.unheard.ensures, refl);
 }
