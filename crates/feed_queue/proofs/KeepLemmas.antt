@@ -15,7 +15,7 @@ use Rattle.feed_queue.specs.Feeds.{KeepsFeed, with_gained}
 use Rattle.feed_queue.specs.Taking.{item_view}
 use Rattle.feed_queue.proofs.RingLemmas.{ring-gained, ring-taken, items-ring, length-ring}
 use Rattle.feed_queue.proofs.RingLemmas.{passed-ring}
-use Rattle.news_terms.specs.Ring.{last_of, ring, passed_now, missed, taken_items}
+use Rattle.news_terms.specs.Ring.{last_of, ring, passed_now, taken_items}
 use Rattle.relay_model.specs.Shares.{as_ring, after_take_of}
 use Rattle.relay_model.specs.State.{Feed}
 

@@ -1,12 +1,12 @@
 -- Head blocks are behind the blocks: a change of one of either kind leaves the other kind as it is.
-use Rattle.std.proofs.Common.{◌≡◌, ◌≢◌, ◌∙◌, ◌+◌, ◌-◌, ◌*◌, ◌<◌, ◌≤◌, ℕ, List, [], take, drop}
+use Rattle.std.proofs.Common.{◌≡◌, ◌≢◌, ◌∙◌, ◌+◌, ◌*◌, ◌<◌, ◌≤◌, ℕ, List, [], take, drop}
 use Rattle.std.proofs.Common.{length, get_or, set, refl, sym, ap, subst, arith}
 use Rattle.std.proofs.lemmas.List.{drop-drop, take-take}
 use Rattle.cyc_block.specs.declared.TheConstants.{BLOCK_OCTETS}
 use Rattle.news_terms.specs.HeadBlocks.{head_blocks}
 use Rattle.file_blocks.specs.Blocks.{blocks_of, heads_of, octets_at, ChangesOnlyAt}
 use Rattle.file_blocks.proofs.CutLemmas.{change_behind, length-blocks_of, other_blocks, read_block}
-use Rattle.file_blocks.proofs.CutLemmas.{same_front, within, written_block}
+use Rattle.file_blocks.proofs.CutLemmas.{same_front, written_block}
 
 -- there is one head block more than a bitmap of the blocks takes
 pub length-heads_of : (n : ℕ) (octets : List ℕ)

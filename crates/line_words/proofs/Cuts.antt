@@ -1,10 +1,8 @@
 -- How a text is cut into its parts: at the first octet of the kind.
 use Rattle.std.proofs.Common.{◌≡◌, ℕ, ◌≤◌, ◌+◌, Bool, true, false, cond, ltb, List, [], ◌∷◌, length}
 use Rattle.std.proofs.Common.{take, drop, Option, Some, None, refl, sym, arith, add-one, map, ◌==◌}
-use Rattle.std.proofs.lemmas.List.{length-map}
-use Rattle.std.specs.Option.{option_map}
 use Rattle.std.specs.List.{slice_split, position_or_len}
-use Rattle.line_words.specs.Parts.{one_of, two_of, parts, parts_after}
+use Rattle.line_words.specs.Parts.{one_of, parts, parts_after}
 use Rattle.std.proofs.lemmas.Bool.{ltb-true, ltb-false}
 use Rattle.std.proofs.lemmas.List.Splits.{slice_split_first, length-slice_split}
 use Rattle.std.proofs.lemmas.List.Sums.{count_by-le-length}

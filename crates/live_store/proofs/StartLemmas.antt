@@ -9,12 +9,10 @@ use Rattle.std.proofs.lemmas.List.{length-replicate}
 use Rattle.std.proofs.lemmas.List.Elements.{Contains-get_or}
 use Rattle.std.specs.Prelude.{None}
 use Rattle.boxcar.specs.Table.{Shelves, Where, Shows}
-use Rattle.cyc_buffer.proofs.Finished.{lies, same_some}
+use Rattle.cyc_buffer.proofs.Finished.{same_some}
 use Rattle.cyc_buffer.specs.History.{Article, History, finished_at, front_of}
-use Rattle.cyc_buffer.specs.BufferState.{Keeps}
 use Rattle.cyc_buffer.specs.Starting.{ListsLive}
 use Rattle.cyc_buffer.specs.Stopped.{IsLiveToken}
-use Rattle.cyc_buffer.specs.declared.buffer_state.BufferState.{BufferState}
 use Rattle.cyc_token.specs.Token.{token_view}
 use Rattle.cyc_token.specs.declared.Token as codes
 use Rattle.live_store.specs.Started.{AreNumberedTo, HaveFirsts, IsTextOfLive, IsThere, code_token}

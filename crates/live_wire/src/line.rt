@@ -1,4 +1,8 @@
 //! A connection of a peer, which waits in parts.
+ghost use Rattle.std.specs.Prelude.{◌↔◌, IsTrue};
+ghost use Rattle.std.specs.IoError.{error_kind};
+ghost use Rattle.live_wire.specs.Waits.{IsLate, IsWait};
+
 use crate::stop::Stop;
 use std::io;
 use std::io::{ErrorKind, Read, Write};
@@ -159,11 +163,15 @@ impl Write for Line<'_> {
 }
 
 /// Whether a part of a wait has passed, and nothing came or went.
-fn is_late(error: &io::Error) -> bool {
+fn is_late(error: &io::Error) -> bool
+    ensures { IsTrue result ↔ IsLate (error_kind error.now) }
+{
     matches!(error.kind(), ErrorKind::WouldBlock | ErrorKind::TimedOut)
 }
 
 /// Whether a part of a wait has passed, or a signal came first.
-pub(crate) fn is_wait(error: &io::Error) -> bool {
+pub(crate) fn is_wait(error: &io::Error) -> bool
+    ensures { IsTrue result ↔ IsWait (error_kind error.now) }
+{
     is_late(error) || error.kind() == ErrorKind::Interrupted
 }

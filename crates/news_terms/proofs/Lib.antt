@@ -18,6 +18,7 @@ pub mod LineLemmas
 pub mod LinePairs
 pub mod ListPlaces
 pub mod Matching
+pub mod Moments
 pub mod NextLemmas
 pub mod OneSoundness
 pub mod PathUpdates

@@ -1,6 +1,7 @@
 //! Reading a script whole, and running it over memory (docs/PROTOCOL.md, The call `drill`).
-ghost use Rattle.std.specs.Prelude.{◌≡◌, ◌≢◌, vec_items, IfErr, IfOk, IfSome};
+ghost use Rattle.std.specs.Prelude.{◌≡◌, ◌≢◌, All, vec_items, IfErr, IfOk, IfSome};
 ghost use Rattle.std.specs.declared.io.ErrorKind.TheVariants as kinds;
+ghost use Rattle.cyc_block.specs.Failing.{calls_left};
 ghost use Rattle.relay_drill.specs.Drill.{DrillGives};
 ghost use Rattle.relay_drill.specs.Fault.{ReadGives, told_as, unbegun_as};
 ghost use Rattle.relay_drill.specs.Stores.{AreStoresOf};
@@ -87,8 +88,9 @@ fn unbegun(kind: ErrorKind) -> DrillError
 
 /// A store in memory for each of the buffers, of its blocks, of which no call fails yet.
 fn new_stores(alloc: Global, buffers: &[BufferConf]) -> Result<Vec<Store>, AllocError>
-    ensures { IfOk result (λ stores.
+    ensures stores { IfOk result (λ stores.
         AreStoresOf ⟦<FailAt<MemoryBlocks> as BlockStore>⟧ buffers.now stores.items) }
+    ensures unarmed { IfOk result (λ stores. All (λ store. calls_left store ≡ 0) stores.items) }
 {
     let mut stores = Vec::with_capacity(alloc, buffers.len())?;
     for buffer in buffers {

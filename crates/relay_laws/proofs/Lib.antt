@@ -17,7 +17,6 @@ pub mod Gained
 pub mod Gone
 pub mod JobsTold
 pub mod KnownTokens
-mod Moments
 pub mod OfferDues
 pub mod OfferSteps
 pub mod OfferTurns

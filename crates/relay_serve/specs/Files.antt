@@ -35,3 +35,7 @@ HasReason reason error = error ≡ faults.Memory
 -- both are one file, whatever its names: the same inode of the same device
 abbrev pub SharesFile : (file other : HeldFile) → Type 0
 SharesFile file other = held_identity file ≡ held_identity other
+
+-- they are two files
+abbrev pub DifferentFiles : (file other : HeldFile) → Type 0
+DifferentFiles file other = ¬ SharesFile file other

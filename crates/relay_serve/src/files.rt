@@ -1,8 +1,9 @@
 //! The files of the buffers (docs/FORMATS.md, cycbuff.conf).
-ghost use Rattle.std.specs.Prelude.{◌≡◌, length, map, All, Any, IfErr, IfOk, MatchBool};
+ghost use Rattle.std.specs.Prelude.{◌≡◌, ◌↔◌, length, map, All, AllPairs, Any, IfErr, IfOk};
+ghost use Rattle.std.specs.Prelude.{IsSome, IsTrue, MatchBool};
 ghost use Rattle.file_blocks.specs.Fitted.{count_of as blocks_counted};
 ghost use Rattle.relay_serve.specs.Files.{HasReason, IsFaultAt, IsFaultOf, IsFileFault};
-ghost use Rattle.relay_serve.specs.Files.{SharesFile};
+ghost use Rattle.relay_serve.specs.Files.{DifferentFiles, SharesFile};
 ghost use Rattle.file_blocks.specs.Store.{count_of};
 
 use crate::reasons::reason_of;
@@ -27,6 +28,7 @@ pub(crate) fn hold_files<R: Files<File = File>>(
 ) -> Result<Vec<HeldFile>, ServeError>
     ensures count { IfOk result (λ files. length files.items
         ≡ length settings.now.buffers.items) }
+    ensures apart { IfOk result (λ files. AllPairs DifferentFiles files.items) }
     ensures fault { IfErr result (IsFileFault settings.now) }
 {
     let mut files = Vec::with_capacity(alloc, settings.buffers.len())?;
@@ -47,7 +49,8 @@ fn held_or_told<R: Files<File = File>>(
     buffer: &BufferConf,
     earlier: &[HeldFile],
 ) -> Result<HeldFile, ServeError>
-    ensures { IfErr result (IsFaultOf buffer.now) }
+    ensures apart { IfOk result (λ file. All (DifferentFiles file) earlier.now) }
+    ensures fault { IfErr result (IsFaultOf buffer.now) }
 {
     match hold_file(rt, alloc, buffer, folder, earlier) {
         Ok(file) => Ok(file),
@@ -67,7 +70,9 @@ fn hold_file<R: Files<File = File>>(
     buffer: &BufferConf,
     folder: &str,
     others: &[HeldFile],
-) -> Result<HeldFile, Option<Reason>> {
+) -> Result<HeldFile, Option<Reason>>
+    ensures { IfOk result (λ file. All (DifferentFiles file) others.now) }
+{
     let path = path_of(alloc, folder, buffer)?;
     match HeldFile::hold(rt, path.as_str()) {
         Ok(file) => {
@@ -153,7 +158,9 @@ fn place_of<R: Files>(
 }
 
 /// Whether both are one place, and that is to be had.
-fn is_same(own: Option<(u64, u64)>, place: Option<(u64, u64)>) -> bool {
+fn is_same(own: Option<(u64, u64)>, place: Option<(u64, u64)>) -> bool
+    ensures { IsTrue result ↔ IsSome own × (own ≡ place) }
+{
     match (own, place) {
         (Some(own), Some(place)) => own.0 == place.0 && own.1 == place.1,
         _ => false,
@@ -163,7 +170,7 @@ fn is_same(own: Option<(u64, u64)>, place: Option<(u64, u64)>) -> bool {
 /// Whether the file is one of the others.
 fn is_one_of(file: &HeldFile, others: &[HeldFile]) -> bool
     ensures { MatchBool result (Any (SharesFile file.now) others.now)
-        (All (λ other. ¬ SharesFile file.now other) others.now) }
+        (All (DifferentFiles file.now) others.now) }
 {
     for other in others {
         if file.same_file(other) {

@@ -1,6 +1,6 @@
 -- Each step of a walk over a pattern and a name keeps what is known of it, and leaves fewer steps.
-use Rattle.std.proofs.Common.{◌≡◌, ℕ, ◌+◌, ◌*◌, ◌<◌, ◌≤◌, true, false, not, List, [], ◌∷◌, ◌++◌}
-use Rattle.std.proofs.Common.{length, map, Option, Some, None, refl, sym, ap, subst, ◌∙◌, arith}
+use Rattle.std.proofs.Common.{ℕ, ◌+◌, ◌*◌, ◌<◌, ◌≤◌, not, List, [], ◌∷◌, ◌++◌}
+use Rattle.std.proofs.Common.{length, Option, Some, None, refl, sym, ap, ◌∙◌, arith}
 use Rattle.std.proofs.Common.{append_assoc, length-append}
 use Rattle.std.proofs.Math.Nat.{mul-le-mul_right, add-mul}
 use Rattle.std.specs.Prelude.{◌||◌}
@@ -8,9 +8,8 @@ use Rattle.std.proofs.lemmas.Bool.{and_from, not_from_false}
 use Rattle.std.proofs.lemmas.List.Folds.{list_all-append}
 use Rattle.news_terms.specs.Pattern.{Item, Star, matches}
 use Rattle.uwild.specs.declared.matching.Rest.{Rest}
-use Rattle.uwild.specs.Expression.{item_view}
-use Rattle.uwild.specs.Walks.{is_star, items_left, goes, IsBehindStar, IsBehindOctet, IsFurther}
-use Rattle.uwild.specs.Walks.{FurtherGives, later, IsSinceStar, IsWalk, steps_left}
+use Rattle.uwild.specs.Walks.{is_star, items_left, IsBehindStar, IsBehindOctet}
+use Rattle.uwild.specs.Walks.{later, IsSinceStar, IsWalk, steps_left}
 use Rattle.uwild.proofs.Stars.{star_tried, last_star}
 
 -- the star where the walk stands behind it

@@ -55,5 +55,5 @@ returns-in-Ok-new g c =
     c.args.config first_world
     (subst R c.len-groups.ensures (subst Q c.deref-in-Ok-new.ensures.value c.play-played.ensures))
     (begun c.args.config _ c.in-Ok-new_stores.stores.items c.in-Ok-new.relay
-    c.in-Ok-new_stores.ensures
+    c.in-Ok-new_stores.ensures.stores
     c.in-Ok-new.ensures.begins))

@@ -1,5 +1,7 @@
-use Rattle.std.proofs.Common.{◌+◌, ◌∙◌, ◌∷◌, [], ap, length, length-append}
+use Rattle.std.proofs.Common.{◌≡◌, ◌+◌, ◌∙◌, ◌∷◌, [], ap, length, length-append}
 use Rattle.std.proofs.lemmas.List.{length-replicate, take_all}
+use Rattle.std.proofs.lemmas.List.Elements.{All-push}
+use Rattle.cyc_block.specs.Failing.{calls_left}
 use Rattle.relay_drill.proofs.Stores.{one_more_store}
 use Rattle.relay_drill.proofs.whole.new_stores.Invariants.{seen}
 use Rattle.relay_drill.proofs.whole.new_stores.Goals as goal
@@ -20,10 +22,13 @@ loop-buffer-preserved c =
           (ap length made.blocks ∙ ap length c.in_ok-blocks.ensures.blocks
           ∙ length-replicate c.buffer-item.result.blocks _)
           (made.honest c.in_ok-blocks.ensures.honest) (ap (λ n. 0 + n) made.spent));
+      unarmed = rw c.push_reserved.ensures.items
+          (All-push (λ store. calls_left store ≡ 0) c.loop-buffer.stores.items
+          c.new-in-loop-buffer.result c.loop-buffer.invariant.unarmed made.calls);
     }
 
 -- no buffer is left
-pub returns : goal.returns
-returns c =
+pub returns-clause-stores : goal.returns-clause-stores
+returns-clause-stores c =
     rw (take_all c.loop-buffer.buffer-index c.args.buffers.now c.loop-buffer-test.false)
     at c.loop-buffer.invariant.made

@@ -7,7 +7,7 @@ use Rattle.relay_model.specs.World.{empty_world}
 use Rattle.relay_laws.specs.Rows as rows
 use Rattle.relay_laws.specs.Terms.{k1}
 use Rattle.relay_laws.proofs.Articles.{article_a_is, stored_a_is, stored_a}
-use Rattle.relay_laws.proofs.Moments.{is_new_year}
+use Rattle.news_terms.proofs.Moments.{is_new_year}
 use Rattle.relay_laws.proofs.Dues.{NoHint, ReadsAs, HasDigits}
 use Rattle.relay_laws.proofs.Playing.{are_answered}
 use Rattle.relay_laws.proofs.rows.parts.Goals as goal

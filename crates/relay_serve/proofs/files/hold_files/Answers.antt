@@ -10,4 +10,4 @@ returns-in_err-file-clause-fault g c =
     rw (told.1, told.2)
     (fault_at c.args.settings.now c.deref-buffer-items.result.now c.loop-buffer.buffer-index
     c.buffer-item.result c.in_err-file.field-0.0 c.deref-buffer-items.ensures.value
-    c.loop-buffer-test.true c.buffer-item.is c.in_err-file.ensures)
+    c.loop-buffer-test.true c.buffer-item.is c.in_err-file.ensures.fault)

@@ -1,4 +1,4 @@
-use Rattle.std.proofs.Common.{◌≡◌, ◌∙◌, ◌-◌, ap, arith, length, map, min, sym}
+use Rattle.std.proofs.Common.{◌≡◌, ◌∙◌, ◌-◌, ap, arith, length, min, sym}
 use Rattle.std.proofs.lemmas.List.{length-map, take_all}
 use Rattle.cyc_token.specs.Token.{token_view}
 use Rattle.feed_queue.proofs.rings.Ring.resume.Goals as goal
