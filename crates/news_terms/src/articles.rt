@@ -150,6 +150,7 @@ pub fn content_examples()
     ensures empty_component { is_newsgroup_name (codes "comp..x") ≡ false }
     ensures empty_name { is_newsgroup_name (codes "") ≡ false }
     ensures every_mark { is_newsgroup_name (codes "alt.a_b-c") ≡ true }
+    ensures capitals_and_digits { is_newsgroup_name (codes "Alt.OS2.9") ≡ true }
     ensures other_mark { is_newsgroup_name (codes "alt.a/b") ≡ false }
     ensures ends_with_dot { is_newsgroup_name (codes "alt.") ≡ false }
 {}

@@ -61,8 +61,12 @@ pub fn judged_examples()
 pub fn zone_examples()
     ensures universal { prepared_date (codes " Fri, 01 Jan 2021 00:00:00 UT")
         ≡ Some (codes "01 Jan 2021 00:00:00 +0000") }
+    ensures universal_in_lower_case { prepared_date (codes " 1 Jan 2021 00:00:00 ut")
+        ≡ Some (codes "1 Jan 2021 00:00:00 +0000") }
     ensures coordinated { prepared_date (codes " Fri, 01 Jan 2021 00:00:00 utc")
         ≡ Some (codes "01 Jan 2021 00:00:00 +0000") }
+    ensures coordinated_in_upper_case { prepared_date (codes " 1 Jan 2021 00:00:00 UTC")
+        ≡ Some (codes "1 Jan 2021 00:00:00 +0000") }
     ensures mean { prepared_date (codes " Fri, 01 Jan 2021 00:00:00 gmt")
         ≡ Some (codes "01 Jan 2021 00:00:00 +0000") }
     ensures behind_tab { prepared_date (codes " 1 Jan 2021 00:00:00\tGMT")
