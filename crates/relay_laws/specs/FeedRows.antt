@@ -14,6 +14,23 @@ no_feed = Open 2 1 ∷ Bytes 2 (codes "XTAKE 5\r\n") ∷ turns 2 1
 abbrev pub no_feed_replies : List Output
 no_feed_replies = greeted 2 ∷ Quiet ∷ Sent 2 (codes "490 No feed\r\n") ∷ []
 
+-- the second peer asks for its queue, then the first for its own, each twice
+abbrev pub two_feeds : List Event
+two_feeds =
+    both_open
+    ++ Bytes 1 (codes "XTAKE 5\r\nXTAKE 5\r\n") ∷ Bytes 2 (codes "XTAKE 5\r\nXTAKE 5\r\n")
+    ∷ turns 2 1 ++ turns 1 2 ++ turns 2 1
+
+-- the last two of the second feed, one missed; the last of the first, two missed; then nothing
+abbrev pub two_feeds_replies : List Output
+two_feeds_replies =
+    both_greeted ++ quiet 2
+    ++ Sent 2 (codes "290 Queue follows\r\n1\r\n2 @01000000000100000003000005A0@\r\n"
+    ++ codes "3 @01000000000300000000000005A0@\r\n.\r\n")
+    ∷ Sent 1 (codes "290 Queue follows\r\n2\r\n3 @01000000000200000000000005A0@\r\n.\r\n")
+    ∷ Sent 1 (codes "290 Queue follows\r\n0\r\n.\r\n")
+    ∷ Sent 2 (codes "290 Queue follows\r\n0\r\n.\r\n") ∷ []
+
 -- three articles come, and the queue is taken one by one
 abbrev pub ring_in_parts : List Event
 ring_in_parts =

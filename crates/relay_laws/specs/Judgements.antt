@@ -1,10 +1,11 @@
 -- Articles that are judged one by one: what each has against it, and what of it is stored.
-use Rattle.std.specs.Prelude.{ℕ, ◌+◌, List, [], ◌∷◌, ◌++◌, codes}
+use Rattle.std.specs.Prelude.{ℕ, ◌+◌, pos, List, [], ◌∷◌, ◌++◌, Some, codes, bytes_eq}
+use Rattle.std.specs.Prelude.{if◌then◌else◌}
 use Rattle.std.specs.Str.{byte}
 use Rattle.news_terms.specs.Article.{Article, Field, worked_article}
 use Rattle.relay_model.specs.Claims.{Accepted}
 use Rattle.relay_model.specs.Terms.{Terms}
-use Rattle.relay_laws.specs.Terms.{k1, now, every_article, group_g, own_is_first}
+use Rattle.relay_laws.specs.Terms.{k1, now, every_article, group_g, own_is_first, second_read}
 
 -- A(a, 1), with this Path and these further fields
 abbrev pub article_with : (path : List ℕ) → List Field → Article
@@ -38,6 +39,29 @@ abbrev pub numbered : Article
 numbered =
     article_with (codes " one.example!not-for-mail")
     (record { name = codes "Xref"; content = codes " one.example misc.test:7" } ∷ [])
+
+-- it has an Injection-Date of this content
+abbrev pub injected : (content : List ℕ) → Article
+injected content =
+    article_with (codes " one.example!not-for-mail")
+    (record { name = codes "Injection-Date"; content = content } ∷ [])
+
+-- an Injection-Date of a year before the Date
+abbrev pub injection_2020 : List ℕ
+injection_2020 = codes " Wed, 01 Jan 2020 00:00:00 +0000"
+
+-- the first second of 2020
+abbrev pub first_of_2020 : ℕ
+first_of_2020 = 1577836800
+
+-- the terms where that date is read too
+abbrev pub reading_2020 : Terms
+reading_2020 =
+    record k1 {
+      second_read = λ content.
+          if bytes_eq content (codes "01 Jan 2020 00:00:00 +0000") then Some (pos first_of_2020)
+          else second_read content;
+    }
 
 -- the first moment at which the date is more than the cutoff ago
 abbrev pub too_late : ℕ
@@ -74,3 +98,12 @@ stored_plain =
 abbrev pub accepted_plain : (class group : ℕ) → Accepted
 accepted_plain class group =
     record { class = class; group = group; permitted = 0 ∷ []; text = stored_plain }
+
+-- the one with an Injection-Date is accepted too, which stays as it came
+abbrev pub accepted_injected : Accepted
+accepted_injected =
+    record (accepted_plain 1 0) {
+      text =
+          codes "Path: relay.example!!one.example!not-for-mail\r\n" ++ other_fields
+          ++ codes "Injection-Date: Wed, 01 Jan 2020 00:00:00 +0000\r\n\r\nx\r\n";
+    }

@@ -54,3 +54,8 @@ barred_feed =
 -- the terms with that feed
 abbrev pub barring_all : Terms
 barring_all = record k1 { feeds = barred_feed ∷ [] }
+
+-- the terms with a feed of the first peer too, which holds one token
+abbrev pub feeding_both : Terms
+feeding_both =
+    record k1 { feeds = record feed_of_second { peer = 0; ring = 1 } ∷ feed_of_second ∷ [] }

@@ -1,12 +1,13 @@
 -- The worked rows from other worlds: their events, and what these are answered.
 use Rattle.std.specs.Prelude.{ℕ, ◌+◌, List, [], ◌∷◌, ◌++◌, codes, replicate, flat_map}
+use Rattle.std.specs.Str.{byte}
 use Rattle.news_terms.specs.Article.{Article, field_text}
 use Rattle.news_terms.specs.Overview.{overview_line}
 use Rattle.news_terms.specs.Reply.{ArticleFollows, HeaderFollows, BodyFollows, OverviewFollows}
 use Rattle.news_terms.specs.Reply.{TokenFollows, reply_text}
 use Rattle.relay_model.specs.Run.{Event, Bytes, Turn, Break, Expire}
 use Rattle.relay_model.specs.World.{Output, Quiet, Sent, Ended, Refuses, NoSession}
-use Rattle.relay_laws.specs.Rows.{turns, writes, quiet}
+use Rattle.relay_laws.specs.Rows.{block_of, turns, writes, quiet}
 use Rattle.relay_laws.specs.Terms.{now}
 use Rattle.relay_laws.specs.Worlds.{three_blocks_at}
 
@@ -238,6 +239,18 @@ sent_is_no_offer =
 abbrev pub sent_is_no_offer_replies : List Output
 sent_is_no_offer_replies =
     Quiet ∷ Sent 1 (codes "431 <n@x>\r\n") ∷ Quiet ∷ Sent 1 (codes "439 <3@x>\r\n")
+    ∷ Sent 1 (codes "238 <n@x>\r\n") ∷ []
+
+-- the same with an article that can be stored
+abbrev pub stored_is_no_offer : List Event
+stored_is_no_offer =
+    Bytes 1 (codes "CHECK <n@x>\r\nTAKETHIS <3@x>\r\n" ++ block_of (byte "3"))
+    ∷ Bytes 1 (codes "CHECK <n@x>\r\n") ∷ turns 1 4 ++ writes 6 ++ turns 1 2
+
+-- 431, 239; the offer has ended here too
+abbrev pub stored_is_no_offer_replies : List Output
+stored_is_no_offer_replies =
+    quiet 2 ++ Sent 1 (codes "431 <n@x>\r\n") ∷ quiet 9 ++ Sent 1 (codes "239 <3@x>\r\n")
     ∷ Sent 1 (codes "238 <n@x>\r\n") ∷ []
 
 -- session 1 leaves, ids are forgotten, and an article of a stored id is refused

@@ -1,5 +1,5 @@
 -- The worlds in which the other worked rows begin, so that they stay short.
-use Rattle.std.specs.Prelude.{ℕ, List, [], ◌∷◌, codes, replicate, Option, Some, None}
+use Rattle.std.specs.Prelude.{ℕ, ◌+◌, List, [], ◌∷◌, codes, replicate, Option, Some, None}
 use Rattle.std.specs.Str.{byte}
 use Rattle.news_terms.specs.Command.{WholeText}
 use Rattle.news_terms.specs.Token.{Token}
@@ -213,6 +213,20 @@ remembering_feed failures two =
           gained = three_blocks_at 0 0 ∷ three_blocks_at 0 3 ∷ [];
           passed = 1;
           taken = 1;
+        };
+      };
+    }
+
+-- each feed gained three tokens of its own: two of a first cycle, one of a later one
+abbrev pub both_gained : (failures : ℕ → ℕ) → World
+both_gained failures =
+    record (empty_world failures) {
+      state = record empty_state {
+        feed = λ feed. record {
+          gained =
+              three_blocks_at feed 0 ∷ three_blocks_at feed 3 ∷ three_blocks_at (feed + 2) 0 ∷ [];
+          passed = 0;
+          taken = 0;
         };
       };
     }

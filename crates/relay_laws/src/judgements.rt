@@ -35,6 +35,17 @@ pub fn dates_in_time()
     ensures too_far_ahead { judged k1 0 (codes "<a@x>") (now - 86_401) rows.plain ≡ Err Date }
 {}
 
+/// The Injection-Date counts before the Date: one that is too old, or can't be read, isn't helped
+/// by a Date in time, and one in time isn't harmed by a Date too far ahead.
+pub fn injection_dates()
+    ensures in_time { judged rows.reading_2020 0 (codes "<a@x>") rows.first_of_2020
+        (rows.injected rows.injection_2020) ≡ Ok rows.accepted_injected }
+    ensures too_old { judged rows.reading_2020 0 (codes "<a@x>") now
+        (rows.injected rows.injection_2020) ≡ Err Date }
+    ensures unread { judged rows.reading_2020 0 (codes "<a@x>") now
+        (rows.injected (codes " yesterday")) ≡ Err Date }
+{}
+
 /// What is accepted goes to the group of its class.
 pub fn group_of_class()
     ensures { judged rows.second_group 0 (codes "<a@x>") now rows.plain

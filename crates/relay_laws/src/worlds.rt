@@ -112,11 +112,14 @@ pub fn open_offers()
         → AreAnswered k1 (outdated failures) rows.outdated_offers rows.outdated_replies }
 {}
 
-/// The open offer of an id ends when its article comes.
+/// The open offer of an id ends when its article comes, whether that is refused or stored.
 pub fn sent_is_no_offer()
-    ensures { (failures : ℕ → ℕ)
+    ensures refused { (failures : ℕ → ℕ)
         → AreAnswered k1
         (offering_third failures) rows.sent_is_no_offer rows.sent_is_no_offer_replies }
+    ensures stored { (failures : ℕ → ℕ)
+        → AreAnswered k1
+        (offering_third failures) rows.stored_is_no_offer rows.stored_is_no_offer_replies }
 {}
 
 /// What a session that leaves, an Expire and a refusal leave alone: what is offered to another,
