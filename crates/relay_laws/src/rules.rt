@@ -16,7 +16,8 @@ ghost use Rattle.relay_model.specs.Fetches.{Gone, NotRead, buffer_of, fetched, f
 ghost use Rattle.relay_model.specs.Fetches.{text_under};
 ghost use Rattle.relay_model.specs.Hears.{outcome_heard};
 ghost use Rattle.relay_model.specs.Judging.{Judges, is_permitted, permitted};
-ghost use Rattle.relay_model.specs.Run.{Event, Step, Bytes, Write, Break, Expire, refusal};
+ghost use Rattle.relay_model.specs.Run.{Event, Step, Open, Bytes, Turn, Write, Break, Expire};
+ghost use Rattle.relay_model.specs.Run.{refusal};
 ghost use Rattle.relay_model.specs.Shares.{Reading, ToRead};
 ghost use Rattle.relay_model.specs.State.{State, Session, Transfer, Job, Waits, Leaving, Ended};
 ghost use Rattle.relay_model.specs.Terms.{Terms, FeedTerms, Reason};
@@ -167,8 +168,15 @@ pub fn only_live_reads_fail()
         → IsLiveToken w x.state token }
 {}
 
-/// A Write, a Break and an Expire are never answered that memory is wanted.
+/// An Open, octets and a Turn may always be answered that memory is wanted, with nothing changed; a
+/// Write, a Break and an Expire never are.
 pub fn memory_is_wanted_by_some()
+    ensures opens { (w : Terms) (x : World) (session peer : ℕ)
+        → Step w x (Open session peer) (Refuses Memory) x }
+    ensures octets { (w : Terms) (x : World) (session : ℕ) (piece : List ℕ)
+        → Step w x (Bytes session piece) (Refuses Memory) x }
+    ensures turns { (w : Terms) (x : World) (session now : ℕ)
+        → Step w x (Turn session now) (Refuses Memory) x }
     ensures writes { (w : Terms) (x y : World) (group now : ℕ)
         → ¬ Step w x (Write group now) (Refuses Memory) y }
     ensures breaks { (w : Terms) (x y : World) (session : ℕ)
