@@ -1,28 +1,31 @@
 -- A Write, computed where no device fails.
 use Rattle.std.proofs.Common.{◌≡◌, ℕ, Bool, true, false, nat_lt, nat_le, List}
 use Rattle.std.proofs.Common.{[], ◌∷◌, Option, Some, None, refl, le_refl}
-use Rattle.std.proofs.lemmas.Bool.{leb-true, ltb-true, cond_both}
+use Rattle.std.proofs.lemmas.Bool.{leb-true, leb-false, ltb-true, cond_both}
 use Rattle.news_terms.specs.Places.{Place, last_cycle}
 use Rattle.news_terms.specs.Token.{Token}
 use Rattle.relay_model.specs.Claims.{Waiting, Begun, Whole}
-use Rattle.relay_model.specs.Claims as claims
 use Rattle.relay_model.specs.State.{Job}
 use Rattle.relay_model.specs.Terms.{Terms}
 use Rattle.relay_model.specs.World.{World, Writer, Idle, Popped, Writing, Finished, Settled}
 use Rattle.relay_model.specs.World.{Forgotten}
 use Rattle.relay_model.specs.World as world
-use Rattle.relay_model.specs.Writers.{Writes, NoJob, Pops, HasBegun, WritesBlock}
+use Rattle.relay_model.specs.Writers.{Writes, NoJob, Pops, HasBegun, FindsWorn, WritesBlock}
 use Rattle.relay_model.specs.Writers.{HasStored, Settles, Closes, Forgets, TellsKept, TellsFailed}
-use Rattle.relay_model.specs.Writers.{HasFailedToStore, job_size, place_for, token_at, staged}
+use Rattle.relay_model.specs.Writers.{IsHopeless, job_size, place_for, token_at, staged}
 use Rattle.relay_laws.proofs.Premises.{Premise, Free, Needs, Both, IsMet}
 use Rattle.relay_laws.proofs.OneWrite.{after_pop, after_place, after_write}
 
--- by the place of the job: the job waits, and its cycle is one that there is
+-- the job waits, and whether its cycle is one that there is
+abbrev cycle_premise : World → Job → Place → Bool → Premise
+cycle_premise x job place in_time =
+    Both (Needs (x.state.claim job.id ≡ staged job Waiting))
+    (Needs (nat_le place.cycle last_cycle ≡ in_time))
+
+-- by the place of the job
 abbrev place_premise : World → Job → Option Place → Premise
 place_premise x job None = Needs ⊥
-place_premise x job (Some place) =
-    Both (Needs (x.state.claim job.id ≡ staged job Waiting))
-    (Needs (nat_le place.cycle last_cycle ≡ true))
+place_premise x job (Some place) = cycle_premise x job place (nat_le place.cycle last_cycle)
 
 -- blocks are left, or the job is begun and all are written
 abbrev blocks_premise : World → Job → Token → ℕ → Bool → Premise
@@ -38,7 +41,7 @@ write_premise w x (Writing job token written) =
     blocks_premise x job token written (nat_lt written (job_size job))
 write_premise w x (Finished job token) = Needs (x.state.claim job.id ≡ staged job (Whole token))
 write_premise w x (world.Failed job (Some token)) = Free
-write_premise w x (world.Failed job None) = Needs (x.state.claim job.id ≡ staged job claims.Failed)
+write_premise w x (world.Failed job None) = Needs (IsHopeless w x.state job)
 write_premise w x (Settled s) = Free
 write_premise w x (Forgotten s) = Free
 
@@ -48,12 +51,12 @@ pops : (w : Terms) (x : World) (g now : ℕ) → x.work.writer g ≡ Idle → (q
 pops w x g now idle [] is = NoJob idle is refl
 pops w x g now idle (job ∷ rest) is = Pops job rest idle is refl
 
--- a begin
-begins : (w : Terms) (x : World) (g now : ℕ) (job : Job) → x.work.writer g ≡ Popped job
-    → (place : Option Place) → place_for w x.state job ≡ place → IsMet (place_premise x job place)
-    → Writes w x g now (after_place x g job place)
-begins w x g now job has None is knows = absurd knows
-begins w x g now job has (Some place) is knows =
+-- a begin at this place, or one that is worn
+begins_at : (w : Terms) (x : World) (g now : ℕ) (job : Job) → x.work.writer g ≡ Popped job
+    → (place : Place) → place_for w x.state job ≡ Some place → (in_time : Bool)
+    → IsMet (cycle_premise x job place in_time)
+    → Writes w x g now (after_place x g job (Some place))
+begins_at w x g now job has place is true knows =
     rw knows.1 (HasBegun job (token_at job place) _ has (record {
       place = place;
       waiting = knows.0;
@@ -62,6 +65,21 @@ begins w x g now job has (Some place) is knows =
       named = refl;
       after = refl;
     }) refl)
+begins_at w x g now job has place is false knows =
+    rw knows.1 (FindsWorn job has (record {
+      place = place;
+      waiting = knows.0;
+      next = is;
+      past = leb-false place.cycle last_cycle knows.1;
+    }) refl)
+
+-- a begin
+begins : (w : Terms) (x : World) (g now : ℕ) (job : Job) → x.work.writer g ≡ Popped job
+    → (place : Option Place) → place_for w x.state job ≡ place → IsMet (place_premise x job place)
+    → Writes w x g now (after_place x g job place)
+begins w x g now job has None is knows = absurd knows
+begins w x g now job has (Some place) is knows =
+    begins_at w x g now job has place is (nat_le place.cycle last_cycle) knows
 
 -- a block, or the end
 writes_on : (w : Terms) (x : World) (g now : ℕ) (job : Job) (token : Token) (written : ℕ)
@@ -87,7 +105,7 @@ writes w x g now (Finished job token) has knows =
     Settles job token _ has (record { whole = knows; after = refl }) refl
 writes w x g now (world.Failed job (Some token)) has knows = Closes job token has refl
 writes w x g now (world.Failed job None) has knows =
-    Forgets job _ has (record { hopeless = HasFailedToStore knows; after = refl }) refl
+    Forgets job _ has (record { hopeless = knows; after = refl }) refl
 writes w x g now (Settled s) has knows = TellsKept s has refl
 writes w x g now (Forgotten s) has knows = TellsFailed s has refl
 

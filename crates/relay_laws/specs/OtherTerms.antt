@@ -37,6 +37,12 @@ two_groups =
 abbrev pub two_forgetting : Terms
 two_forgetting = record two_groups { remember = Some 100 }
 
+-- the buffer begins in the last cycle that a token has room for
+abbrev pub in_last_cycle : Terms
+in_last_cycle =
+    let last = record buffer_a { first_cycle = 4_294_967_295 } in
+    record k1 { buffers = last ∷ []; groups = record group_g { buffers = last ∷ [] } ∷ [] }
+
 -- what is up to 163 octets long is of class 3, what is longer of class 2
 abbrev pub by_size : Terms
 by_size =

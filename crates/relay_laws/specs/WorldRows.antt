@@ -28,9 +28,9 @@ abbrev pub read_replies : List ℕ → List Output
 read_replies one =
     quiet 5 ++ Sent 2 (reply_text (ArticleFollows (codes "<1@x>") one)) ∷ Quiet ∷ []
 
--- the same with the begin before the second block is read
-abbrev pub lost_early : List Event
-lost_early = Bytes 2 (codes "ARTICLE <1@x>\r\n") ∷ turns 2 2 ++ writes 2 ++ turns 2 1
+-- the same by this command, with the begin before the second block is read
+abbrev pub lost_early : List ℕ → List Event
+lost_early command = Bytes 2 command ∷ turns 2 2 ++ writes 2 ++ turns 2 1
 
 -- 430 at once
 abbrev pub lost_early_replies : List Output
@@ -139,6 +139,19 @@ fourth_fails = writes 3 ++ turns 3 2
 -- 436, and nothing more is due
 abbrev pub fourth_fails_replies : List Output
 fourth_fails_replies = quiet 3 ++ Sent 3 (codes "436 Try again later\r\n") ∷ Quiet ∷ []
+
+-- last cycle: the third article is begun at block 3 of it, the fourth has no room behind it; then
+-- the queue is asked for
+abbrev pub last_cycle : List Event
+last_cycle =
+    writes 8 ++ turns 1 1 ++ writes 4 ++ turns 3 1 ++ Bytes 2 (codes "XTAKE 5\r\n") ∷ turns 2 1
+
+-- 239, 436; the third alone is in the queue
+abbrev pub last_cycle_replies : List Output
+last_cycle_replies =
+    quiet 8 ++ Sent 1 (codes "239 <3@x>\r\n") ∷ quiet 4
+    ++ Sent 3 (codes "436 Try again later\r\n") ∷ Quiet
+    ∷ Sent 2 (codes "290 Queue follows\r\n0\r\n1 @0100FFFFFFFF00000003000005A0@\r\n.\r\n") ∷ []
 
 -- the front is read first, and nothing is forgotten; then, a second too early, nothing either; then
 -- the first id is forgotten, whose article is gone, and the refused one, but not that of the

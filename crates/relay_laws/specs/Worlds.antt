@@ -7,7 +7,7 @@ use Rattle.relay_model.specs.Claims.{Accepted, Claim, Unknown, Offered, Storing,
 use Rattle.relay_model.specs.Claims.{Stage, Waiting, Begun}
 use Rattle.relay_model.specs.Claims as claims
 use Rattle.relay_model.specs.State.{State, Session, Job, Ready, Waits, Fetches, OfId, OfToken}
-use Rattle.relay_model.specs.State.{TakesThis, Has}
+use Rattle.relay_model.specs.State.{Asked, TakesThis, Has}
 use Rattle.relay_model.specs.State.{put_id, put_at, empty_state}
 use Rattle.relay_model.specs.Terms.{Terms}
 use Rattle.relay_model.specs.World.{World, Idle, Writing, empty_world}
@@ -89,6 +89,19 @@ two_stored failures one two =
       };
     }
 
+-- one article of three blocks was begun, and the same two jobs are queued
+abbrev pub one_begun : (failures : ℕ → ℕ) → World
+one_begun failures =
+    record (two_stored failures [] []) {
+      state = record empty_state {
+        claim = put_id (put_id (λ id. Unknown) (codes "<3@x>") (Storing 1 three_blocks Waiting))
+            (codes "<4@x>") (Storing 3 three_blocks Waiting);
+        begun = λ group. 3 ∷ [];
+        session = three_sessions;
+        newest = Some 3;
+      };
+    }
+
 -- the claims while a job is being stored, at this stage
 abbrev pub claims_at : Job → Stage → List ℕ → Claim
 claims_at job stage = put_id two_stored_claims job.id (Storing job.session three_blocks stage)
@@ -127,29 +140,26 @@ failed_world failures one two job rest written =
       };
     }
 
--- two texts are stored, and session 2 has read two of the three blocks of the first
-abbrev pub reading_last : (failures : ℕ → ℕ) → (one two : List ℕ) → World
-reading_last failures one two =
+-- two texts are stored, and session 2, which asked for the first, has read so many of its three
+-- blocks
+abbrev pub reading_on : Asked → ℕ → (failures : ℕ → ℕ) → (one two : List ℕ) → World
+reading_on asked had failures one two =
     let before = two_stored failures one two in
     record before {
       state = record before.state {
         session = put_at before.state.session 2 (Some (record reading {
-          phase = Fetches (OfId WholeText (codes "<1@x>")) (three_blocks_at 0 0) 2;
+          phase = Fetches asked (three_blocks_at 0 0) had;
         }));
       };
     }
 
+-- it asked for it by its id, and has read two
+abbrev pub reading_last : (failures : ℕ → ℕ) → (one two : List ℕ) → World
+reading_last = reading_on (OfId WholeText (codes "<1@x>")) 2
+
 -- the same, where it asked by the token
 abbrev pub reading_by_token : (failures : ℕ → ℕ) → (one two : List ℕ) → World
-reading_by_token failures one two =
-    let before = two_stored failures one two in
-    record before {
-      state = record before.state {
-        session = put_at before.state.session 2 (Some (record reading {
-          phase = Fetches OfToken (three_blocks_at 0 0) 2;
-        }));
-      };
-    }
+reading_by_token = reading_on OfToken 2
 
 -- session 1 has four offers open, of ids that are by now offered to session 3, being stored for
 -- session 1 and for session 3, and stored

@@ -8,9 +8,10 @@ ghost use Rattle.relay_model.specs.Hears.{ReplyIs};
 ghost use Rattle.relay_model.specs.Run.{shard_of};
 ghost use Rattle.relay_model.specs.State.{Asked, OfId};
 
-/// The shard of an id is the sum of all its octets modulo 16: here of 501.
+/// The shard of an id is the sum of all its octets modulo 16: here of 501 and of 1842.
 pub fn shard_of_an_id()
-    ensures { shard_of (codes "<ab@x>") ≡ 5 }
+    ensures short { shard_of (codes "<ab@x>") ≡ 5 }
+    ensures long { shard_of (codes "<news.1@one.example>") ≡ 2 }
 {}
 
 /// A part that is asked for by its message-id and isn't there any more, or never was: 430.

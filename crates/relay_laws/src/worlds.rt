@@ -2,15 +2,16 @@
 ghost use Rattle.std.specs.Prelude.{ℕ, ◌<◌, ◌∷◌, [], List, codes};
 ghost use Rattle.news_terms.specs.Article.{Article, IsArticleText};
 ghost use Rattle.relay_model.specs.Run.{Step, Turn, Write};
+ghost use Rattle.relay_model.specs.State.{Asked};
 ghost use Rattle.relay_model.specs.World.{World, Quiet, Sent, HasFailedAt};
 ghost use Rattle.relay_laws.specs.Answered.{AreAnswered};
-ghost use Rattle.relay_laws.specs.OtherTerms.{two_forgetting};
+ghost use Rattle.relay_laws.specs.OtherTerms.{two_forgetting, in_last_cycle};
 ghost use Rattle.relay_laws.specs.Terms.{k1, now};
 ghost use Rattle.relay_laws.specs.WorldRows as rows;
 ghost use Rattle.relay_laws.specs.Worlds.{two_stored, begun_world, failed_world, reading_last};
 ghost use Rattle.relay_laws.specs.Worlds.{third_job, fourth_job, forgetting, remembering};
 ghost use Rattle.relay_laws.specs.Worlds.{offering, outdated, sharing, offering_third};
-ghost use Rattle.relay_laws.specs.Worlds.{remembering_two, reading_by_token};
+ghost use Rattle.relay_laws.specs.Worlds.{remembering_two, reading_by_token, reading_on, one_begun};
 
 /// An article is lost while it is read, where the begin of another comes before its last block:
 /// 430, else 220 and the whole article.
@@ -21,10 +22,21 @@ pub fn lost_while_reading()
         → AreAnswered k1 (two_stored failures one two) rows.read_before (rows.read_replies one) }
 {}
 
-/// One that is lost before the last block is due is said to be lost at once.
+/// One that is lost before the last block is due is said to be lost at once, whatever part of it
+/// was asked for.
 pub fn lost_early()
-    ensures { (failures : ℕ → ℕ) (one two : List ℕ)
-        → AreAnswered k1 (two_stored failures one two) rows.lost_early rows.lost_early_replies }
+    ensures article { (failures : ℕ → ℕ) (one two : List ℕ)
+        → AreAnswered k1 (two_stored failures one two)
+        (rows.lost_early (codes "ARTICLE <1@x>\r\n")) rows.lost_early_replies }
+    ensures head { (failures : ℕ → ℕ) (one two : List ℕ)
+        → AreAnswered k1 (two_stored failures one two)
+        (rows.lost_early (codes "HEAD <1@x>\r\n")) rows.lost_early_replies }
+    ensures body { (failures : ℕ → ℕ) (one two : List ℕ)
+        → AreAnswered k1 (two_stored failures one two)
+        (rows.lost_early (codes "BODY <1@x>\r\n")) rows.lost_early_replies }
+    ensures overview { (failures : ℕ → ℕ) (one two : List ℕ)
+        → AreAnswered k1 (two_stored failures one two)
+        (rows.lost_early (codes "OVER <1@x>\r\n")) rows.lost_early_replies }
 {}
 
 /// HEAD, BODY and OVER of an article of three blocks come by the Turn that reads the third.
@@ -73,7 +85,7 @@ pub fn failed_write()
         rows.fourth_fails rows.fourth_fails_replies }
 {}
 
-/// A read may fail, by message-id and by token: 403.
+/// A read may fail, by message-id and by token: 403, at once at whichever block that is.
 pub fn failed_read()
     ensures by_id { (failures after : ℕ → ℕ) (one two : List ℕ) → HasFailedAt 0 failures after
         → (y : World) × Step k1 (reading_last failures one two) (Turn 2 now)
@@ -81,6 +93,17 @@ pub fn failed_read()
     ensures by_token { (failures after : ℕ → ℕ) (one two : List ℕ) → HasFailedAt 0 failures after
         → (y : World) × Step k1 (reading_by_token failures one two) (Turn 2 now)
         (Sent 2 (codes "403 Device fault\r\n")) y }
+    ensures at_any_block { (asked : Asked) (had : ℕ) (failures after : ℕ → ℕ) (one two : List ℕ)
+        → HasFailedAt 0 failures after
+        → (y : World) × Step k1 (reading_on asked had failures one two) (Turn 2 now)
+        (Sent 2 (codes "403 Device fault\r\n")) y }
+{}
+
+/// An article that begins in the last cycle that a token has room for is stored. The one behind it,
+/// which would begin past that cycle, is given up unwritten, and its session is told.
+pub fn last_cycle()
+    ensures { (failures : ℕ → ℕ)
+        → AreAnswered in_last_cycle (one_begun failures) rows.last_cycle rows.last_cycle_replies }
 {}
 
 /// An Expire reads a front, or with all fronts it forgets in its shard: what was refused so long
