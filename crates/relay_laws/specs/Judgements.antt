@@ -5,7 +5,8 @@ use Rattle.std.specs.Str.{byte}
 use Rattle.news_terms.specs.Article.{Article, Field, worked_article}
 use Rattle.relay_model.specs.Claims.{Accepted}
 use Rattle.relay_model.specs.Terms.{Terms}
-use Rattle.relay_laws.specs.Terms.{k1, now, every_article, group_g, own_is_first, second_read}
+use Rattle.relay_laws.specs.Terms.{k1, now, buffer_a, every_article, group_g, own_is_first}
+use Rattle.relay_laws.specs.Terms.{second_read}
 
 -- A(a, 1), with this Path and these further fields
 abbrev pub article_with : (path : List ℕ) → List Field → Article
@@ -81,6 +82,24 @@ second_group =
     record k1 {
       groups = group_g ∷ group_g ∷ [];
       entries = record every_article { class = 7; group = 1 } ∷ [];
+    }
+
+-- one group of two buffers, one of which has eight blocks, and the other one
+abbrev pub smaller_behind : Terms
+smaller_behind =
+    record k1 {
+      groups = record group_g {
+        buffers = buffer_a ∷ record buffer_a { number = 1; blocks = 1 } ∷ [];
+      } ∷ [];
+    }
+
+-- the same the other way round
+abbrev pub smaller_in_front : Terms
+smaller_in_front =
+    record k1 {
+      groups = record group_g {
+        buffers = record buffer_a { number = 1; blocks = 1 } ∷ buffer_a ∷ [];
+      } ∷ [];
     }
 
 -- the fields between Path and the others of A(a, 1), as they came

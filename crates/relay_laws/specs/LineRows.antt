@@ -42,3 +42,16 @@ broken_block =
 -- the session leaves
 abbrev pub broken_block_replies : List Output
 broken_block_replies = greeted 1 ∷ quiet 2 ++ Ended 1 [] ∷ Quiet ∷ Refuses NoSession ∷ []
+
+-- a line comes in pieces, cut in its word, before its last octet, and before another line's end; a
+-- Turn comes behind each
+abbrev pub in_pieces : List Event
+in_pieces =
+    Open 1 0 ∷ Bytes 1 (codes "CHE") ∷ turns 1 1 ++ Bytes 1 (codes "CK <a@x>\r") ∷ turns 1 1
+    ++ Bytes 1 (codes "\nFOO") ∷ turns 1 2 ++ Bytes 1 (codes "\r\n") ∷ turns 1 1
+
+-- nothing until it is whole; then 238, and 500 of the other
+abbrev pub in_pieces_replies : List Output
+in_pieces_replies =
+    greeted 1 ∷ quiet 5 ++ Sent 1 (codes "238 <a@x>\r\n") ∷ quiet 2
+    ++ Sent 1 (codes "500 Unknown command\r\n") ∷ []

@@ -186,6 +186,15 @@ refused_events_replies =
     ∷ Refuses NoGroup ∷ Refuses NoShard ∷ Refuses SessionTaken ∷ Ended 1 [] ∷ Refuses NoSession
     ∷ Refuses NoSession ∷ Quiet ∷ Refuses NoSession ∷ []
 
+-- a Turn, a Write and an Expire of the last shard, at the last moment that there is
+abbrev pub last_moment : List Event
+last_moment =
+    Open 1 0 ∷ Turn 1 253370764799 ∷ Write 0 253370764799 ∷ runs.Expire 15 253370764799 ∷ []
+
+-- each finds nothing to do
+abbrev pub last_moment_replies : List Output
+last_moment_replies = greeted 1 ∷ quiet 3
+
 -- ring: three articles from the first peer, and the queue of the second, twice
 abbrev pub ring : List Event
 ring =

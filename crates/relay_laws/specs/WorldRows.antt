@@ -243,6 +243,20 @@ outdated_replies =
     ∷ Sent 1 (codes "238 <n@x>\r\n") ∷ Sent 1 (codes "431 <m@x>\r\n")
     ∷ Sent 1 (codes "438 <2@x>\r\n") ∷ Sent 1 (codes "238 <m@x>\r\n") ∷ []
 
+-- the same by IHAVE
+abbrev pub outdated_by_ihave : List Event
+outdated_by_ihave =
+    Bytes 1 (codes "CHECK <n@x>\r\nIHAVE <3@x>\r\nCHECK <n@x>\r\nCHECK <m@x>\r\n")
+    ∷ Bytes 1 (codes "IHAVE <2@x>\r\nCHECK <m@x>\r\n") ∷ turns 1 6
+
+-- 436 and 435 end an offer too
+abbrev pub outdated_by_ihave_replies : List Output
+outdated_by_ihave_replies =
+    quiet 2
+    ++ Sent 1 (codes "431 <n@x>\r\n") ∷ Sent 1 (codes "436 Try again later\r\n")
+    ∷ Sent 1 (codes "238 <n@x>\r\n") ∷ Sent 1 (codes "431 <m@x>\r\n")
+    ∷ Sent 1 (codes "435 Not wanted\r\n") ∷ Sent 1 (codes "238 <m@x>\r\n") ∷ []
+
 -- a new id where no further offer may be opened, an article of an open one, and the new id again
 abbrev pub sent_is_no_offer : List Event
 sent_is_no_offer =
@@ -254,7 +268,18 @@ sent_is_no_offer_replies =
     Quiet ∷ Sent 1 (codes "431 <n@x>\r\n") ∷ Quiet ∷ Sent 1 (codes "439 <3@x>\r\n")
     ∷ Sent 1 (codes "238 <n@x>\r\n") ∷ []
 
--- the same with an article that can be stored
+-- the same by IHAVE
+abbrev pub sent_by_ihave : List Event
+sent_by_ihave =
+    Bytes 1 (codes "CHECK <n@x>\r\nIHAVE <3@x>\r\n.\r\nCHECK <n@x>\r\n") ∷ turns 1 4
+
+-- 431, 335, 437; the offer has ended
+abbrev pub sent_by_ihave_replies : List Output
+sent_by_ihave_replies =
+    Quiet ∷ Sent 1 (codes "431 <n@x>\r\n") ∷ Sent 1 (codes "335 Send it\r\n")
+    ∷ Sent 1 (codes "437 Rejected\r\n") ∷ Sent 1 (codes "238 <n@x>\r\n") ∷ []
+
+-- the same by TAKETHIS, with an article that can be stored
 abbrev pub stored_is_no_offer : List Event
 stored_is_no_offer =
     Bytes 1 (codes "CHECK <n@x>\r\nTAKETHIS <3@x>\r\n" ++ block_of (byte "3"))

@@ -24,6 +24,14 @@ pub fn reasons_in_order()
         ≡ Err TooLarge }
 {}
 
+/// An article has to fit into each buffer of the group of its class.
+pub fn room_in_each_buffer()
+    ensures behind { judged rows.smaller_behind 0 (codes "<a@x>") now
+        (worked_article (byte "a") 318) ≡ Err TooLarge }
+    ensures in_front { judged rows.smaller_in_front 0 (codes "<a@x>") now
+        (worked_article (byte "a") 318) ≡ Err TooLarge }
+{}
+
 /// An article may be as old as the cutoff says, and its date a day ahead; a second more is too
 /// much.
 pub fn dates_in_time()

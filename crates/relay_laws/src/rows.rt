@@ -153,3 +153,15 @@ pub fn at_any_time()
     ensures broken { (failures : ℕ → ℕ)
         → AreAnswered k1 (empty_world failures) lines.broken_block lines.broken_block_replies }
 {}
+
+/// A line that comes in pieces is read once it is whole, and nothing of it is lost before.
+pub fn line_in_pieces()
+    ensures { (failures : ℕ → ℕ)
+        → AreAnswered k1 (empty_world failures) lines.in_pieces lines.in_pieces_replies }
+{}
+
+/// At the last moment that there is, nothing is refused for its moment.
+pub fn last_moment()
+    ensures { (failures : ℕ → ℕ)
+        → AreAnswered k1 (empty_world failures) rows.last_moment rows.last_moment_replies }
+{}

@@ -123,7 +123,7 @@ pub fn forgotten_in_two_buffers()
 {}
 
 /// A session may have 256 offers open. One of an id that another session has by now, or that is
-/// stored, ends where the id is offered again: 431, 438.
+/// stored, ends where the id is offered again: 431, 438; by IHAVE too: 436, 435.
 pub fn open_offers()
     ensures full { (failures : ℕ → ℕ)
         → AreAnswered k1 (offering failures 256) rows.offers rows.full_replies }
@@ -133,6 +133,9 @@ pub fn open_offers()
         → AreAnswered k1 (offering failures 256) rows.open_again rows.open_again_replies }
     ensures outdated { (failures : ℕ → ℕ)
         → AreAnswered k1 (outdated failures) rows.outdated_offers rows.outdated_replies }
+    ensures by_ihave { (failures : ℕ → ℕ)
+        → AreAnswered k1
+        (outdated failures) rows.outdated_by_ihave rows.outdated_by_ihave_replies }
 {}
 
 /// The open offer of an id ends when its article comes, whether that is refused or stored.
@@ -143,6 +146,9 @@ pub fn sent_is_no_offer()
     ensures stored { (failures : ℕ → ℕ)
         → AreAnswered k1
         (offering_third failures) rows.stored_is_no_offer rows.stored_is_no_offer_replies }
+    ensures by_ihave { (failures : ℕ → ℕ)
+        → AreAnswered k1
+        (offering_third failures) rows.sent_by_ihave rows.sent_by_ihave_replies }
 {}
 
 /// What a session that leaves, an Expire and a refusal leave alone: what is offered to another,

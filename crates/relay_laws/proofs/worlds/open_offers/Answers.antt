@@ -20,3 +20,7 @@ returns-clause-again c = λ failures. are_answered k1 (offering failures 256) []
 pub returns-clause-outdated : goal.returns-clause-outdated
 returns-clause-outdated c = λ failures. are_answered k1 (outdated failures) []
     rows.outdated_offers rows.outdated_replies tt refl refl
+
+pub returns-clause-by_ihave : goal.returns-clause-by_ihave
+returns-clause-by_ihave c = λ failures. are_answered k1 (outdated failures) []
+    rows.outdated_by_ihave rows.outdated_by_ihave_replies tt refl refl

@@ -20,3 +20,7 @@ returns-clause-stored c = λ failures. are_answered k1 (offering_third failures)
     (replicate 4 NoHint ++ ReadsAs (worked_article (byte "3") 1) ∷ [])
     rows.stored_is_no_offer rows.stored_is_no_offer_replies
     (article_3_is, five tt) refl refl
+
+pub returns-clause-by_ihave : goal.returns-clause-by_ihave
+returns-clause-by_ihave c = λ failures. are_answered k1 (offering_third failures) []
+    rows.sent_by_ihave rows.sent_by_ihave_replies (empty_is_none, tt) refl refl
