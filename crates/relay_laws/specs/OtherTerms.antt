@@ -1,5 +1,5 @@
 -- Further terms, each of which differs from `k1` in what its rows are about.
-use Rattle.std.specs.Prelude.{[], ◌∷◌, Some}
+use Rattle.std.specs.Prelude.{ℕ, [], ◌∷◌, Some}
 use Rattle.news_terms.specs.Pattern.{Fail, Star}
 use Rattle.news_terms.specs.Places.{Buffer, Group}
 use Rattle.relay_model.specs.Terms.{Terms, FeedTerms}
@@ -65,3 +65,7 @@ barring_all = record k1 { feeds = barred_feed ∷ [] }
 abbrev pub feeding_both : Terms
 feeding_both =
     record k1 { feeds = record feed_of_second { peer = 0; ring = 1 } ∷ feed_of_second ∷ [] }
+
+-- a block may have so many octets
+abbrev pub of_at_most : (octets : ℕ) → Terms
+of_at_most octets = record k1 { max_article = octets }

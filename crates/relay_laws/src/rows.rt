@@ -3,6 +3,7 @@ ghost use Rattle.std.specs.Prelude.{ℕ};
 ghost use Rattle.relay_model.specs.World.{empty_world};
 ghost use Rattle.relay_laws.specs.Answered.{AreAnswered};
 ghost use Rattle.relay_laws.specs.LineRows as lines;
+ghost use Rattle.relay_laws.specs.OtherTerms.{of_at_most};
 ghost use Rattle.relay_laws.specs.Rows as rows;
 ghost use Rattle.relay_laws.specs.Terms.{k1, feeding_first, own_is_first, one_block};
 ghost use Rattle.relay_laws.specs.Terms.{of_class_two};
@@ -137,6 +138,16 @@ pub fn sizes()
         → AreAnswered one_block (empty_world failures) (rows.one_article 317) rows.one_stored }
     ensures not { (failures : ℕ → ℕ)
         → AreAnswered one_block (empty_world failures) (rows.one_article 318) rows.one_refused }
+{}
+
+/// An article whose text is as long as a block may be is taken, one that is an octet longer isn't:
+/// 439. It is the text that counts as it came.
+pub fn longest_block()
+    ensures taken { (failures : ℕ → ℕ)
+        → AreAnswered (of_at_most 149) (empty_world failures) (rows.one_article 1) rows.one_stored }
+    ensures not { (failures : ℕ → ℕ)
+        → AreAnswered
+        (of_at_most 148) (empty_world failures) (rows.one_article 1) rows.one_refused }
 {}
 
 /// A line of 512 octets is read, one of 513 isn't: 501, and the session leaves.
