@@ -12,7 +12,7 @@ ghost use Rattle.relay_model.specs.State.{Session, Ended, in_phase};
 ghost use Rattle.relay_model.specs.Terms.{Terms};
 ghost use Rattle.relay_model.specs.World.{World, Output, Quiet, Refuses, Fault, NotIdle};
 ghost use Rattle.relay_model.specs.World.{NotRestarted, Reading, Forgetting};
-ghost use Rattle.relay_model.specs.World.{empty_world};
+ghost use Rattle.relay_model.specs.World.{empty_world, with_failures};
 ghost use Rattle.relay_facts.specs.Sound.{IsSound};
 ghost use Rattle.relay_laws.specs.Forgetting.{ForgetsGone, ForgetsOld, FrontsAreRead, IsAtRest};
 ghost use Rattle.relay_laws.specs.Forgetting.{FrontsInOrder, IsForgettable, KeepsStore};
@@ -114,8 +114,9 @@ pub fn restart_ends()
 {}
 
 /// A Restart is refused as not idle only where an id is being stored, and as not restarted only
-/// where a device failed; it is done only where no id is being stored. A refused one changes no
-/// state.
+/// where a device failed and none is; it is done only where no id is being stored. A refused one
+/// changes no state, nor anything but how often devices have failed, and where it isn't idle it
+/// has called none.
 pub fn restart_is_refused_rightly()
     ensures busy { (w : Terms) (x y : World) → Step w x Restart (Refuses NotIdle) y
         → (id : List ℕ) × (is_storing (x.state.claim id) ≡ true) }
@@ -126,4 +127,9 @@ pub fn restart_is_refused_rightly()
         → is_storing (x.state.claim id) ≡ false }
     ensures unchanged { (w : Terms) (x y : World) (fault : Fault)
         → Step w x Restart (Refuses fault) y → y.state ≡ x.state }
+    ensures tried { (w : Terms) (x y : World) (id : List ℕ)
+        → Step w x Restart (Refuses NotRestarted) y → is_storing (x.state.claim id) ≡ false }
+    ensures uncalled { (w : Terms) (x y : World) → Step w x Restart (Refuses NotIdle) y → y ≡ x }
+    ensures no_more { (w : Terms) (x y : World) (fault : Fault)
+        → Step w x Restart (Refuses fault) y → y ≡ with_failures x y.work.failures }
 {}
