@@ -1,10 +1,10 @@
 -- What the worked rows leave behind that no reply tells.
 use Rattle.std.specs.Prelude.{◌≡◌, ℕ, ◌+◌, ◌-◌, List, [], ◌∷◌, codes, length, slice_get, Option}
-use Rattle.std.specs.Prelude.{None, Some}
+use Rattle.std.specs.Prelude.{None, Some, map}
 use Rattle.news_terms.specs.Token.{Token}
 use Rattle.relay_model.specs.Claims.{Stored, Refused}
 use Rattle.relay_model.specs.Run.{Event, Open, Bytes, Turn, Expire, Restart}
-use Rattle.relay_model.specs.State.{Session, Job}
+use Rattle.relay_model.specs.State.{Session, Job, Kept}
 use Rattle.relay_model.specs.World.{World, Output, Quiet, Sent, Refuses, NoSession}
 use Rattle.relay_model.specs.World as world
 use Rattle.relay_laws.specs.Rows.{greeted, turns}
@@ -30,6 +30,13 @@ IsRefusedAt moment x = x.state.claim (codes "<e@x>") ≡ Refused moment
 -- of three tokens all are passed, and two were taken
 abbrev pub HasTakenTwo : World → Type 0
 HasTakenTwo x = ((x.state.feed 0).passed ≡ 3) × ((x.state.feed 0).taken ≡ 2)
+
+-- three texts are whole and accepted, each behind those before it
+abbrev pub AreInOrder : World → Type 0
+AreInOrder x =
+    (map (λ (one : Kept). one.id) x.state.kept
+    ≡ codes "<1@x>" ∷ codes "<2@x>" ∷ codes "<3@x>" ∷ [])
+    × (map (λ (one : Token × List ℕ). one.0.first) x.state.accepted ≡ 0 ∷ 1 ∷ 2 ∷ [])
 
 -- the job in the hand of the session that is there
 abbrev pub hand_of : Option Session → Option Job

@@ -17,12 +17,13 @@ ghost use Rattle.relay_model.specs.Fetches.{text_under};
 ghost use Rattle.relay_model.specs.Hears.{outcome_heard};
 ghost use Rattle.relay_model.specs.Judging.{Judges, is_permitted, permitted};
 ghost use Rattle.relay_model.specs.Run.{Event, Step, Open, Bytes, Turn, Write, Break, Expire};
+ghost use Rattle.relay_model.specs.Run.{Restart};
 ghost use Rattle.relay_model.specs.Run.{refusal};
 ghost use Rattle.relay_model.specs.Shares.{Reading, ToRead};
 ghost use Rattle.relay_model.specs.State.{State, Session, Transfer, Job, Waits, Leaving, Ended};
 ghost use Rattle.relay_model.specs.Terms.{Terms, FeedTerms, Reason};
 ghost use Rattle.relay_model.specs.World.{World, Output, Outcome, IsKept, Speaks};
-ghost use Rattle.relay_model.specs.World.{Refuses, Memory, NoSession};
+ghost use Rattle.relay_model.specs.World.{Refuses, Fault, Memory, NoSession};
 ghost use Rattle.relay_model.specs.Writers.{Stores, Fails, Accepts, Abandons};
 ghost use Rattle.relay_laws.specs.Calm.{IsCalm, CalmRun};
 ghost use Rattle.relay_laws.specs.Rules.{IsNotOf, IsGoneToken, IsLiveToken};
@@ -183,6 +184,12 @@ pub fn memory_is_wanted_by_some()
         → ¬ Step w x (Break session) (Refuses Memory) y }
     ensures expires { (w : Terms) (x y : World) (shard now : ℕ)
         → ¬ Step w x (Expire shard now) (Refuses Memory) y }
+{}
+
+/// An event that is refused changes nothing, but for a Restart, which may have called devices.
+pub fn refused_changes_nothing()
+    ensures { (w : Terms) (x y : World) (event : Event) (fault : Fault) → event ≢ Restart
+        → Step w x event (Refuses fault) y → y ≡ x }
 {}
 
 /// No front moves where a text becomes whole, fails, is accepted or is given up: a begin alone

@@ -25,6 +25,11 @@ pub fn taken()
     ensures { (failures : ℕ → ℕ) → LeadTo k1 (empty_world failures) rows.ring states.HasTakenTwo }
 {}
 
+/// What becomes whole and accepted stands behind what did before.
+pub fn kept_in_order()
+    ensures { (failures : ℕ → ℕ) → LeadTo k1 (empty_world failures) rows.ring states.AreInOrder }
+{}
+
 /// A job joins a queue of 63 as its newest, and stays in the hand where there are 64.
 pub fn queue_limit()
     ensures room { (failures : ℕ → ℕ)
