@@ -186,6 +186,16 @@ refused_events_replies =
     ∷ Refuses NoGroup ∷ Refuses NoShard ∷ Refuses SessionTaken ∷ Ended 1 [] ∷ Refuses NoSession
     ∷ Refuses NoSession ∷ Quiet ∷ Refuses NoSession ∷ []
 
+-- sessions are numbered from 0 on, and a number may be left out
+abbrev pub numbers : List Event
+numbers = Open 0 0 ∷ Open 0 1 ∷ Open 1 1 ∷ Open 5 0 ∷ Open 5 0 ∷ Open 3 0 ∷ Open 6 0 ∷ []
+
+-- each number that isn't above all earlier ones is refused
+abbrev pub numbers_replies : List Output
+numbers_replies =
+    greeted 0 ∷ Refuses SessionTaken ∷ greeted 1 ∷ greeted 5 ∷ Refuses SessionTaken
+    ∷ Refuses SessionTaken ∷ greeted 6 ∷ []
+
 -- a Turn, a Write and an Expire of the last shard, at the last moment that there is
 abbrev pub last_moment : List Event
 last_moment =

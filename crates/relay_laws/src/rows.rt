@@ -171,6 +171,12 @@ pub fn line_in_pieces()
         → AreAnswered k1 (empty_world failures) lines.in_pieces lines.in_pieces_replies }
 {}
 
+/// The number of a session is above that of every earlier one, and may be 0 where there is none.
+pub fn session_numbers()
+    ensures { (failures : ℕ → ℕ)
+        → AreAnswered k1 (empty_world failures) rows.numbers rows.numbers_replies }
+{}
+
 /// At the last moment that there is, nothing is refused for its moment.
 pub fn last_moment()
     ensures { (failures : ℕ → ℕ)
