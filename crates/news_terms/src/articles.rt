@@ -15,7 +15,8 @@ ghost use Rattle.news_terms.specs.Article.{newsgroups_in, trimmed, unfolded, is_
 ghost use Rattle.news_terms.specs.Article.{Date, From, MessageId, Newsgroups, InjectionDate};
 ghost use Rattle.news_terms.specs.Article.{EmptyField, BadId, BadGroups, faults_in_order, name_of};
 ghost use Rattle.news_terms.specs.Article.{is_field_name, is_set_off, contents_of};
-ghost use Rattle.news_terms.specs.Article.{content_or_empty};
+ghost use Rattle.news_terms.specs.Article.{content_or_empty, StandsRightly, Repeats, LeavesEmpty};
+ghost use Rattle.news_terms.specs.Article.{HasBadGroups};
 
 /// A text is laid out as one article at most.
 pub fn one_reading()
@@ -96,6 +97,7 @@ pub fn order_examples()
 pub fn field_examples()
     ensures first_and_last_octet { is_field_name (codes "!~") ≡ true }
     ensures past_last_octet { is_field_name (0x7F ∷ []) ≡ false }
+    ensures past_ascii { is_field_name (codes "a" ++ 0xE4 ∷ []) ≡ false }
     ensures space_in_name { is_field_name (codes "a b") ≡ false }
     ensures colon_in_name { is_field_name (codes "a:b") ≡ false }
     ensures no_name { is_field_name (codes "") ≡ false }
@@ -125,11 +127,13 @@ pub fn line_examples()
     ensures two_carriage_returns { is_paired (codes "a\r\r\n") ≡ false }
     ensures pair { is_paired (codes "a\r\nb") ≡ true }
     ensures folded { is_folded (codes "\r\n one.example!x") ≡ true }
+    ensures folded_by_tab { is_folded (codes " a\r\n\tb") ≡ true }
     ensures not_folded { is_folded (codes " a\r\nb") ≡ false }
     ensures empty_line_in_content { is_folded (codes " a\r\n\r\n b") ≡ false }
     ensures header { header_lines (codes "Path: a\r\n b\r\n\r\nbody\r\n")
         ≡ codes "Path: a" ∷ codes " b" ∷ [] }
     ensures no_colon { are_header_lines (codes "Path a" ∷ []) ≡ false }
+    ensures no_colon_later { are_header_lines (codes "Path: a" ∷ codes "b" ∷ []) ≡ false }
     ensures no_space { begins_field (codes "Path:a") ≡ false }
     ensures space_in_name { begins_field (codes "Path : a") ≡ false }
     ensures ends_at_colon { begins_field (codes "Path:") ≡ true }
@@ -140,19 +144,39 @@ pub fn line_examples()
 pub fn content_examples()
     ensures unfolds { unfolded (codes "\r\n one.example!x") ≡ codes "one.example!x" }
     ensures keeps_second_space { unfolded (codes "  a ") ≡ codes " a " }
+    ensures takes_first_tab { unfolded (codes "\ta\t") ≡ codes "a\t" }
     ensures unfolds_twice { unfolded (codes " a\r\n\tb\r\n c") ≡ codes "a\tb c" }
     ensures keeps_bare_ends { unfolded (codes " a\nb\rc\r") ≡ codes "a\nb\rc\r" }
     ensures keeps_outer_pair { unfolded (codes "\r\r\n\n") ≡ codes "\r\n" }
     ensures trims { trimmed (codes " \t a b\t ") ≡ codes "a b" }
     ensures cuts { newsgroups_in (codes " comp.x ,\r\n\talt.a")
         ≡ codes "comp.x" ∷ codes "alt.a" ∷ [] }
+    ensures cuts_empty { newsgroups_in (codes " alt.a, ") ≡ codes "alt.a" ∷ [] ∷ [] }
     ensures name { is_newsgroup_name (codes "comp.lang.c++") ≡ true }
+    ensures one_component { is_newsgroup_name (codes "junk") ≡ true }
     ensures empty_component { is_newsgroup_name (codes "comp..x") ≡ false }
     ensures empty_name { is_newsgroup_name (codes "") ≡ false }
     ensures every_mark { is_newsgroup_name (codes "alt.a_b-c") ≡ true }
     ensures capitals_and_digits { is_newsgroup_name (codes "Alt.OS2.9") ≡ true }
     ensures other_mark { is_newsgroup_name (codes "alt.a/b") ≡ false }
+    ensures past_ascii { is_newsgroup_name (codes "alt." ++ 0xE4 ∷ []) ≡ false }
+    ensures begins_with_dot { is_newsgroup_name (codes ".alt") ≡ false }
     ensures ends_with_dot { is_newsgroup_name (codes "alt.") ≡ false }
+{}
+
+/// What fields by themselves may be, and their faults.
+pub fn field_fault_examples()
+    ensures injection_date_may_stand { StandsRightly InjectionDate 1 }
+    ensures three_fields { Repeats Path (record { name = codes "Path"; content = codes " x" }
+        ∷ record { name = codes "Path"; content = codes " y" }
+        ∷ record { name = codes "path"; content = codes " x" } ∷ []) }
+    ensures white_alone { LeavesEmpty Subject
+        (record { name = codes "Subject"; content = codes " \r\n\t" } ∷ []) }
+    ensures white_around_id { message_id
+        (record { name = codes "Message-ID"; content = codes " \t<a@x>\t " } ∷ [])
+        ≡ codes "<a@x>" }
+    ensures one_bad_group { HasBadGroups
+        (record { name = codes "Newsgroups"; content = codes " alt.a,alt." } ∷ []) }
 {}
 
 /// The worked article A(a, 1).

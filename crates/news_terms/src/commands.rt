@@ -88,6 +88,7 @@ pub fn number_examples()
     ensures stat_number { command_of (codes "STAT 5") ≡ Ok commands.NeedsGroup }
     ensures sixteen { command_of (codes "STAT 1234567890123456") ≡ Ok commands.NeedsGroup }
     ensures seventeen { command_of (codes "STAT 12345678901234567") ≡ Err commands.Syntax }
+    ensures zero { command_of (codes "STAT 0") ≡ Ok commands.NeedsGroup }
     ensures other_octet { command_of (codes "STAT 5x") ≡ Err commands.Syntax }
     ensures article_range { command_of (codes "ARTICLE 1-") ≡ Err commands.Syntax }
     ensures head_range { command_of (codes "HEAD 1-") ≡ Err commands.Syntax }
@@ -104,9 +105,13 @@ pub fn range_examples()
     ensures sixteen { command_of (codes "OVER 1234567890123456-1234567890123456")
         ≡ Ok commands.NeedsGroup }
     ensures seventeen { command_of (codes "OVER 1-12345678901234567") ≡ Err commands.Syntax }
+    ensures seventeen_low { command_of (codes "OVER 12345678901234567-") ≡ Err commands.Syntax }
+    ensures falling { command_of (codes "OVER 20-1") ≡ Ok commands.NeedsGroup }
     ensures no_low { command_of (codes "OVER -20") ≡ Err commands.Syntax }
     ensures three_ends { command_of (codes "OVER 1-2-3") ≡ Err commands.Syntax }
     ensures other_octet { command_of (codes "OVER 1-x") ≡ Err commands.Syntax }
+    ensures other_octet_low { command_of (codes "OVER x-1") ≡ Err commands.Syntax }
+    ensures other_word { command_of (codes "OVER x") ≡ Err commands.Syntax }
 {}
 
 /// The commands of a feed.
@@ -114,6 +119,7 @@ pub fn feed_examples()
     ensures least { command_of (codes "XTAKE 1") ≡ Ok (commands.TakeQueue 1) }
     ensures most { command_of (codes "XTAKE 1000") ≡ Ok (commands.TakeQueue 1000) }
     ensures zeros { command_of (codes "XTAKE 0005") ≡ Ok (commands.TakeQueue 5) }
+    ensures many_zeros { command_of (codes "XTAKE 00000000000000005") ≡ Ok (commands.TakeQueue 5) }
     ensures none { command_of (codes "XTAKE 0") ≡ Err commands.Syntax }
     ensures too_many { command_of (codes "XTAKE 1001") ≡ Err commands.Syntax }
     ensures no_number { command_of (codes "XTAKE 5x") ≡ Err commands.Syntax }

@@ -36,6 +36,8 @@ pub fn preparation_examples()
     ensures no_date { prepared_date (codes " yesterday") ≡ Some (codes "yesterday") }
     ensures invented_day { prepared_date (codes "Foo,1 Jan 2021 00:00:00 Utc")
         ≡ Some (codes "1 Jan 2021 00:00:00 +0000") }
+    ensures long_day { prepared_date (codes " Friday, 1 Jan") ≡ Some (codes "1 Jan") }
+    ensures one_letter { prepared_date (codes " F, 1 Jan") ≡ Some (codes "1 Jan") }
     ensures no_letter { prepared_date (codes " ,1 Jan") ≡ Some (codes ",1 Jan") }
     ensures no_opening { prepared_date (codes " 1 Jan)") ≡ Some (codes "1 Jan)") }
     ensures past_ascii { prepared_date (codes " 1 J" ++ 0xE4 ∷ codes "n") ≡ None }
@@ -75,6 +77,8 @@ pub fn zone_examples()
         ≡ Some (codes "1 Jan 2021 00:00:00 +0000") }
     ensures other_word { prepared_date (codes " Fri, 01 Jan 2021 00:00:00 EST")
         ≡ Some (codes "01 Jan 2021 00:00:00 EST") }
+    ensures military { prepared_date (codes " 1 Jan 2021 00:00:00 Z")
+        ≡ Some (codes "1 Jan 2021 00:00:00 Z") }
     ensures not_last { prepared_date (codes " UT 2021") ≡ Some (codes "UT 2021") }
     ensures part_of_a_word { prepared_date (codes " 1 Jan XUT") ≡ Some (codes "1 Jan XUT") }
     ensures space_before_comma { prepared_date (codes " Fri , 1 Jan")

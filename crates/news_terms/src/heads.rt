@@ -75,5 +75,16 @@ pub fn head_examples()
       begun = 0xFFFFFFFFFFFFFFFF;
       stored = 0xFFFFFFFFFFFFFFFF;
     }) }
+    ensures number_past_octet { ¬ IsHeadBlock (record {
+      state = Closed;
+      number = 256;
+      blocks = 8;
+      first_cycle = 0;
+      cycle = 0;
+      head = 1;
+      stop = 1;
+      begun = 1;
+      stored = 1;
+    }) }
     ensures bitmap { bitmap_block (λ j. j == 0) 0 ≡ 0x80 ∷ replicate 511 0 }
 {}

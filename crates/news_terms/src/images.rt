@@ -54,4 +54,7 @@ pub fn block_examples()
     }) }
     ensures one_octet { IsBlock (block_of 0 0 0 (120 ∷ []) 0) }
     ensures nothing { ¬ IsBlock (block_of 0 0 0 (120 ∷ []) 1) }
+    ensures class_past_octet { ¬ IsBlock (block_of 0 0 256 (120 ∷ []) 0) }
+    ensures octet_too_many { ¬ IsBlock
+        (record (block_of 0 0 0 [] 0) { payload = replicate 481 120 }) }
 {}

@@ -56,9 +56,11 @@ pub fn identity_examples()
         ≡ codes "a" ∷ codes "b" ∷ [] }
     ensures posted_in_case { path_identities (codes "a!.posted!b!x") ≡ codes "a" ∷ codes "b" ∷ [] }
     ensures posted_alone { path_identities (codes "a!.POSTED!b!x") ≡ codes "a" ∷ [] }
+    ensures posted_twice { path_identities (codes "a!.POSTED.h!b!.POSTED!c!x") ≡ codes "a" ∷ [] }
     ensures posted_tail { path_identities (codes "a!b!.POSTED") ≡ codes "a" ∷ codes "b" ∷ [] }
     ensures tail_alone { path_identities (codes "x") ≡ [] }
     ensures leftmost { leftmost_identity (codes "one.example!x") ≡ Some (codes "one.example") }
+    ensures leftmost_is_empty { leftmost_identity (codes "!a!x") ≡ Some [] }
     ensures none_leftmost { leftmost_identity (codes "x") ≡ None }
     ensures tail_is_no_loop { has_identity (codes "relay.example")
         (codes "one.example!relay.example") ≡ false }
@@ -77,12 +79,14 @@ pub fn agent_examples()
     ensures bang { is_agent (codes "relay!x") ≡ false }
     ensures space { is_agent (codes "relay x") ≡ false }
     ensures past_last_octet { is_agent (codes "a" ++ 0x7F ∷ []) ≡ false }
+    ensures past_ascii { is_agent (codes "a" ++ 0xE4 ∷ []) ≡ false }
     ensures posted { map is_posted (codes ".POSTED" ∷ codes ".POSTED.h" ∷ codes ".POSTED." ∷ [])
         ≡ true ∷ true ∷ true ∷ [] }
     ensures not_posted { map is_posted (codes "POSTED" ∷ codes ".POSTEDh" ∷ codes "a.POSTED" ∷ [])
         ≡ false ∷ false ∷ false ∷ [] }
     ensures white_is_no_fault { ¬ HasBadPath (codes " a!\t~\r\n x") }
     ensures past_printable { HasBadPath (codes " a!" ++ 0x7F ∷ codes "!x") }
+    ensures path_past_ascii { HasBadPath (codes " a!" ++ 0xE4 ∷ codes "!x") }
     ensures octet_zero { HasBadPath (codes " a!" ++ 0 ∷ codes "!x") }
 {}
 

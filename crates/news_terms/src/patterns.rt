@@ -59,6 +59,8 @@ pub fn match_examples()
         (codes "axbab") ≡ true }
     ensures star_for_nothing { matches (Star ∷ Star ∷ []) (codes "") ≡ true }
     ensures one_octet { matches (AnyOctet ∷ AnyOctet ∷ []) (codes "a") ≡ false }
+    ensures dot_is_an_octet { matches (AnyOctet ∷ []) (codes ".") ≡ true }
+    ensures case_counts { matches (Literal (byte "a") ∷ []) (codes "A") ≡ false }
     ensures comma_in_set { matches
         (Literal (byte "a") ∷ OneOf (codes ",b") ∷ Literal (byte "c") ∷ []) (codes "a,c") ≡ true }
     ensures range { matches (OneOf (codes "a-c-z") ∷ []) (codes "b") ≡ true }
@@ -108,11 +110,18 @@ pub fn written_examples()
     ensures plain { map (λ c. is_item (Literal c)) (codes "]!@^-~")
         ≡ true ∷ true ∷ true ∷ true ∷ true ∷ true ∷ [] }
     ensures past_ascii { map (λ c. is_item (Escaped c)) (0x7F ∷ 0x80 ∷ []) ≡ true ∷ false ∷ [] }
+    ensures control { map is_item (Literal 0 ∷ Literal (byte " ") ∷ OneOf (0 ∷ 0x7F ∷ []) ∷ [])
+        ≡ true ∷ true ∷ true ∷ [] }
+    ensures special_in_set { map is_item (OneOf (codes "*?[\\,") ∷ NoneOf (codes "[\\") ∷ [])
+        ≡ true ∷ true ∷ [] }
     ensures reversed { map is_item
         (OneOf (codes "^a") ∷ NoneOf (codes "^a") ∷ OneOf (codes "a^") ∷ [])
         ≡ false ∷ true ∷ true ∷ [] }
     ensures marks { map (λ c. is_marked (record { mark = Match; pattern = Literal c ∷ [] }))
         (codes "!@a") ≡ false ∷ false ∷ true ∷ [] }
+    ensures without_mark { map (λ item. is_marked (record { mark = Match; pattern = item ∷ [] }))
+        (Star ∷ AnyOctet ∷ Escaped (byte "@") ∷ OneOf (codes "!") ∷ NoneOf (codes "!") ∷ [])
+        ≡ true ∷ true ∷ true ∷ true ∷ true ∷ [] }
     ensures behind_a_mark { map (λ c. is_marked (record { mark = Fail; pattern = Literal c ∷ [] }))
         (codes "!@a") ≡ true ∷ true ∷ true ∷ [] }
 {}
@@ -153,5 +162,9 @@ pub fn fault_examples()
     ensures open_set { HasLeftmostFault (codes "[ab") OpenSet }
     ensures dangling { HasLeftmostFault (codes "a\\") DanglingEscape }
     ensures past_ascii { HasLeftmostFault (codes "!" ++ 0xE4 ∷ codes "[]") NonAscii }
+    ensures first_past_ascii { HasLeftmostFault (0x80 ∷ []) NonAscii }
+    ensures escaped_past_ascii { HasLeftmostFault (codes "\\" ++ 0xE4 ∷ []) NonAscii }
+    ensures set_past_ascii { HasLeftmostFault (codes "[a" ++ 0xE4 ∷ codes "]") NonAscii }
+    ensures reverse_upside_down { HasLeftmostFault (codes "[^z-a]") BadRange }
     ensures two_at_one_octet { HasLeftmostFault (codes "[" ++ 0xE4 ∷ codes "-a]") BadRange }
 {}

@@ -35,6 +35,10 @@ pub fn token_examples()
       first = 0xFFFFFFFF;
       length = 0xFFFFFFFF;
     }) }
+    ensures class_past_octet { ¬ IsToken
+        (record { class = 256; buffer = 0; cycle = 0; first = 0; length = 1 }) }
+    ensures buffer_past_octet { ¬ IsToken
+        (record { class = 1; buffer = 256; cycle = 0; first = 0; length = 1 }) }
 {}
 
 /// Tokens are the same exactly where the test says so, and two tokens have two texts.
