@@ -2,6 +2,7 @@
 
 ghost use Rattle.std.specs.Prelude.{◌≡◌, ◌++◌, ◌∷◌, [], ◌↔◌, ℕ, List, true, false, codes, length};
 ghost use Rattle.std.specs.Prelude.{take, drop, remove, map, Some, IsTrue, IsFalse, slice_index};
+ghost use Rattle.std.specs.Prelude.{replicate};
 ghost use Rattle.std.specs.List.{list_any, AllByRecursion};
 ghost use Rattle.std.specs.Str.{byte};
 ghost use Rattle.news_terms.specs.Article.{Article, Fault, Nul, BareCrLf, NoBlankLine};
@@ -16,7 +17,7 @@ ghost use Rattle.news_terms.specs.Article.{Date, From, MessageId, Newsgroups, In
 ghost use Rattle.news_terms.specs.Article.{EmptyField, BadId, BadGroups, faults_in_order, name_of};
 ghost use Rattle.news_terms.specs.Article.{is_field_name, is_set_off, contents_of};
 ghost use Rattle.news_terms.specs.Article.{content_or_empty, StandsRightly, Repeats, LeavesEmpty};
-ghost use Rattle.news_terms.specs.Article.{HasBadGroups};
+ghost use Rattle.news_terms.specs.Article.{HasBadGroups, HasBadId};
 
 /// A text is laid out as one article at most.
 pub fn one_reading()
@@ -49,13 +50,18 @@ pub fn unfolded_is_one_line()
         → AllByRecursion (λ f. IsFalse (list_any is_of_line_end (unfolded f.content))) a.fields }
 {}
 
-/// The worked article A(a, 1) is one, also with an optional field that is empty.
+/// The worked article A(a, 1) is one, also with an optional field that is empty, without a body and
+/// with one that no CRLF ends.
 pub fn accepted_examples()
     ensures worked { IsArticleText (article_text (worked_article (byte "a") 1))
         (worked_article (byte "a") 1) }
     ensures empty_optional_field { let a = worked_article (byte "a") 1 in
         let b = record a { fields = record { name = codes "Keywords"; content = [] } ∷ a.fields } in
         IsArticleText (codes "Keywords:\r\n" ++ article_text a) b }
+    ensures no_body { let a = record (worked_article (byte "a") 1) { body = [] } in
+        IsArticleText (article_text a) a }
+    ensures unended_body { let a = record (worked_article (byte "a") 1) { body = codes "x" } in
+        IsArticleText (article_text a) a }
 {}
 
 /// The first fault of texts made from the worked article A(a, 1).
@@ -115,6 +121,9 @@ pub fn field_examples()
         (record { name = codes "a"; content = codes "1" }
         ∷ record { name = codes "A"; content = codes "3" } ∷ [])
         ≡ Some (codes "1") }
+    ensures other_lengths { contents_of (codes "Ab")
+        (record { name = codes "A"; content = codes "1" }
+        ∷ record { name = codes "Abc"; content = codes "2" } ∷ []) ≡ [] }
     ensures none { content_or_empty (codes "A") (record { name = codes "b"; content = codes "2" }
         ∷ []) ≡ [] }
 {}
@@ -159,6 +168,8 @@ pub fn content_examples()
     ensures every_mark { is_newsgroup_name (codes "alt.a_b-c") ≡ true }
     ensures capitals_and_digits { is_newsgroup_name (codes "Alt.OS2.9") ≡ true }
     ensures other_mark { is_newsgroup_name (codes "alt.a/b") ≡ false }
+    ensures mark_first { is_newsgroup_name (codes "+a.-b._c") ≡ true }
+    ensures long_component { is_newsgroup_name (replicate 72 (byte "a")) ≡ true }
     ensures past_ascii { is_newsgroup_name (codes "alt." ++ 0xE4 ∷ []) ≡ false }
     ensures begins_with_dot { is_newsgroup_name (codes ".alt") ≡ false }
     ensures ends_with_dot { is_newsgroup_name (codes "alt.") ≡ false }
@@ -175,6 +186,8 @@ pub fn field_fault_examples()
     ensures white_around_id { message_id
         (record { name = codes "Message-ID"; content = codes " \t<a@x>\t " } ∷ [])
         ≡ codes "<a@x>" }
+    ensures no_bracket { HasBadId
+        (record { name = codes "Message-ID"; content = codes " a@x>" } ∷ []) }
     ensures one_bad_group { HasBadGroups
         (record { name = codes "Newsgroups"; content = codes " alt.a,alt." } ∷ []) }
 {}

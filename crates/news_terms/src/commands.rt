@@ -90,6 +90,7 @@ pub fn number_examples()
     ensures seventeen { command_of (codes "STAT 12345678901234567") ≡ Err commands.Syntax }
     ensures zero { command_of (codes "STAT 0") ≡ Ok commands.NeedsGroup }
     ensures other_octet { command_of (codes "STAT 5x") ≡ Err commands.Syntax }
+    ensures plus { command_of (codes "STAT +5") ≡ Err commands.Syntax }
     ensures article_range { command_of (codes "ARTICLE 1-") ≡ Err commands.Syntax }
     ensures head_range { command_of (codes "HEAD 1-") ≡ Err commands.Syntax }
     ensures body_range { command_of (codes "BODY 1-") ≡ Err commands.Syntax }
@@ -123,6 +124,7 @@ pub fn feed_examples()
     ensures none { command_of (codes "XTAKE 0") ≡ Err commands.Syntax }
     ensures too_many { command_of (codes "XTAKE 1001") ≡ Err commands.Syntax }
     ensures no_number { command_of (codes "XTAKE 5x") ≡ Err commands.Syntax }
+    ensures plus { command_of (codes "XTAKE +5") ≡ Err commands.Syntax }
     ensures xtake_alone { command_of (codes "XTAKE") ≡ Err commands.Syntax }
     ensures xtake_two { command_of (codes "XTAKE 1 2") ≡ Err commands.Syntax }
     ensures xfetch { command_of (codes "XFETCH x") ≡ Ok (commands.FetchToken (codes "x")) }

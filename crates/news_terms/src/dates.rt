@@ -39,6 +39,8 @@ pub fn preparation_examples()
     ensures long_day { prepared_date (codes " Friday, 1 Jan") ≡ Some (codes "1 Jan") }
     ensures one_letter { prepared_date (codes " F, 1 Jan") ≡ Some (codes "1 Jan") }
     ensures no_letter { prepared_date (codes " ,1 Jan") ≡ Some (codes ",1 Jan") }
+    ensures comment_inside { prepared_date (codes " 1 Jan (x) 2021")
+        ≡ Some (codes "1 Jan (x) 2021") }
     ensures no_opening { prepared_date (codes " 1 Jan)") ≡ Some (codes "1 Jan)") }
     ensures past_ascii { prepared_date (codes " 1 J" ++ 0xE4 ∷ codes "n") ≡ None }
     ensures past_ascii_in_comment { prepared_date (codes " 1 Jan (" ++ 0xE4 ∷ codes ")")
@@ -56,6 +58,8 @@ pub fn judged_examples()
         ∷ record { name = codes "Date"; content = codes " 1" } ∷ []) ≡ codes " 2" }
     ensures date_alone { judged_date (record { name = codes "Date"; content = codes " 1" } ∷ [])
         ≡ codes " 1" }
+    ensures blank { judged_date (record { name = codes "Injection-Date"; content = codes " " }
+        ∷ record { name = codes "Date"; content = codes " 1" } ∷ []) ≡ codes " " }
     ensures no_date { judged_date [] ≡ [] }
 {}
 
@@ -79,6 +83,7 @@ pub fn zone_examples()
         ≡ Some (codes "01 Jan 2021 00:00:00 EST") }
     ensures military { prepared_date (codes " 1 Jan 2021 00:00:00 Z")
         ≡ Some (codes "1 Jan 2021 00:00:00 Z") }
+    ensures zone_alone { prepared_date (codes " GMT") ≡ Some (codes "+0000") }
     ensures not_last { prepared_date (codes " UT 2021") ≡ Some (codes "UT 2021") }
     ensures part_of_a_word { prepared_date (codes " 1 Jan XUT") ≡ Some (codes "1 Jan XUT") }
     ensures space_before_comma { prepared_date (codes " Fri , 1 Jan")

@@ -66,6 +66,8 @@ pub fn identity_examples()
         (codes "one.example!relay.example") ≡ false }
     ensures posted_is_no_loop { has_identity (codes "relay.example")
         (codes "one.example!.POSTED.h!relay.example!x") ≡ false }
+    ensures longer_is_no_loop { has_identity (codes "relay.example")
+        (codes "relay.example.org!my.relay.example!x") ≡ false }
     ensures any_case_is_loop { has_identity (codes "relay.example")
         (codes "one.example!Relay.Example!x") ≡ true }
 {}
@@ -101,6 +103,9 @@ pub fn update_examples()
     ensures mismatch { updated_content (codes "relay.example") (codes "one.example")
         (codes " three.example!x")
         ≡ codes "relay.example!.MISMATCH.one.example!three.example!x" }
+    ensures longer { updated_content (codes "relay.example") (codes "one.example")
+        (codes " one.example.org!x")
+        ≡ codes "relay.example!.MISMATCH.one.example!one.example.org!x" }
     ensures no_identity { updated_content (codes "relay.example") (codes "one.example") (codes " x")
         ≡ codes "relay.example!.MISMATCH.one.example!x" }
     ensures folded { updated_field (codes "relay.example") (codes "one.example")

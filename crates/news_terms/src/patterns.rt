@@ -87,6 +87,9 @@ pub fn set_examples()
     ensures dash_first { map (matches (OneOf (codes "-b") ∷ []))
         (codes "a" ∷ codes "b" ∷ codes "c" ∷ codes "d" ∷ codes "-" ∷ [])
         ≡ false ∷ true ∷ false ∷ false ∷ true ∷ [] }
+    ensures range_from_dash { map (matches (OneOf (codes "--b") ∷ []))
+        (codes "a" ∷ codes "b" ∷ codes "c" ∷ codes "d" ∷ codes "-" ∷ [])
+        ≡ true ∷ true ∷ false ∷ false ∷ true ∷ [] }
     ensures dash_last { map (matches (OneOf (codes "b-") ∷ []))
         (codes "a" ∷ codes "b" ∷ codes "c" ∷ codes "d" ∷ codes "-" ∷ [])
         ≡ false ∷ true ∷ false ∷ false ∷ true ∷ [] }
@@ -160,6 +163,7 @@ pub fn fault_examples()
     ensures empty_set { HasLeftmostFault (codes "[]") EmptySet }
     ensures empty_reverse { HasLeftmostFault (codes "x,[^]") EmptySet }
     ensures open_set { HasLeftmostFault (codes "[ab") OpenSet }
+    ensures open_set_of_nothing { HasLeftmostFault (codes "[") OpenSet }
     ensures dangling { HasLeftmostFault (codes "a\\") DanglingEscape }
     ensures past_ascii { HasLeftmostFault (codes "!" ++ 0xE4 ∷ codes "[]") NonAscii }
     ensures first_past_ascii { HasLeftmostFault (0x80 ∷ []) NonAscii }

@@ -104,6 +104,7 @@ pub fn lone_buffer_picks_example()
 
 /// The same two in turn: none is fresh.
 pub fn interleaved_picks_example()
+    ensures position { position_of eight_and_six (5 ∷ []) ≡ record { index = 1; used = 0 } }
     ensures fourth { pick_of eight_and_six (5 ∷ 4 ∷ 2 ∷ []) 3
         ≡ record { index = 1; fresh = false } }
     ensures place_fourth { place_of_pick eight_and_six (5 ∷ 4 ∷ 2 ∷ [])

@@ -45,6 +45,16 @@ returns-clause-open_set c = record {
   faulty = (codes "ab", refl, refl);
 }
 
+pub returns-clause-open_set_of_nothing : goal.returns-clause-open_set_of_nothing
+returns-clause-open_set_of_nothing c = record {
+  before = [];
+  expression = record { mark = Match; pattern = [] } ∷ [];
+  rest = codes "[";
+  split = refl;
+  read = record { some = omega arith; each = refl; spelled = refl };
+  faulty = ([], refl, refl);
+}
+
 pub returns-clause-dangling : goal.returns-clause-dangling
 returns-clause-dangling c = record {
   before = codes "a";
