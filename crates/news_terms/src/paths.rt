@@ -49,6 +49,8 @@ pub fn update_loops()
 /// Pieces, identities and loops.
 pub fn identity_examples()
     ensures pieces { path_pieces (codes " a! b\r\n\t!x") ≡ codes "a" ∷ codes "b" ∷ codes "x" ∷ [] }
+    ensures other_marks { path_pieces (codes "a,b:c/d%e!x")
+        ≡ codes "a,b:c/d%e" ∷ codes "x" ∷ [] }
     ensures tail { tail_entry (codes "one.example!x") ≡ Some (codes "x") }
     ensures identities { path_identities (codes "a!!.MISMATCH.b!c!.POSTED.h!d!x")
         ≡ codes "a" ∷ codes "c" ∷ [] }
@@ -100,6 +102,9 @@ pub fn update_examples()
     ensures any_case { updated_content (codes "relay.example") (codes "one.example")
         (codes " ONE.example!x")
         ≡ codes "relay.example!!ONE.example!x" }
+    ensures expected_in_any_case { updated_content (codes "relay.example") (codes "One.Example")
+        (codes " one.example!x")
+        ≡ codes "relay.example!!one.example!x" }
     ensures mismatch { updated_content (codes "relay.example") (codes "one.example")
         (codes " three.example!x")
         ≡ codes "relay.example!.MISMATCH.one.example!three.example!x" }

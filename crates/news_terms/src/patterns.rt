@@ -103,6 +103,7 @@ pub fn set_examples()
         ≡ false ∷ false ∷ [] }
     ensures fault_of_first_range { set_fault (codes "z-a" ++ 0xE4 ∷ []) ≡ Some BadRange }
     ensures fault_past_ascii_first { set_fault (0xE4 ∷ codes "z-a") ≡ Some NonAscii }
+    ensures fault_of_range_past_ascii { set_fault (0xE5 ∷ byte "-" ∷ 0xE4 ∷ []) ≡ Some BadRange }
     ensures range_of_one { set_fault (codes "a-a") ≡ None }
 {}
 

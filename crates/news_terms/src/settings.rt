@@ -23,6 +23,8 @@ pub fn group_examples()
     ensures no_buffer { ¬ AreSound (eight ∷ [])
         (record { mode = Interleave; buffers = [] } ∷ []) }
     ensures unlisted { ¬ AreSound (eight ∷ []) (eight_then_six ∷ []) }
+    ensures other_blocks { ¬ AreSound (eight ∷ [])
+        (record { mode = Interleave; buffers = record eight { blocks = 7 } ∷ [] } ∷ []) }
     ensures in_two_groups { ¬ AreSound (eight ∷ []) (one_of_eight ∷ one_of_eight ∷ []) }
     ensures twice_in_a_group { ¬ AreSound (eight ∷ [])
         (record { mode = Interleave; buffers = eight ∷ eight ∷ [] } ∷ []) }

@@ -36,6 +36,20 @@ returns-clause-unlisted c =
     (record { group = eight_then_six; is_group = refl; is_buffer = refl }) in
     not_listed listed.0 listed.1
 
+-- nor one of seven blocks with the number of eight
+not_listed_smaller : (k : ℕ) → slice_get (eight ∷ []) k ≡ Some (record eight { blocks = 7 }) → ⊥
+not_listed_smaller zero e =
+    let blocks : 8 ≡ 7 = ap (λ o. (unwrap_or o eight).blocks) e in omega (arith, blocks)
+not_listed_smaller (suc k) e = cc e
+
+pub returns-clause-other_blocks : goal.returns-clause-other_blocks
+returns-clause-other_blocks c =
+    λ h. let smaller : Group =
+    record { mode = Interleave; buffers = record eight { blocks = 7 } ∷ [] } in
+    let listed = h.named 0 0 (record eight { blocks = 7 })
+    (record { group = smaller; is_group = refl; is_buffer = refl }) in
+    not_listed_smaller listed.0 listed.1
+
 pub returns-clause-in_two_groups : goal.returns-clause-in_two_groups
 returns-clause-in_two_groups c =
     λ h. let same = h.once 0 1 0 0 eight eight
