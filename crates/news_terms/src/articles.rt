@@ -17,7 +17,7 @@ ghost use Rattle.news_terms.specs.Article.{Date, From, MessageId, Newsgroups, In
 ghost use Rattle.news_terms.specs.Article.{EmptyField, BadId, BadGroups, faults_in_order, name_of};
 ghost use Rattle.news_terms.specs.Article.{is_field_name, is_set_off, contents_of};
 ghost use Rattle.news_terms.specs.Article.{content_or_empty, StandsRightly, Repeats, LeavesEmpty};
-ghost use Rattle.news_terms.specs.Article.{HasBadGroups, HasBadId};
+ghost use Rattle.news_terms.specs.Article.{HasBadGroups, HasBadId, HasNul, IsField};
 
 /// A text is laid out as one article at most.
 pub fn one_reading()
@@ -112,6 +112,8 @@ pub fn field_examples()
     ensures tab_behind_colon { is_set_off (codes "\tx") ≡ true }
     ensures folded_behind_colon { is_set_off (codes "\r\n x") ≡ true }
     ensures name_behind_colon { is_set_off (codes "x") ≡ false }
+    ensures long_content_past_ascii { IsField
+        (record { name = codes "Subject"; content = byte " " ∷ replicate 1000 0xE4 }) }
     ensures both_in_order { contents_of (codes "A")
         (record { name = codes "a"; content = codes "1" }
         ∷ record { name = codes "b"; content = codes "2" }
@@ -130,6 +132,7 @@ pub fn field_examples()
 
 /// Line ends are pairs, and a folded line continues its field.
 pub fn line_examples()
+    ensures no_nul { ¬ HasNul (1 ∷ 8 ∷ 0x7F ∷ 0x80 ∷ 0xFF ∷ []) }
     ensures bare_line_feed { is_paired (codes "a\nb") ≡ false }
     ensures bare_carriage_return { is_paired (codes "a\rb\r\n") ≡ false }
     ensures ends_in_carriage_return { is_paired (codes "a\r") ≡ false }

@@ -123,6 +123,7 @@ pub fn feed_examples()
     ensures many_zeros { command_of (codes "XTAKE 00000000000000005") ≡ Ok (commands.TakeQueue 5) }
     ensures none { command_of (codes "XTAKE 0") ≡ Err commands.Syntax }
     ensures too_many { command_of (codes "XTAKE 1001") ≡ Err commands.Syntax }
+    ensures past_64_bits { command_of (codes "XTAKE 18446744073709551617") ≡ Err commands.Syntax }
     ensures no_number { command_of (codes "XTAKE 5x") ≡ Err commands.Syntax }
     ensures plus { command_of (codes "XTAKE +5") ≡ Err commands.Syntax }
     ensures xtake_alone { command_of (codes "XTAKE") ≡ Err commands.Syntax }

@@ -99,6 +99,7 @@ pub fn dots()
         ++ codes "." ++ crlf ++ codes "STAT")
         ≡ blocks.Whole (codes "." ++ crlf ++ codes "..x" ++ crlf ++ codes "." ++ crlf)
         (codes "STAT") }
+    ensures are_lines { AreLines (codes "." ∷ [] ∷ codes "a\nb" ∷ []) }
     ensures empty_text { stuffed [] ≡ codes "." ++ crlf }
     ensures empty_block { next_block 100 (codes "." ++ crlf) ≡ blocks.Whole [] [] }
     ensures invented_dot { next_block 100 (codes ".x" ++ crlf ++ codes "." ++ crlf)
