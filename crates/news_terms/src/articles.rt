@@ -51,13 +51,28 @@ pub fn unfolded_is_one_line()
 {}
 
 /// The worked article A(a, 1) is one, also with an optional field that is empty, without a body and
-/// with one that no CRLF ends.
+/// with one that no CRLF ends; and so is one of two newsgroups, with other fields that repeat.
 pub fn accepted_examples()
     ensures worked { IsArticleText (article_text (worked_article (byte "a") 1))
         (worked_article (byte "a") 1) }
     ensures empty_optional_field { let a = worked_article (byte "a") 1 in
         let b = record a { fields = record { name = codes "Keywords"; content = [] } ∷ a.fields } in
         IsArticleText (codes "Keywords:\r\n" ++ article_text a) b }
+    ensures many_fields { let a : Article = record {
+      fields =
+          record { name = codes "PATH"; content = codes " one.example!x" }
+          ∷ record { name = codes "from"; content = codes "\r\n a@x.example" }
+          ∷ record { name = codes "Newsgroups"; content = codes " misc.test, alt.test" }
+          ∷ record { name = codes "Subject"; content = codes " t" }
+          ∷ record { name = codes "Message-ID"; content = codes " <a@x> " }
+          ∷ record { name = codes "Date"; content = codes " d" }
+          ∷ record { name = codes "Injection-Date"; content = codes "\td" }
+          ∷ record { name = codes "Received"; content = codes " 1" }
+          ∷ record { name = codes "Received"; content = codes " 2" }
+          ∷ [];
+      body = 0xE4 ∷ [];
+    } in
+        IsArticleText (article_text a) a }
     ensures no_body { let a = record (worked_article (byte "a") 1) { body = [] } in
         IsArticleText (article_text a) a }
     ensures unended_body { let a = record (worked_article (byte "a") 1) { body = codes "x" } in
@@ -171,6 +186,8 @@ pub fn content_examples()
     ensures every_mark { is_newsgroup_name (codes "alt.a_b-c") ≡ true }
     ensures capitals_and_digits { is_newsgroup_name (codes "Alt.OS2.9") ≡ true }
     ensures other_mark { is_newsgroup_name (codes "alt.a/b") ≡ false }
+    ensures other_marks { map (λ c. is_newsgroup_name (c ∷ [])) (codes "*,=@^` ")
+        ≡ replicate 7 false }
     ensures mark_first { is_newsgroup_name (codes "+a.-b._c") ≡ true }
     ensures long_component { is_newsgroup_name (replicate 72 (byte "a")) ≡ true }
     ensures past_ascii { is_newsgroup_name (codes "alt." ++ 0xE4 ∷ []) ≡ false }

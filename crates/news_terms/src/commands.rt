@@ -1,5 +1,5 @@
 //! Worked examples of command lines: each line of the table once, and each way to miss it.
-ghost use Rattle.std.specs.Prelude.{◌≡◌, codes, Some, None, Ok, Err, []};
+ghost use Rattle.std.specs.Prelude.{◌≡◌, codes, Some, None, Ok, Err, [], ◌∷◌, map, replicate};
 ghost use Rattle.news_terms.specs.Command.{command_of};
 ghost use Rattle.news_terms.specs.Command as commands;
 
@@ -12,6 +12,9 @@ pub fn word_examples()
     ensures blank_line { command_of (codes " \t ") ≡ Err commands.Unknown }
     ensures unknown { command_of (codes "FOO") ≡ Err commands.Unknown }
     ensures unknown_with_words { command_of (codes "CHECKS <a@x>") ≡ Err commands.Unknown }
+    ensures others { map command_of
+        (codes "XOVER" ∷ codes "POST" ∷ codes "GROUP x" ∷ codes "LIST" ∷ [])
+        ≡ replicate 4 (Err commands.Unknown) }
     ensures no_white { command_of (codes "QUIT\r") ≡ Err commands.Unknown }
 {}
 

@@ -18,6 +18,9 @@ pub fn buffer_examples()
 /// Numbers are the buffers' own, and a group has some buffers of the list, none of them twice.
 pub fn group_examples()
     ensures both_in_a_group { AreSound (eight ∷ six ∷ []) (eight_then_six ∷ []) }
+    ensures no_group { AreSound (eight ∷ six ∷ []) [] }
+    ensures two_groups { AreSound (eight ∷ six ∷ [])
+        (one_of_eight ∷ record { mode = Interleave; buffers = six ∷ [] } ∷ []) }
     ensures number_twice { ¬ AreSound (eight ∷ record six { number = 0 } ∷ []) [] }
     ensures unsound_buffer { ¬ AreSound (record eight { blocks = 0 } ∷ []) [] }
     ensures no_buffer { ¬ AreSound (eight ∷ [])
