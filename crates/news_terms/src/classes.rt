@@ -4,7 +4,7 @@ ghost use Rattle.std.specs.Prelude.{◌≡◌, ◌++◌, ◌∷◌, [], ℕ, Lis
 ghost use Rattle.std.specs.Prelude.{Some, None, IsTrue, IsFalse, option_map};
 ghost use Rattle.news_terms.specs.Pattern.{worked_expression};
 ghost use Rattle.news_terms.specs.StorageClass.{Entry, takes, takes_groups};
-ghost use Rattle.news_terms.specs.StorageClass.{chosen_entry};
+ghost use Rattle.news_terms.specs.StorageClass.{chosen_entry, is_at_most};
 
 /// An article falls to the first entry whose conditions hold.
 pub fn first_entry()
@@ -57,6 +57,7 @@ pub fn class_examples()
         (chosen_entry (small ∷ large ∷ []) (codes "comp.x" ∷ []) size))
         (99 ∷ 100 ∷ 200 ∷ 201 ∷ [])
         ≡ None ∷ Some 1 ∷ Some 1 ∷ Some 2 ∷ [] }
+    ensures no_limit { is_at_most None 0xFFFFFFFF ≡ true }
     ensures without_a_group { let any : Entry = record {
       smallest = 0;
       largest = None;

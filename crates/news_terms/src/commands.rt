@@ -1,6 +1,7 @@
 //! Worked examples of command lines: each line of the table once, and each way to miss it.
-ghost use Rattle.std.specs.Prelude.{◌≡◌, codes, Some, None, Ok, Err, [], ◌∷◌, map, replicate};
-ghost use Rattle.news_terms.specs.Command.{command_of};
+ghost use Rattle.std.specs.Prelude.{◌≡◌, codes, Some, None, Ok, Err, [], ◌∷◌, ◌++◌, map, replicate};
+ghost use Rattle.std.specs.Prelude.{length};
+ghost use Rattle.news_terms.specs.Command.{command_of, keywords};
 ghost use Rattle.news_terms.specs.Command as commands;
 
 /// Words are separated by SP and TAB, keywords are read without regard to case.
@@ -15,6 +16,7 @@ pub fn word_examples()
     ensures others { map command_of
         (codes "XOVER" ∷ codes "POST" ∷ codes "GROUP x" ∷ codes "LIST" ∷ [])
         ≡ replicate 4 (Err commands.Unknown) }
+    ensures no_more { length keywords ≡ 15 }
     ensures no_white { command_of (codes "QUIT\r") ≡ Err commands.Unknown }
 {}
 
@@ -22,6 +24,8 @@ pub fn word_examples()
 pub fn session_examples()
     ensures capabilities { command_of (codes "CAPABILITIES") ≡ Ok commands.AskCapabilities }
     ensures capabilities_word { command_of (codes "CAPABILITIES x")
+        ≡ Ok commands.AskCapabilities }
+    ensures capabilities_long_word { command_of (codes "CAPABILITIES " ++ replicate 99 97)
         ≡ Ok commands.AskCapabilities }
     ensures capabilities_words { command_of (codes "CAPABILITIES x y") ≡ Err commands.Syntax }
     ensures help { command_of (codes "HELP") ≡ Ok commands.AskHelp }
@@ -132,6 +136,8 @@ pub fn feed_examples()
     ensures xtake_alone { command_of (codes "XTAKE") ≡ Err commands.Syntax }
     ensures xtake_two { command_of (codes "XTAKE 1 2") ≡ Err commands.Syntax }
     ensures xfetch { command_of (codes "XFETCH x") ≡ Ok (commands.FetchToken (codes "x")) }
+    ensures xfetch_long_word { command_of (codes "XFETCH " ++ replicate 99 97)
+        ≡ Ok (commands.FetchToken (replicate 99 97)) }
     ensures xfetch_alone { command_of (codes "XFETCH") ≡ Err commands.Syntax }
     ensures xfetch_two { command_of (codes "XFETCH x y") ≡ Err commands.Syntax }
 {}

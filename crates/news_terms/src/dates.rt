@@ -1,7 +1,7 @@
 //! Dates: worked examples, of which now is 1609459200, the first second of 2021.
 
 ghost use Rattle.std.specs.Prelude.{◌≡◌, ◌++◌, ◌∷◌, ◌↔◌, ◌+◌, ◌+ℤ◌, ◌≤ℤ◌, ◌<ℤ◌, ℕ, ℤ, List, codes};
-ghost use Rattle.std.specs.Prelude.{◌<◌, [], Some, None, pos, negsuc, map};
+ghost use Rattle.std.specs.Prelude.{◌<◌, [], Some, None, pos, negsuc, map, replicate};
 ghost use Rattle.news_terms.specs.Article.{worked_article};
 ghost use Rattle.news_terms.specs.Dates.{seconds_ahead, prepared_date, date_fault, judged_date};
 ghost use Rattle.news_terms.specs.Dates.{BadDate, Future, TooOld, two_digits, four_digits};
@@ -38,6 +38,8 @@ pub fn preparation_examples()
         ≡ Some (codes "1 Jan 2021 00:00:00 +0000") }
     ensures long_day { prepared_date (codes " Friday, 1 Jan") ≡ Some (codes "1 Jan") }
     ensures one_letter { prepared_date (codes " F, 1 Jan") ≡ Some (codes "1 Jan") }
+    ensures many_letters { prepared_date (replicate 40 97 ++ codes ", 1 Jan")
+        ≡ Some (codes "1 Jan") }
     ensures small_letters { prepared_date (codes " fri, 1 Jan") ≡ Some (codes "1 Jan") }
     ensures no_letter { prepared_date (codes " ,1 Jan") ≡ Some (codes ",1 Jan") }
     ensures comment_inside { prepared_date (codes " 1 Jan (x) 2021")
@@ -87,6 +89,8 @@ pub fn zone_examples()
         ≡ Some (codes "1 Jan 2021 00:00:00 Z") }
     ensures both_cases { map prepared_date (codes " 1 Gmt" ∷ codes " 1 uT" ∷ [])
         ≡ Some (codes "1 +0000") ∷ Some (codes "1 +0000") ∷ [] }
+    ensures negative_zero { prepared_date (codes " 1 Jan 2021 00:00:00 -0000")
+        ≡ Some (codes "1 Jan 2021 00:00:00 -0000") }
     ensures zone_alone { prepared_date (codes " GMT") ≡ Some (codes "+0000") }
     ensures not_last { prepared_date (codes " UT 2021") ≡ Some (codes "UT 2021") }
     ensures part_of_a_word { prepared_date (codes " 1 Jan XUT") ≡ Some (codes "1 Jan XUT") }

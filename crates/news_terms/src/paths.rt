@@ -54,6 +54,8 @@ pub fn identity_examples()
     ensures tail { tail_entry (codes "one.example!x") ≡ Some (codes "x") }
     ensures identities { path_identities (codes "a!!.MISMATCH.b!c!.POSTED.h!d!x")
         ≡ codes "a" ∷ codes "c" ∷ [] }
+    ensures marks_in_identities { path_identities (codes "a/b:1!c_d!x")
+        ≡ codes "a/b:1" ∷ codes "c_d" ∷ [] }
     ensures posted_in_full { path_identities (codes "a!.POSTEDLY!b!x")
         ≡ codes "a" ∷ codes "b" ∷ [] }
     ensures posted_in_case { path_identities (codes "a!.posted!b!x") ≡ codes "a" ∷ codes "b" ∷ [] }
@@ -68,6 +70,8 @@ pub fn identity_examples()
         (codes "one.example!relay.example") ≡ false }
     ensures posted_is_no_loop { has_identity (codes "relay.example")
         (codes "one.example!.POSTED.h!relay.example!x") ≡ false }
+    ensures loop_behind_others { has_identity (codes "relay.example")
+        (codes "a!b!c!d!e!f!g!h!relay.example!x") ≡ true }
     ensures longer_is_no_loop { has_identity (codes "relay.example")
         (codes "relay.example.org!my.relay.example!x") ≡ false }
     ensures any_case_is_loop { has_identity (codes "relay.example")
