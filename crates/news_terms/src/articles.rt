@@ -178,6 +178,8 @@ pub fn content_examples()
     ensures trims { trimmed (codes " \t a b\t ") ≡ codes "a b" }
     ensures cuts { newsgroups_in (codes " comp.x ,\r\n\talt.a")
         ≡ codes "comp.x" ∷ codes "alt.a" ∷ [] }
+    ensures cuts_many { newsgroups_in (codes "a,b,c,d,e,f")
+        ≡ codes "a" ∷ codes "b" ∷ codes "c" ∷ codes "d" ∷ codes "e" ∷ codes "f" ∷ [] }
     ensures cuts_empty { newsgroups_in (codes " alt.a, ") ≡ codes "alt.a" ∷ [] ∷ [] }
     ensures name { is_newsgroup_name (codes "comp.lang.c++") ≡ true }
     ensures one_component { is_newsgroup_name (codes "junk") ≡ true }

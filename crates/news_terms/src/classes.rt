@@ -1,7 +1,7 @@
 //! Storage classes: a law and worked examples.
 
 ghost use Rattle.std.specs.Prelude.{◌≡◌, ◌++◌, ◌∷◌, [], ℕ, List, true, false, codes, map, All};
-ghost use Rattle.std.specs.Prelude.{Some, None, IsTrue, IsFalse, option_map};
+ghost use Rattle.std.specs.Prelude.{Some, None, IsTrue, IsFalse, option_map, replicate};
 ghost use Rattle.news_terms.specs.Pattern.{worked_expression};
 ghost use Rattle.news_terms.specs.StorageClass.{Entry, takes, takes_groups};
 ghost use Rattle.news_terms.specs.StorageClass.{chosen_entry, is_at_most};
@@ -44,6 +44,14 @@ pub fn class_examples()
         map (takes_groups exact)
         ((codes "comp.x" ∷ codes "alt.a" ∷ []) ∷ (codes "comp.x" ∷ codes "comp.y" ∷ []) ∷ [])
         ≡ false ∷ true ∷ [] }
+    ensures last_of_many { takes_groups (record {
+      smallest = 0;
+      largest = None;
+      newsgroups = worked_expression;
+      exactmatch = true;
+      class = 1;
+      group = 0;
+    }) (replicate 9 (codes "comp.x") ++ codes "alt.a" ∷ []) ≡ false }
     ensures sizes { let small : Entry = record {
       smallest = 100;
       largest = Some 200;

@@ -82,6 +82,7 @@ pub fn identity_examples()
 pub fn agent_examples()
     ensures agent { is_agent (codes "relay.example") ≡ true }
     ensures first_and_last_octet { is_agent (0x22 ∷ 0x7E ∷ []) ≡ true }
+    ensures marks { is_agent (codes "a_b/c:1@d") ≡ true }
     ensures nothing { is_agent (codes "") ≡ false }
     ensures dot_first { is_agent (codes ".relay") ≡ false }
     ensures bang { is_agent (codes "relay!x") ≡ false }

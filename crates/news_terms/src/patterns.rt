@@ -1,7 +1,7 @@
 //! Patterns: laws and worked examples.
 
 ghost use Rattle.std.specs.Prelude.{◌≡◌, ◌++◌, ◌∷◌, [], ◌↔◌, ℕ, List, true, false, codes, map, All};
-ghost use Rattle.std.specs.Prelude.{IsTrue, Some, None};
+ghost use Rattle.std.specs.Prelude.{IsTrue, Some, None, replicate};
 ghost use Rattle.std.specs.Str.{byte};
 ghost use Rattle.news_terms.specs.Pattern.{ExpressionFault, Item, Matches, Marked, Match, Fail};
 ghost use Rattle.news_terms.specs.Pattern.{Poison, Star};
@@ -96,6 +96,7 @@ pub fn set_examples()
     ensures range_in_middle { map (matches (OneOf (codes "ac-d") ∷ []))
         (codes "a" ∷ codes "b" ∷ codes "c" ∷ codes "d" ∷ codes "-" ∷ [])
         ≡ true ∷ false ∷ true ∷ true ∷ false ∷ [] }
+    ensures capital { matches (OneOf (codes "a-c") ∷ []) (codes "B") ≡ false }
     ensures reverse_of_two { map (matches (NoneOf (codes "bc") ∷ []))
         (codes "a" ∷ codes "b" ∷ codes "c" ∷ codes "d" ∷ codes "-" ∷ [])
         ≡ true ∷ false ∷ false ∷ true ∷ true ∷ [] }
@@ -136,6 +137,11 @@ pub fn permitting_examples()
     ensures none_matches { permits worked_expression (codes "alt.a" ∷ []) ≡ false }
     ensures poison { permits worked_expression (codes "comp.x" ∷ codes "alt.binaries.b" ∷ [])
         ≡ false }
+    ensures match_at_last { permits worked_expression
+        (codes "alt.a" ∷ codes "alt.b" ∷ codes "alt.c" ∷ codes "alt.d" ∷ codes "comp.x" ∷ [])
+        ≡ true }
+    ensures poison_at_last { permits worked_expression
+        (replicate 9 (codes "comp.x") ++ codes "alt.binaries.b" ∷ []) ≡ false }
     ensures no_group { permits worked_expression [] ≡ false }
 {}
 

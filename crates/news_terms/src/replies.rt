@@ -1,5 +1,5 @@
 //! Worked examples of tokens and replies: each reply once.
-ghost use Rattle.std.specs.Prelude.{◌≡◌, ◌++◌, ◌↔◌, codes, [], ◌∷◌, true};
+ghost use Rattle.std.specs.Prelude.{◌≡◌, ◌++◌, ◌↔◌, codes, [], ◌∷◌, true, flat_map, replicate};
 ghost use Rattle.news_terms.specs.Reply.{reply_text};
 ghost use Rattle.news_terms.specs.Reply as replies;
 ghost use Rattle.news_terms.specs.Token.{Token, IsToken, same_token, token_text};
@@ -115,6 +115,11 @@ pub fn feed_reply_examples()
         ∷ (12, record { class = 1; buffer = 0; cycle = 0; first = 2; length = 164 }) ∷ []))
         ≡ codes "290 Queue follows\r\n10\r\n11 @01000000000000000001000000A4@\r\n"
         ++ codes "12 @01000000000000000002000000A4@\r\n.\r\n" }
+    ensures queue_of_many { reply_text (replies.QueueFollows 0 (replicate 9
+        (5, record { class = 1; buffer = 0; cycle = 0; first = 1; length = 164 })))
+        ≡ codes "290 Queue follows\r\n0\r\n"
+        ++ flat_map (λ line. line) (replicate 9 (codes "5 @01000000000000000001000000A4@\r\n"))
+        ++ codes ".\r\n" }
     ensures empty_queue { reply_text (replies.QueueFollows 0 [])
         ≡ codes "290 Queue follows\r\n0\r\n.\r\n" }
     ensures no_feed { reply_text replies.NoFeed ≡ codes "490 No feed\r\n" }

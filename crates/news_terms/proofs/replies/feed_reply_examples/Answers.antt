@@ -11,6 +11,10 @@ pub returns-clause-queue_of_two : goal.returns-clause-queue_of_two
 unfolding digits
 returns-clause-queue_of_two c = refl
 
+pub returns-clause-queue_of_many : goal.returns-clause-queue_of_many
+unfolding digits
+returns-clause-queue_of_many c = refl
+
 pub returns-clause-empty_queue : goal.returns-clause-empty_queue
 unfolding digits
 returns-clause-empty_queue c = refl
