@@ -147,6 +147,7 @@ pub fn field_examples()
 
 /// Line ends are pairs, and a folded line continues its field.
 pub fn line_examples()
+    ensures nul_at_first { HasNul (0 ∷ codes "a") }
     ensures no_nul { ¬ HasNul (1 ∷ 8 ∷ 0x7F ∷ 0x80 ∷ 0xFF ∷ []) }
     ensures bare_line_feed { is_paired (codes "a\nb") ≡ false }
     ensures bare_carriage_return { is_paired (codes "a\rb\r\n") ≡ false }
@@ -188,6 +189,8 @@ pub fn content_examples()
     ensures every_mark { is_newsgroup_name (codes "alt.a_b-c") ≡ true }
     ensures capitals_and_digits { is_newsgroup_name (codes "Alt.OS2.9") ≡ true }
     ensures other_mark { is_newsgroup_name (codes "alt.a/b") ≡ false }
+    ensures bad_at_last { is_newsgroup_name (codes "a.b.c.d.e.f.g/") ≡ false }
+    ensures bad_at_first { is_newsgroup_name (codes "/a") ≡ false }
     ensures other_marks { map (λ c. is_newsgroup_name (c ∷ [])) (codes "*,=@^` ")
         ≡ replicate 7 false }
     ensures mark_first { is_newsgroup_name (codes "+a.-b._c") ≡ true }
@@ -210,6 +213,8 @@ pub fn field_fault_examples()
         ≡ codes "<a@x>" }
     ensures no_bracket { HasBadId
         (record { name = codes "Message-ID"; content = codes " a@x>" } ∷ []) }
+    ensures first_group_is_bad { HasBadGroups
+        (record { name = codes "Newsgroups"; content = codes " alt.,alt.a" } ∷ []) }
     ensures one_bad_group { HasBadGroups
         (record { name = codes "Newsgroups"; content = codes " alt.a,alt." } ∷ []) }
 {}

@@ -44,6 +44,14 @@ pub fn class_examples()
         map (takes_groups exact)
         ((codes "comp.x" ∷ codes "alt.a" ∷ []) ∷ (codes "comp.x" ∷ codes "comp.y" ∷ []) ∷ [])
         ≡ false ∷ true ∷ [] }
+    ensures first_of_two { takes_groups (record {
+      smallest = 0;
+      largest = None;
+      newsgroups = worked_expression;
+      exactmatch = true;
+      class = 1;
+      group = 0;
+    }) (codes "alt.a" ∷ codes "comp.x" ∷ []) ≡ false }
     ensures last_of_many { takes_groups (record {
       smallest = 0;
       largest = None;

@@ -47,6 +47,7 @@ pub fn preparation_examples()
     ensures no_opening { prepared_date (codes " 1 Jan)") ≡ Some (codes "1 Jan)") }
     ensures nothing { prepared_date (codes " ") ≡ Some [] }
     ensures past_ascii { prepared_date (codes " 1 J" ++ 0xE4 ∷ codes "n") ≡ None }
+    ensures past_ascii_at_last { prepared_date (replicate 40 97 ++ 0xE4 ∷ []) ≡ None }
     ensures past_ascii_in_comment { prepared_date (codes " 1 Jan (" ++ 0xE4 ∷ codes ")")
         ≡ Some (codes "1 Jan") }
     ensures falls_back { judged_date (worked_article 97 1).fields

@@ -96,6 +96,7 @@ pub fn set_examples()
     ensures range_in_middle { map (matches (OneOf (codes "ac-d") ∷ []))
         (codes "a" ∷ codes "b" ∷ codes "c" ∷ codes "d" ∷ codes "-" ∷ [])
         ≡ true ∷ false ∷ true ∷ true ∷ false ∷ [] }
+    ensures last_of_many { matches (OneOf (codes "abcdefgh") ∷ []) (codes "h") ≡ true }
     ensures capital { matches (OneOf (codes "a-c") ∷ []) (codes "B") ≡ false }
     ensures reverse_of_two { map (matches (NoneOf (codes "bc") ∷ []))
         (codes "a" ∷ codes "b" ∷ codes "c" ∷ codes "d" ∷ codes "-" ∷ [])
@@ -140,6 +141,8 @@ pub fn permitting_examples()
     ensures match_at_last { permits worked_expression
         (codes "alt.a" ∷ codes "alt.b" ∷ codes "alt.c" ∷ codes "alt.d" ∷ codes "comp.x" ∷ [])
         ≡ true }
+    ensures poison_at_first { permits worked_expression
+        (codes "alt.binaries.b" ∷ codes "comp.x" ∷ []) ≡ false }
     ensures poison_at_last { permits worked_expression
         (replicate 9 (codes "comp.x") ++ codes "alt.binaries.b" ∷ []) ≡ false }
     ensures no_group { permits worked_expression [] ≡ false }
