@@ -179,6 +179,7 @@ pub fn content_examples()
     ensures trims { trimmed (codes " \t a b\t ") ≡ codes "a b" }
     ensures cuts { newsgroups_in (codes " comp.x ,\r\n\talt.a")
         ≡ codes "comp.x" ∷ codes "alt.a" ∷ [] }
+    ensures keeps_case { newsgroups_in (codes "Alt.A") ≡ codes "Alt.A" ∷ [] }
     ensures cuts_many { newsgroups_in (codes "a,b,c,d,e,f")
         ≡ codes "a" ∷ codes "b" ∷ codes "c" ∷ codes "d" ∷ codes "e" ∷ codes "f" ∷ [] }
     ensures cuts_empty { newsgroups_in (codes " alt.a, ") ≡ codes "alt.a" ∷ [] ∷ [] }
@@ -211,6 +212,8 @@ pub fn field_fault_examples()
     ensures white_around_id { message_id
         (record { name = codes "Message-ID"; content = codes " \t<a@x>\t " } ∷ [])
         ≡ codes "<a@x>" }
+    ensures case_of_id { message_id (record { name = codes "Message-ID"; content = codes " <A@x>" }
+        ∷ []) ≡ codes "<A@x>" }
     ensures no_bracket { HasBadId
         (record { name = codes "Message-ID"; content = codes " a@x>" } ∷ []) }
     ensures first_group_is_bad { HasBadGroups

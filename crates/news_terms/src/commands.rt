@@ -50,6 +50,7 @@ pub fn mode_examples()
 /// Offers, and an article that comes with its offer.
 pub fn offer_examples()
     ensures check { command_of (codes "CHECK <a@x>") ≡ Ok (commands.Check (codes "<a@x>")) }
+    ensures check_capital { command_of (codes "CHECK <A@x>") ≡ Ok (commands.Check (codes "<A@x>")) }
     ensures check_alone { command_of (codes "CHECK") ≡ Err commands.Syntax }
     ensures check_no_id { command_of (codes "CHECK a@x") ≡ Err commands.Syntax }
     ensures check_two { command_of (codes "CHECK <a@x> <b@x>") ≡ Err commands.Syntax }
@@ -59,6 +60,8 @@ pub fn offer_examples()
     ensures ihave_two { command_of (codes "IHAVE <a@x> <b@x>") ≡ Err commands.Syntax }
     ensures takethis { command_of (codes "TAKETHIS <a@x>")
         ≡ Ok (commands.TakeThis (Some (codes "<a@x>"))) }
+    ensures takethis_capital { command_of (codes "TAKETHIS <A@x>")
+        ≡ Ok (commands.TakeThis (Some (codes "<A@x>"))) }
     ensures takethis_alone { command_of (codes "TAKETHIS") ≡ Ok (commands.TakeThis None) }
     ensures takethis_no_id { command_of (codes "TAKETHIS nonsense")
         ≡ Ok (commands.TakeThis None) }
@@ -78,6 +81,8 @@ pub fn fetch_examples()
         ≡ Ok (commands.Fetch commands.Presence (codes "<a@x>")) }
     ensures over { command_of (codes "OVER <a@x>")
         ≡ Ok (commands.Fetch commands.OverviewLine (codes "<a@x>")) }
+    ensures capital { command_of (codes "STAT <A@x>")
+        ≡ Ok (commands.Fetch commands.Presence (codes "<A@x>")) }
     ensures other_word { command_of (codes "STAT a@x") ≡ Err commands.Syntax }
     ensures two_words { command_of (codes "STAT <a@x> 5") ≡ Err commands.Syntax }
     ensures over_two_words { command_of (codes "OVER <a@x> 5") ≡ Err commands.Syntax }
@@ -135,6 +140,7 @@ pub fn feed_examples()
     ensures plus { command_of (codes "XTAKE +5") ≡ Err commands.Syntax }
     ensures xtake_alone { command_of (codes "XTAKE") ≡ Err commands.Syntax }
     ensures xtake_two { command_of (codes "XTAKE 1 2") ≡ Err commands.Syntax }
+    ensures xfetch_capital { command_of (codes "XFETCH X") ≡ Ok (commands.FetchToken (codes "X")) }
     ensures xfetch { command_of (codes "XFETCH x") ≡ Ok (commands.FetchToken (codes "x")) }
     ensures xfetch_long_word { command_of (codes "XFETCH " ++ replicate 99 97)
         ≡ Ok (commands.FetchToken (replicate 99 97)) }

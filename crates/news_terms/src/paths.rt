@@ -114,6 +114,8 @@ pub fn update_examples()
     ensures mismatch { updated_content (codes "relay.example") (codes "one.example")
         (codes " three.example!x")
         ≡ codes "relay.example!.MISMATCH.one.example!three.example!x" }
+    ensures mismatch_as_configured { updated_content (codes "Relay.Example") (codes "One.Example")
+        (codes " x") ≡ codes "Relay.Example!.MISMATCH.One.Example!x" }
     ensures longer { updated_content (codes "relay.example") (codes "one.example")
         (codes " one.example.org!x")
         ≡ codes "relay.example!.MISMATCH.one.example!one.example.org!x" }
