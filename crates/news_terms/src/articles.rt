@@ -179,6 +179,7 @@ pub fn content_examples()
     ensures trims { trimmed (codes " \t a b\t ") ≡ codes "a b" }
     ensures cuts { newsgroups_in (codes " comp.x ,\r\n\talt.a")
         ≡ codes "comp.x" ∷ codes "alt.a" ∷ [] }
+    ensures keeps_form_feed { trimmed (11 ∷ 97 ∷ 12 ∷ []) ≡ 11 ∷ 97 ∷ 12 ∷ [] }
     ensures keeps_case { newsgroups_in (codes "Alt.A") ≡ codes "Alt.A" ∷ [] }
     ensures cuts_many { newsgroups_in (codes "a,b,c,d,e,f")
         ≡ codes "a" ∷ codes "b" ∷ codes "c" ∷ codes "d" ∷ codes "e" ∷ codes "f" ∷ [] }

@@ -16,6 +16,7 @@ pub fn word_examples()
     ensures others { map command_of
         (codes "XOVER" ∷ codes "POST" ∷ codes "GROUP x" ∷ codes "LIST" ∷ [])
         ≡ replicate 4 (Err commands.Unknown) }
+    ensures form_feed { command_of (codes "QUIT" ++ 12 ∷ []) ≡ Err commands.Unknown }
     ensures no_more { length keywords ≡ 15 }
     ensures no_white { command_of (codes "QUIT\r") ≡ Err commands.Unknown }
 {}

@@ -90,6 +90,8 @@ pub fn zone_examples()
         ≡ Some (codes "1 Jan 2021 00:00:00 Z") }
     ensures both_cases { map prepared_date (codes " 1 Gmt" ∷ codes " 1 uT" ∷ [])
         ≡ Some (codes "1 +0000") ∷ Some (codes "1 +0000") ∷ [] }
+    ensures behind_form_feed { prepared_date (49 ∷ 12 ∷ codes "GMT")
+        ≡ Some (49 ∷ 12 ∷ codes "GMT") }
     ensures negative_zero { prepared_date (codes " 1 Jan 2021 00:00:00 -0000")
         ≡ Some (codes "1 Jan 2021 00:00:00 -0000") }
     ensures zone_alone { prepared_date (codes " GMT") ≡ Some (codes "+0000") }

@@ -96,6 +96,7 @@ pub fn agent_examples()
     ensures white_is_no_fault { ¬ HasBadPath (codes " a!\t~\r\n x") }
     ensures past_printable { HasBadPath (codes " a!" ++ 0x7F ∷ codes "!x") }
     ensures path_past_ascii { HasBadPath (codes " a!" ++ 0xE4 ∷ codes "!x") }
+    ensures form_feed { HasBadPath (12 ∷ codes "a!x") }
     ensures bad_at_first { HasBadPath (0x7F ∷ codes "a!x") }
     ensures octet_zero { HasBadPath (codes " a!" ++ 0 ∷ codes "!x") }
 {}
