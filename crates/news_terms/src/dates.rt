@@ -92,6 +92,8 @@ pub fn zone_examples()
         ≡ Some (codes "1 +0000") ∷ Some (codes "1 +0000") ∷ [] }
     ensures behind_form_feed { prepared_date (49 ∷ 12 ∷ codes "GMT")
         ≡ Some (49 ∷ 12 ∷ codes "GMT") }
+    ensures outer_blanks { prepared_date (codes "\t 1 Jan 2021 GMT \t")
+        ≡ Some (codes "1 Jan 2021 +0000") }
     ensures negative_zero { prepared_date (codes " 1 Jan 2021 00:00:00 -0000")
         ≡ Some (codes "1 Jan 2021 00:00:00 -0000") }
     ensures zone_alone { prepared_date (codes " GMT") ≡ Some (codes "+0000") }
