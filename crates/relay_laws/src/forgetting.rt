@@ -115,8 +115,7 @@ pub fn restart_ends()
 
 /// A Restart is refused as not idle only where an id is being stored, and as not restarted only
 /// where a device failed and none is; it is done only where no id is being stored. A refused one
-/// changes no state, nor anything but how often devices have failed, and where it isn't idle it
-/// has called none.
+/// changes nothing but how often devices have failed, and where it isn't idle it has called none.
 pub fn restart_is_refused_rightly()
     ensures busy { (w : Terms) (x y : World) → Step w x Restart (Refuses NotIdle) y
         → (id : List ℕ) × (is_storing (x.state.claim id) ≡ true) }
@@ -126,10 +125,8 @@ pub fn restart_is_refused_rightly()
     ensures idle { (w : Terms) (x y : World) (id : List ℕ) → Step w x Restart Quiet y
         → is_storing (x.state.claim id) ≡ false }
     ensures unchanged { (w : Terms) (x y : World) (fault : Fault)
-        → Step w x Restart (Refuses fault) y → y.state ≡ x.state }
+        → Step w x Restart (Refuses fault) y → y ≡ with_failures x y.work.failures }
     ensures tried { (w : Terms) (x y : World) (id : List ℕ)
         → Step w x Restart (Refuses NotRestarted) y → is_storing (x.state.claim id) ≡ false }
     ensures uncalled { (w : Terms) (x y : World) → Step w x Restart (Refuses NotIdle) y → y ≡ x }
-    ensures no_more { (w : Terms) (x y : World) (fault : Fault)
-        → Step w x Restart (Refuses fault) y → y ≡ with_failures x y.work.failures }
 {}
