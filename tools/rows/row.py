@@ -26,6 +26,24 @@ K1 = {
 }
 
 
+# Two and three of all: no two buffers, rings or peers are alike, and no order is that of another.
+K3 = {
+    "cycbuff.conf": ["cycbuff:A:a.buf:4", "cycbuff:B:b.buf:5", "cycbuff:C:c.buf:3",
+                     "metacycbuff:G:C,A", "metacycbuff:H:B"],
+    "storage.conf": ["method cnfs {", "class: 1", "newsgroups: misc.*", "options: G", "}",
+                     "method cnfs {", "class: 2", "newsgroups: other.*", "options: H", "}"],
+    "relay.conf": [
+        "own relay.example",
+        "cutoff 4000000000",
+        "peer p1 one.example {p1}",
+        "peer p2 two.example {p2}",
+        "peer p3 three.example {p3}",
+        "feed p3 3 other.*",
+        "feed p2 2 *",
+    ],
+}
+
+
 # What is printed: on standard output, on standard error, lines there of what happens, such lines
 # with how many of them may stand there, a status that is one of these.
 Printed = namedtuple("Printed", "out err events most statuses")
@@ -472,6 +490,8 @@ class Row:
             self.configure(name, rest)
         elif name in FILES:
             self.on_file(name, rest)
+        elif line == "K3":
+            self.conf = {name: list(lines) for name, lines in K3.items()}
         elif line == "writes":
             self.write_conf()
         elif line == "nobody":
