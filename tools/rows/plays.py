@@ -115,4 +115,53 @@ def large_files(row):
     row.checks("cycbuff.conf", f"{comments}cycbuf", "10000: 2 UnknownKey")
 
 
-PLAYS = {"sixty-two": sixty_two, "each-cut": each_cut, "large-files": large_files}
+# Of K3: the buffers with the files and the place in each where head block 0 says that it is closed.
+HEADS = {"A": ("a.buf", 4100), "B": ("b.buf", 5124), "C": ("c.buf", 3076)}
+
+
+def started(row):
+    """What a start says at last that ends with a fault; nothing of one that serves, which is killed."""
+    row.start("(tried)", "serve {dir}")
+    row.try_port("(tried)", "p1", "(tried)")
+    try:
+        row.clients["(tried)"].expect(GREETING)
+    except (Wrong, OSError):
+        program = row.programs["(tried)"]
+        if not program.has_ended(row.given.patience):
+            raise Wrong("it neither serves nor ends") from None
+        return program.told(program.err)[-1]
+    row.programs["(tried)"].process.kill()
+    row.programs["(tried)"].has_ended(row.given.patience)
+    return ""
+
+
+def each_start(row):
+    """Each call that a start of K3 makes of its buffers fails in turn. Nothing else is written than
+    the heads that were opened before: the buffers' own devices are told in their order, first where
+    none is open yet, then where those before it are."""
+    files = {it: it.read_bytes() for it in row.dir.iterdir() if it.suffix in (".buf", ".hist")}
+    came, number = [], 0
+    while True:
+        number += 1
+        row.shared.set(fails=number)
+        told = started(row)
+        if row.shared.get("fails"):
+            break
+        opened = "".join(name for name, (file, at) in HEADS.items()
+                         if not (row.dir / file).read_bytes()[at])
+        came.append((told, opened) if told else ("served", "ABC"))
+        for path, octets in files.items():
+            now = path.read_bytes()
+            if told and path.name not in {HEADS[it][0] for it in opened} and now != octets:
+                raise Wrong(f"call {number}: {told}, and {path.name} was changed")
+            path.write_bytes(octets)
+    row.shared.set(fails=0)
+    reads = [it for it in came[:-3] if it[0].endswith(" 1 Device")]
+    devices = [f"{it}: 1 Device" for it in "ABC"]
+    if (came[-3:] != [(it, "ABC"[:place]) for place, it in enumerate(devices)]
+            or reads != sorted(reads) or set(reads) != {(it, "") for it in devices}):
+        raise Wrong(f"the calls that failed came to {came}")
+
+
+PLAYS = {"sixty-two": sixty_two, "each-cut": each_cut, "large-files": large_files,
+         "each-start": each_start}
