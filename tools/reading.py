@@ -225,8 +225,15 @@ class Texts:
         self.crates = set(crates)
         # By file and name, by crate and name, and by type: what belongs to it besides.
         self.imports, self.named, self.belong, self.calls = {}, {}, {}, {}
+        # By crate and file what has no name of letters, as an operator; by file, its imports.
+        self.unnamed, self.signs = {}, {}
         self.files = {(it.crate, stem(it.file)) for it in self.pieces}
         for it in self.pieces:
+            if not it.names and not it.file.endswith(OWN):
+                self.unnamed.setdefault((it.crate, stem(it.file)), []).append(it)
+            if it.is_import and not WORD.fullmatch(it.names[0]) and it.path[:1] and (
+                    it.path[0] in self.crates):
+                self.signs.setdefault(it.file, []).append(it)
             for name in it.names:
                 if it.is_import:
                     self.imports.setdefault((it.file, name), []).append(it)
@@ -252,7 +259,10 @@ class Texts:
 
     def at(self, file, words):
         """What these words name where they stand in this file, but functions."""
-        crate, found = file.split("/")[0], []
+        crate = file.split("/")[0]
+        found = list(self.unnamed.get((crate, stem(file)), ()))
+        for it in self.signs.get(file, ()):
+            found += [it, *self.unnamed.get((it.path[0], it.path[-2]), ())]
         for word in words:
             found += [it for it in self.named.get((crate, word), ()) if it.file == file]
             for it in self.imports.get((file, word), ()):
@@ -303,10 +313,11 @@ class Texts:
         file, crate, function = whole[0].file, whole[0].crate, whole[0].function
         texts = [it.whole for it in whole]
         words = words_of("\n".join(texts)) | edits
+        words |= {it.path[-1] for word in words for it in self.imports.get((file, word), ()) if it.path}
         own = self.own.get((crate, function), [])
         waiting = [*whole, *own, *self.at(file, words)]
         waiting += [it for one in whole for it in self.at(file, [one.owner, one.trait])]
-        waiting += [it for it in self.pieces if not it.names and it.file == f"{crate}/src/lib.rt"]
+        waiting += self.unnamed.get((crate, "lib"), [])
         calls, reached, types = self.called(words), set(), set()
         while waiting:
             piece = waiting.pop()
