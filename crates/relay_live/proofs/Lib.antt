@@ -6,6 +6,7 @@ mod Entries
 mod Fills
 mod Kept
 mod Lists
+mod Orders
 mod OpenedBuffers
 mod Parts
 mod Rest

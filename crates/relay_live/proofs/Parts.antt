@@ -4,18 +4,19 @@ use Rattle.std.proofs.lemmas.List.{length-map}
 use Rattle.cyc_block.specs.declared.store.BlockStore as blocks
 use Rattle.live_store.specs.Steps.{buffer_of}
 use Rattle.live_store.specs.declared.record.StorePremises as store_premises
-use Rattle.relay_live.specs.Locking.{HasRoom}
+use Rattle.relay_live.specs.Locking.{HasLockRoom}
 use Rattle.relay_live.specs.Making.{HasParts, buffers_in, groups_in}
-use Rattle.relay_live.specs.Stopping.{HasAsMany, IsShutPartly}
+use Rattle.relay_live.specs.Stopping.{CameOut, HasAsMany, IsShutPartly}
 use Rattle.relay_live.specs.declared.alone.Alone.{Alone}
-use Rattle.relay_live.specs.declared.locking.Room.{Room}
+use Rattle.relay_live.specs.declared.locking.LockRoom.{LockRoom}
 use Rattle.relay_live.specs.declared.shared.Shared.{Shared}
 
--- there is room for the locks of as many
-pub room_for : {A B C : Type 0} (rooms : Room A B C) (n n' m m' : ℕ) → HasRoom n m rooms
-    → n' ≡ n → m' ≡ m → HasRoom n' m' rooms
-room_for rooms n n' m m' room buffers groups =
-    subst (λ (x : ℕ × ℕ). HasRoom x.0 x.1 rooms) (λ i. (sym buffers i, sym groups i)) room
+module _ {S J : Type 0} {s : blocks.Ghosts S} {j : store_premises.Ghosts J} where
+  -- there is room for the locks of as many
+  pub room_for : (rooms : LockRoom S J s j) (n n' m m' : ℕ) → HasLockRoom n m rooms → n' ≡ n
+      → m' ≡ m → HasLockRoom n' m' rooms
+  room_for rooms n n' m m' room buffers groups =
+      subst (λ (x : ℕ × ℕ). HasLockRoom x.0 x.1 rooms) (λ i. (sym buffers i, sym groups i)) room
 
 module _ {S J L : Type 0} {s : blocks.Ghosts S} {j : store_premises.Ghosts J}
     (old : Shared S J L s j) (alone back : Alone S J L s j) (slots : ℕ)
@@ -35,22 +36,34 @@ module _ {S J L : Type 0} {s : blocks.Ghosts S} {j : store_premises.Ghosts J}
         }
 
     -- and there is room for them in what had room for the locks
-    pub room_again : {A B C : Type 0} (rooms kept : Room A B C) → kept ≡ rooms
-        → HasRoom (buffers_in old) (groups_in old) rooms
-        → HasRoom (length back.buffers.items) (length back.placed_groups.items) kept
+    pub room_again : (rooms kept : LockRoom S J s j) → kept ≡ rooms
+        → HasLockRoom (buffers_in old) (groups_in old) rooms
+        → HasLockRoom (length back.buffers.items) (length back.placed_groups.items) kept
     room_again rooms kept is room =
         subst (λ (parts : Alone S J L s j).
-        HasRoom (length parts.buffers.items) (length parts.placed_groups.items) kept) (sym same)
-        (subst (HasRoom (length alone.buffers.items) (length alone.placed_groups.items)) (sym is)
-        (subst (λ (n : ℕ × ℕ). HasRoom n.0 n.1 rooms)
+        HasLockRoom (length parts.buffers.items) (length parts.placed_groups.items) kept) (sym same)
+        (subst (HasLockRoom (length alone.buffers.items) (length alone.placed_groups.items))
+        (sym is)
+        (subst (λ (n : ℕ × ℕ). HasLockRoom n.0 n.1 rooms)
         (λ i. (was.buffers i, was.groups i)) room))
 
--- the device that failed is one of its buffers', and there is a store of each
-pub failed_within : {S J L : Type 0} {s : blocks.Ghosts S} {j : store_premises.Ghosts J}
-    (old : Shared S J L s j) (alone : Alone S J L s j) (slots : ℕ) → HasParts old alone slots
-    → (number : ℕ) (stores : List S) → IsShutPartly alone number stores
-    → (number < length old.buffers.items) × (length stores ≡ length old.buffers.items)
-failed_within old alone slots was number stores partly = (
-  subst (λ (x : ℕ × ℕ). x.0 < x.1) (λ i. (sym partly.told i, sym was.buffers i)) partly.within,
-  partly.left.count ∙ length-map alone.buffers.items buffer_of ∙ sym was.buffers,
-)
+module _ {S J L : Type 0} {s : blocks.Ghosts S} {j : store_premises.Ghosts J}
+    (old : Shared S J L s j) (alone : Alone S J L s j) (slots : ℕ)
+    (was : HasParts old alone slots)
+  where
+    -- parts that are as many came out of the locks
+    pub came_out : CameOut old alone
+    came_out = record {
+      buffers = sym was.buffers;
+      groups = sym was.groups;
+      feeds = sym was.feeds;
+      stop_is = sym was.stop_is;
+    }
+
+    -- the device that failed is one of its buffers', and there is a store of each
+    pub failed_within : (number : ℕ) (stores : List S) → IsShutPartly alone number stores
+        → (number < buffers_in old) × (length stores ≡ buffers_in old)
+    failed_within number stores partly = (
+      subst (λ (x : ℕ × ℕ). x.0 < x.1) (λ i. (sym partly.told i, sym was.buffers i)) partly.within,
+      partly.left.count ∙ length-map alone.buffers.items buffer_of ∙ sym was.buffers,
+    )

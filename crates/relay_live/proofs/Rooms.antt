@@ -86,3 +86,7 @@ module _ (count all room gone more : ℕ) (fits : count ≤ room) (is : count �
         -- and then for the rest
         pub rest_fits : (len' room'' : ℕ) → len' ≡ len + 1 → room'' ≡ room' → more + len' ≤ room''
         rest_fits len' room'' next still = omega arith
+
+-- what is as much as what is below is so, too
+pub same_below : (n place all : ℕ) → n ≡ place → place < all → n < all
+same_below n place all same within = subst (λ (k : ℕ). k < all) (sym same) within

@@ -1,9 +1,12 @@
 pub mod Alone
 pub mod Beginning
+pub mod BufferLocks
 pub mod Counts
 pub mod PeerServers
 pub mod Figures
 pub mod Holding
+pub mod Keepers
+pub mod Locked
 pub mod Locking
 pub mod Making
 pub mod Numbers

@@ -2,6 +2,7 @@
 use Rattle.std.specs.Prelude.{◌≡◌, ℕ, Option, length}
 use Rattle.cyc_block.specs.declared.store.BlockStore as blocks
 use Rattle.live_store.specs.declared.record.StorePremises as store_premises
+use Rattle.relay_live.specs.BufferLocks.{count_in}
 use Rattle.relay_live.specs.declared.alone.Alone.{Alone}
 use Rattle.relay_live.specs.declared.keeper.Keeper.{Keeper}
 use Rattle.relay_live.specs.declared.register_ref.RegisterRef as register_ref
@@ -10,7 +11,7 @@ use Rattle.relay_live.specs.declared.shared.Shared.{Shared}
 -- how many buffers there are
 abbrev pub buffers_in : {S J L : Type 0} {s : blocks.Ghosts S} {j : store_premises.Ghosts J}
     → Shared S J L s j → ℕ
-buffers_in shared = length shared.buffers.items
+buffers_in shared = count_in shared.buffers
 
 -- how many groups there are
 abbrev pub groups_in : {S J L : Type 0} {s : blocks.Ghosts S} {j : store_premises.Ghosts J}
@@ -21,6 +22,11 @@ groups_in shared = length shared.placed_groups.items
 abbrev pub feeds_in : {S J L : Type 0} {s : blocks.Ghosts S} {j : store_premises.Ghosts J}
     → Shared S J L s j → ℕ
 feeds_in shared = shared.feeds
+
+-- the parts that were put behind its locks
+abbrev pub put_in : {S J L : Type 0} {s : blocks.Ghosts S} {j : store_premises.Ghosts J}
+    → Shared S J L s j → Alone S J L s j
+put_in shared = shared.put.value
 
 -- for how many seconds ids are remembered, where they aren't for good
 abbrev pub remember_in : {S J L : Type 0} {s : blocks.Ghosts S} {j : store_premises.Ghosts J}

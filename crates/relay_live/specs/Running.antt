@@ -7,7 +7,11 @@ use Rattle.live_jobs.specs.Started.{AllKept}
 use Rattle.live_jobs.specs.declared.gather.Seats.{Seats}
 use Rattle.live_jobs.specs.declared.gather.Totals.{Totals}
 use Rattle.live_jobs.specs.declared.outcome.Outcome.{Ghosts}
+use Rattle.live_jobs.specs.declared.serve.SeatsError.{SeatsError}
+use Rattle.live_jobs.specs.declared.serve.SeatsError.TheVariants as seats
 use Rattle.relay_live.specs.Sessions.{HasLists, IsNothing}
+use Rattle.relay_live.specs.declared.running.LiveError.{LiveError}
+use Rattle.relay_live.specs.declared.running.LiveError.TheVariants as errors
 
 -- what each end keeps is right as long as it has handed nothing over
 abbrev pub AreNew : {V : Type 0} → (V → (end count : ℕ) → List (List Handed) → Type 0) → List V
@@ -35,3 +39,8 @@ pub record AreServed {L O V M : Type 0} {o : Ghosts O}
   pub accepted : totals.accepted
       ≡ kept_by_all o.kept (map (λ w. w.finished.items) seats.writers.items)
   pub posted : posts_in totals.posted ≡ totals.accepted
+
+-- why nothing is counted where no seats come back
+abbrev pub error_of : SeatsError → LiveError
+error_of seats.Memory = errors.Memory
+error_of seats.NoThread = errors.NoThread

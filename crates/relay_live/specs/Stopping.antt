@@ -17,6 +17,7 @@ use Rattle.live_store.specs.declared.record.StorePremises as store_premises
 use Rattle.relay_core.specs.Stopping.{IsShut, Tells, next_stop}
 use Rattle.relay_core.specs.declared.stopped.Stopped.{Stopped}
 use Rattle.relay_live.specs.Alone.{KeepsBeside, KeepsState, codes_of, stop_in}
+use Rattle.relay_live.specs.Making.{buffers_in, last_stop, put_in}
 use Rattle.relay_live.specs.declared.alone.Alone.{Alone}
 use Rattle.relay_live.specs.declared.shared.Shared.{Shared}
 use Rattle.relay_live.specs.declared.shared.Unshut.{Unshut}
@@ -127,17 +128,46 @@ IsShutAll {S} {J} {s} {j} stop buffers failed stores =
 pub record HasAsMany {S J L : Type 0} {s : blocks.Ghosts S} {j : store_premises.Ghosts J}
     (old new : Shared S J L s j)
     : Type 0 where
-  pub buffers : length new.buffers.items ≡ length old.buffers.items
+  pub buffers : buffers_in new ≡ buffers_in old
   pub groups : length new.placed_groups.items ≡ length old.placed_groups.items
   pub feeds : new.feeds ≡ old.feeds
   pub ends : length new.slots.items ≡ length old.slots.items
   pub remembers : new.remember ≡ old.remember
 
--- a relay that isn't stopped for want of memory or as it isn't idle goes on, as large as it was;
--- where a device failed, it is one of its buffers', and there is a store of each
+-- the parts came out of the locks of a relay: they are as many, and have its last stop
+pub record CameOut {S J L : Type 0} {s : blocks.Ghosts S} {j : store_premises.Ghosts J}
+    (old : Shared S J L s j) (alone : Alone S J L s j)
+    : Type 0 where
+  pub buffers : length alone.buffers.items ≡ buffers_in old
+  pub groups : length alone.placed_groups.items ≡ length old.placed_groups.items
+  pub feeds : alone.feeds ≡ old.feeds
+  pub stop_is : stop_in alone ≡ last_stop old
+
+-- the stores and the text are what closing gives of parts that came out of the locks
+pub record ShutsParts {S J L : Type 0} {s : blocks.Ghosts S} {j : store_premises.Ghosts J}
+    (old : Shared S J L s j) (stopped : Stopped S)
+    : Type 0 where
+  pub alone : Alone S J L s j
+  pub came : CameOut old alone
+  pub shuts : Shuts alone stopped.stores.items stopped.history.items
+
+-- the device of the buffer of this number failed while parts were closed that came out of the
+-- locks; the stores are those of all buffers, in their order
+pub record FailsParts {S J L : Type 0} {s : blocks.Ghosts S} {j : store_premises.Ghosts J}
+    (old : Shared S J L s j) (number : ℕ) (stores : List S)
+    : Type 0 where
+  pub alone : Alone S J L s j
+  pub came : CameOut old alone
+  pub rest : IsAtRest alone
+  pub failed : IsShutPartly alone number stores
+
+-- A relay that isn't stopped for want of memory or as it isn't idle goes on, as large as it was; in
+-- what goes behind its locks again an id is being stored, or a write is open, where it isn't idle.
+-- Where a device failed, it is one of its buffers', and there is a store of each.
 abbrev pub IsUnshut : {S J L : Type 0} {s : blocks.Ghosts S} {j : store_premises.Ghosts J}
     → Shared S J L s j → Unshut S J L s j → Type 0
-IsUnshut old (answers.NotIdle back) = HasAsMany old back
+IsUnshut old (answers.NotIdle back) = HasAsMany old back × IsStoring (put_in back)
 IsUnshut old (answers.Memory back) = HasAsMany old back
 IsUnshut old (answers.Device number stores) =
-    (number < length old.buffers.items) × (length stores.items ≡ length old.buffers.items)
+    ((number < buffers_in old) × (length stores.items ≡ buffers_in old))
+    × FailsParts old number stores.items

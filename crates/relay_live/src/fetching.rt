@@ -27,6 +27,6 @@ impl<S: BlockStore + Drop, J: StorePremises, L: Ledger> Shared<S, J, L> {
         requires { register.now ≡ J.register }
         ensures { IfOk result (IsFetched J.trusted (token_view token.now)) }
     {
-        fetch(rt, alloc, &self.buffers, register, token)
+        fetch(rt, alloc, self.buffers.locks(), register, token)
     }
 }

@@ -41,11 +41,11 @@ fn go<S: BlockStore + Drop, J: StorePremises, L: Ledger, R: Wait>(
     ensures { IsRound now remember (buffers_in shared.now) result }
 {
     rounds.begin(now, remember);
-    for buffer in &shared.buffers {
-        rounds.read(&buffer.lock(rt));
+    for number in 0..shared.buffers.len() {
+        rounds.read(&shared.buffers.hold(rt, number));
     }
-    for claims in &shared.shards {
-        rounds.expire(&mut claims.shard.lock(rt));
+    for shard in &shared.shards {
+        rounds.expire(&mut shard.hold(rt));
     }
     rounds.round()
 }

@@ -4,6 +4,7 @@ ghost use Rattle.live_jobs.specs.StoreResults.{is_kept, FitsJob};
 ghost use Rattle.live_jobs.specs.Taken.{worth};
 ghost use Rattle.live_store.specs.Stores.{IsStored};
 ghost use Rattle.relay_live.specs.Holding.{has_buffer};
+ghost use Rattle.relay_live.specs.Keepers.{was_begun};
 ghost use Rattle.relay_live.specs.Settling.{SettlesJob};
 
 use crate::holding;
@@ -70,10 +71,14 @@ impl<'a, S: BlockStore + Drop, J: StorePremises, L: Ledger, C: Clock, Q: Registe
     fn write<R: Wait>(&self, rt: &R, article: &Accepted) -> Option<Stored<J>>
         ensures { IfSome result (IsStored article.now.class article.now.text) }
     {
-        let placed_group = self.shared.placed_groups.get(usize::from(article.group))?;
+        let placed_group = self
+            .shared
+            .placed_groups
+            .get(usize::from(article.group))?
+            .mutex();
         let length = article.length();
         let Place { pick, number } = place_of(rt, placed_group, length)?;
-        let buffer = self.shared.buffers.get(number)?;
+        let buffer = self.shared.buffers.locks().get(number)?;
         let text = article.text.as_vec();
         let stored = live_store::store(
             rt,
@@ -184,10 +189,16 @@ fn take_up<R: Wait>(rt: &R, placed_group: &Mutex<PlacedGroup>, pick: &Pick, leng
 }
 
 /// Whether the text was begun in its buffer.
-fn is_begun<J: StorePremises>(stored: &Stored<J>) -> bool {
+fn is_begun<J: StorePremises>(stored: &Stored<J>) -> bool
+    ensures { result ≡ was_begun stored.now }
+{
     match stored {
         Stored::Kept(_) => true,
-        Stored::Failed(fault) => fault.kind() == FaultKind::Write,
+        Stored::Failed(fault) => match fault.kind() {
+            FaultKind::Read => false,
+            FaultKind::Write => true,
+            FaultKind::Worn => false,
+        },
         Stored::Conflict(_) => false,
     }
 }

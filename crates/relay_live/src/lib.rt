@@ -8,6 +8,7 @@
 #![tactic(auto)]
 
 mod alone;
+mod buffer_locks;
 mod claims;
 mod desks;
 mod drawing;
@@ -16,6 +17,7 @@ mod filling;
 mod forgetting;
 mod holding;
 mod keeper;
+mod locked;
 mod locking;
 mod looking;
 mod making;

@@ -1,9 +1,13 @@
 //! The parts of a relay go behind their locks, and come out again.
-ghost use Rattle.std.specs.Prelude.{◌≡◌, ◌≤◌, [], length, IfOk, vec_capacity};
-ghost use Rattle.relay_live.specs.Locking.{HasLocks, HasRoom};
+ghost use Rattle.std.specs.Prelude.{◌≡◌, ◌≤◌, [], length, map, IfOk, vec_capacity};
+ghost use Rattle.relay_live.specs.Locked.{AreInOrder, freed_number, freed_value};
+ghost use Rattle.relay_live.specs.Locked.{number_of, put_behind};
+ghost use Rattle.relay_live.specs.Locking.{HasFreeRoom, HasLockRoom, HasLocks, HasRoom};
 
+use crate::buffer_locks::BufferLocks;
 use crate::claims::Claims;
 use crate::forgetting::Rounds;
+use crate::locked::{Freed, LockOf, Locked};
 use crate::slot::Slot;
 use block_shelf::PlacedGroup;
 use cyc_block::BlockStore;
@@ -20,11 +24,26 @@ pub(crate) struct Room<A: Drop, B: Drop, C: Drop> {
     pub(crate) placed_groups: Vec<C>,
 }
 
-/// Room for them behind their locks.
-pub(crate) type LockRoom<S, J> = Room<Claims, Mutex<NumberedBuffer<S, J>>, Mutex<PlacedGroup>>;
+/// A shard behind its lock, with those who wait for it.
+pub(crate) type LockedShard = Locked<Shard, Claims>;
 
-/// Room for them without.
-pub(crate) type PartRoom<S, J> = Room<Shard, NumberedBuffer<S, J>, PlacedGroup>;
+/// A group behind its lock.
+pub(crate) type LockedGroup = Locked<PlacedGroup, Mutex<PlacedGroup>>;
+
+/// Room for them behind their locks.
+#[derive(Drop)]
+pub(crate) struct LockRoom<S: BlockStore + Drop, J: StorePremises> {
+    pub(crate) shards: Vec<LockedShard>,
+    pub(crate) buffers: BufferLocks<S, J>,
+    pub(crate) placed_groups: Vec<LockedGroup>,
+}
+
+/// Room for them as they come out of their locks, and for them alone.
+#[derive(Drop)]
+pub(crate) struct FreeRoom<S: BlockStore + Drop, J: StorePremises> {
+    pub(crate) freed: Room<Freed<Shard>, Freed<NumberedBuffer<S, J>>, Freed<PlacedGroup>>,
+    pub(crate) parts: Room<Shard, NumberedBuffer<S, J>, PlacedGroup>,
+}
 
 /// Room for the locks of a relay's parts, with what stands beside these: a slot for each end, and
 /// what rounds go by.
@@ -50,6 +69,41 @@ impl<A: Drop, B: Drop, C: Drop> Room<A, B, C> {
             buffers,
             placed_groups,
         })
+    }
+}
+
+impl<S: BlockStore + Drop, J: StorePremises> LockRoom<S, J> {
+    /// Room for all shards, and for so many buffers and groups.
+    pub(crate) fn new(
+        alloc: Global,
+        buffers: usize,
+        placed_groups: usize,
+    ) -> Result<LockRoom<S, J>, AllocError>
+        ensures { IfOk result (HasLockRoom buffers placed_groups) }
+    {
+        let shards = Vec::with_capacity(alloc, SHARD_COUNT)?;
+        let buffers = BufferLocks::with_room(alloc, buffers)?;
+        let placed_groups = Vec::with_capacity(alloc, placed_groups)?;
+        Ok(LockRoom {
+            shards,
+            buffers,
+            placed_groups,
+        })
+    }
+}
+
+impl<S: BlockStore + Drop, J: StorePremises> FreeRoom<S, J> {
+    /// Room for all shards, and for so many buffers and groups.
+    pub(crate) fn new(
+        alloc: Global,
+        buffers: usize,
+        placed_groups: usize,
+    ) -> Result<FreeRoom<S, J>, AllocError>
+        ensures { IfOk result (HasFreeRoom buffers placed_groups) }
+    {
+        let freed = Room::new(alloc, buffers, placed_groups)?;
+        let parts = Room::new(alloc, buffers, placed_groups)?;
+        Ok(FreeRoom { freed, parts })
     }
 }
 
@@ -83,7 +137,7 @@ impl<S: BlockStore + Drop, J: StorePremises> Locks<S, J> {
     {
         let slots = new_slots(alloc, ends)?;
         let rounds = Rounds::new(alloc)?;
-        let rooms = Room::new(alloc, buffers, placed_groups)?;
+        let rooms = LockRoom::new(alloc, buffers, placed_groups)?;
         Ok(Locks {
             rooms,
             slots,
@@ -103,54 +157,52 @@ fn new_slots<J: StorePremises>(alloc: Global, ends: usize) -> Result<Vec<Slot<J>
     Ok(slots)
 }
 
-/// The shards behind their locks.
-pub(crate) fn lock_shards(shards: Vec<Shard>, room: Vec<Claims>) -> Vec<Claims>
-    requires none { room.items ≡ [] }
-    requires room { length shards.items ≤ vec_capacity room }
-    ensures { length result.items ≡ length shards.items }
-{
-    let mut locks = room;
-    for shard in shards {
-        locks.push_reserved(Claims::over(shard));
-    }
-    locks
-}
-
-/// Values behind their locks.
-pub(crate) fn lock_all<T: Drop>(values: Vec<T>, room: Vec<Mutex<T>>) -> Vec<Mutex<T>>
+/// Values behind their locks, each with the number of its place, put where there is room for them.
+pub(crate) fn lock_all<T: Drop, K: LockOf<T> + Drop>(
+    values: Vec<T>,
+    room: Vec<Locked<T, K>>,
+) -> Vec<Locked<T, K>>
     requires none { room.items ≡ [] }
     requires room { length values.items ≤ vec_capacity room }
-    ensures { length result.items ≡ length values.items }
+    ensures put { map put_behind result.items ≡ values.items }
+    ensures order { AreInOrder (map number_of result.items) }
+    ensures count { length result.items ≡ length values.items }
 {
     let mut locks = room;
     for value in values {
-        locks.push_reserved(Mutex::new(value));
+        locks.push_reserved(Locked::over(locks.len(), value));
     }
     locks
 }
 
-/// The shards out of their locks.
-pub(crate) fn free_shards(locks: Vec<Claims>, room: Vec<Shard>) -> Vec<Shard>
+/// Values out of their locks, each with the number of its lock, put where there is room for them.
+pub(crate) fn free_all<T: Drop, K: LockOf<T> + Drop>(
+    locks: Vec<Locked<T, K>>,
+    room: Vec<Freed<T>>,
+) -> Vec<Freed<T>>
     requires none { room.items ≡ [] }
     requires room { length locks.items ≤ vec_capacity room }
-    ensures { length result.items ≡ length locks.items }
-{
-    let mut shards = room;
-    for claims in locks {
-        shards.push_reserved(claims.into_shard());
-    }
-    shards
-}
-
-/// Values out of their locks.
-pub(crate) fn free_all<T: Drop>(locks: Vec<Mutex<T>>, room: Vec<T>) -> Vec<T>
-    requires none { room.items ≡ [] }
-    requires room { length locks.items ≤ vec_capacity room }
-    ensures { length result.items ≡ length locks.items }
+    ensures numbers { map freed_number result.items ≡ map number_of locks.items }
+    ensures count { length result.items ≡ length locks.items }
 {
     let mut values = room;
-    for lock in locks {
-        values.push_reserved(lock.into_inner());
+    for locked in locks {
+        values.push_reserved(locked.free());
+    }
+    values
+}
+
+/// Values that came out of their locks in order, put where there is room for them.
+pub(crate) fn values_of<T: Drop>(freed: Vec<Freed<T>>, room: Vec<T>) -> Vec<T>
+    requires order { AreInOrder (map freed_number freed.items) }
+    requires none { room.items ≡ [] }
+    requires room { length freed.items ≤ vec_capacity room }
+    ensures values { result.items ≡ map freed_value freed.items }
+    ensures count { length result.items ≡ length freed.items }
+{
+    let mut values = room;
+    for one in freed {
+        values.push_reserved(one.into_value());
     }
     values
 }

@@ -25,8 +25,10 @@ impl<S: BlockStore + Drop, J: StorePremises, L: Ledger> Shared<S, J, L> {
     pub fn buffer_figures<R: Wait>(&self, rt: &R, number: usize) -> Option<BufferFigures>
         ensures missing { (result ≡ None) ↔ (buffers_in self.now ≤ number) }
     {
-        let buffer = self.buffers.get(number)?;
-        Some(figures_of(&buffer.lock(rt)))
+        if number >= self.buffers.len() {
+            return None;
+        }
+        Some(figures_of(&self.buffers.hold(rt, number).guard))
     }
 
     /// The counts of the feed of this number, where there is one. That the desk has as many feeds
@@ -50,8 +52,8 @@ impl<S: BlockStore + Drop, J: StorePremises, L: Ledger> Shared<S, J, L> {
             stored: 0,
             refused: 0,
         };
-        for claims in &self.shards {
-            all = sum(all, claims.shard.lock(rt).counts());
+        for shard in &self.shards {
+            all = sum(all, shard.hold(rt).guard.counts());
         }
         all
     }

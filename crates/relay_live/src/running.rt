@@ -11,7 +11,7 @@ ghost use Rattle.relay_live.specs.Counts.{accepted_in, posted_in, mismatched_rec
 ghost use Rattle.relay_live.specs.Counts.{AreCounts, ids_stored_again_of};
 ghost use Rattle.relay_live.specs.PeerServers.{kept_of, peer_of, terms_at};
 ghost use Rattle.relay_live.specs.Making.{slots_of};
-ghost use Rattle.relay_live.specs.Running.{AreNew, AreServed};
+ghost use Rattle.relay_live.specs.Running.{AreNew, AreServed, error_of};
 ghost use Rattle.relay_live.specs.Sessions.{Accounted, HasLists};
 ghost use Rattle.relay_live.specs.declared.running.LiveError.TheVariants as errors;
 
@@ -142,7 +142,9 @@ impl<
 }
 
 /// Why nothing is counted, where no seats come back.
-fn live_error(why: SeatsError) -> LiveError {
+fn live_error(why: SeatsError) -> LiveError
+    ensures { result ≡ error_of why }
+{
     match why {
         SeatsError::Memory => LiveError::Memory,
         SeatsError::NoThread => LiveError::NoThread,

@@ -1,40 +1,45 @@
 //! All that the threads of a relay share.
-ghost use Rattle.std.specs.Prelude.{◌≡◌, ◌≤◌, length};
-ghost use Rattle.relay_live.specs.Locking.{HasRoom};
+ghost use Rattle.std.specs.Prelude.{◌≡◌, ◌≤◌, length, map};
+ghost use Rattle.relay_live.specs.BufferLocks.{count_in, numbers_in, puts_in};
+ghost use Rattle.relay_live.specs.Locked.{AreInOrder, number_of, put_behind};
+ghost use Rattle.relay_live.specs.Locking.{HasFreeRoom, HasLockRoom};
 ghost use Rattle.relay_model.specs.Terms.{shard_count};
 
 use crate::alone::Alone;
+use crate::buffer_locks::BufferLocks;
 use crate::claims::Claims;
 use crate::drawing::{Last, Number};
 use crate::forgetting::Rounds;
 use crate::locking::{
-    LockRoom, Locks, PartRoom, Room, free_all, free_shards, lock_all, lock_shards,
+    FreeRoom, LockRoom, LockedGroup, LockedShard, Locks, free_all, lock_all, values_of,
 };
 use crate::slot::Slot;
 use crate::stopping::Unstopped;
-use block_shelf::{BeginError, PlacedGroup, StopFault};
+use block_shelf::{BeginError, StopFault};
 use cyc_block::BlockStore;
 use live_jobs::CountedDesk;
-use live_store::{ArticleLog, NumberedBuffer, StorePremises};
+use live_store::{ArticleLog, StorePremises};
 use nntp_text::MsgId;
 use relay_conf::Config;
 use relay_core::{NotStarted, Stopped, refused};
 use std::alloc::Global;
 use std::hash::RandomState;
 use std::random::RandomSource;
+use std::snapshot::Snapshot;
 use std::sync::ledger::{Book, Ledger};
 use std::sync::{Mutex, Wait};
 
 /// What the threads of a relay share, each value behind its lock: sixteen shards, the feed desk,
 /// the buffers and the groups of the configuration, a slot for each end, the number of the last
-/// session.
+/// session. The lock at each place of a list has the number of its place, and was put there over
+/// the part of this number.
 pub struct Shared<S: BlockStore + Drop, J: StorePremises, L: Ledger> {
-    pub(crate) shards: Vec<Claims>,
+    pub(crate) shards: Vec<LockedShard>,
     pub(crate) desk: Mutex<CountedDesk<L>>,
     /// How many feeds the desk had when it was made.
     pub(crate) feeds: usize,
-    pub(crate) buffers: Vec<Mutex<NumberedBuffer<S, J>>>,
-    pub(crate) placed_groups: Vec<Mutex<PlacedGroup>>,
+    pub(crate) buffers: BufferLocks<S, J>,
+    pub(crate) placed_groups: Vec<LockedGroup>,
     pub(crate) slots: Vec<Slot<J>>,
     /// The number of the session that was drawn last.
     last: Mutex<Last<L>>,
@@ -44,8 +49,16 @@ pub struct Shared<S: BlockStore + Drop, J: StorePremises, L: Ledger> {
     pub(crate) remember: Option<u64>,
     /// What the rounds of forgetting go by, one after the other.
     pub(crate) rounds: Mutex<Rounds>,
+    /// The parts that were put behind the locks. It takes no memory.
+    put: Snapshot<Alone<S, J, L>>,
+    ghost shards_order: { AreInOrder (map number_of shards.items) },
+    ghost buffers_order: { AreInOrder (numbers_in buffers) },
+    ghost groups_order: { AreInOrder (map number_of placed_groups.items) },
+    ghost shards_put: { map put_behind shards.items ≡ put.value.shards.items },
+    ghost buffers_put: { puts_in buffers ≡ put.value.buffers.items },
+    ghost groups_put: { map put_behind placed_groups.items ≡ put.value.placed_groups.items },
     ghost sixteen: { length shards.items ≡ shard_count },
-    ghost few: { length buffers.items ≤ 256 },
+    ghost few: { count_in buffers ≤ 256 },
     ghost few_placed_groups: { length placed_groups.items ≤ 256 },
     ghost few_feeds: { feeds ≤ 1024 },
 }
@@ -64,16 +77,9 @@ impl<S: BlockStore + Drop, J: StorePremises, L: Ledger> Drop for Shared<S, J, L>
             stop: _,
             remember: _,
             rounds: _,
+            put: _,
         } = self;
     }
-}
-
-/// The parts of a relay, and room for their locks.
-struct Unlocked<S: BlockStore + Drop, J: StorePremises, L: Ledger> {
-    alone: Alone<S, J, L>,
-    locks: Locks<S, J>,
-    ghost room: { HasRoom (length alone.buffers.items) (length alone.placed_groups.items)
-        locks.rooms },
 }
 
 /// Why a relay isn't stopped, in the order of trial; want of memory comes last before the devices.
@@ -103,9 +109,10 @@ impl<S: BlockStore + Drop, J: StorePremises, L: Ledger> Shared<S, J, L> {
     ghost use Rattle.std.specs.Prelude.{◌≡◌, true, map, length, All, IfErr, IfOk};
     ghost use Rattle.block_shelf.specs.Filling.{IsBeginRefusal};
     ghost use Rattle.relay_live.specs.Making.{buffers_in, groups_in, feeds_in, ends_in};
-    ghost use Rattle.relay_live.specs.Making.{HasParts, last_stop, remember_in};
-    ghost use Rattle.relay_live.specs.Starting.{HasStopOf, IsNotStarted, WereStopped};
-    ghost use Rattle.relay_live.specs.Stopping.{AreShutWith, IsUnshut};
+    ghost use Rattle.relay_live.specs.Beginning.{BeginsOver};
+    ghost use Rattle.relay_live.specs.Making.{HasParts, last_stop, put_in, remember_in};
+    ghost use Rattle.relay_live.specs.Starting.{HasStopOf, IsNotStarted, StartsOver, WereStopped};
+    ghost use Rattle.relay_live.specs.Stopping.{AreShutWith, IsUnshut, ShutsParts};
     ghost use Rattle.relay_core.specs.Stopping.{next_stop};
 
     /// What so many ends share over these stores, the i-th for buffer i, before anything has come.
@@ -132,11 +139,15 @@ impl<S: BlockStore + Drop, J: StorePremises, L: Ledger> Shared<S, J, L> {
         ensures ends { IfOk result (λ shared. ends_in shared ≡ ends) }
         ensures remember { IfOk result (λ shared.
             remember_in shared ≡ config.now.relay.remember) }
+        // What was put behind the locks are parts of this configuration over these stores, before
+        // anything has come.
+        ensures begins { IfOk result (λ shared.
+            BeginsOver config.now stores.items (put_in shared)) }
         ensures refusal { IfErr result (IsBeginRefusal ⟦<S as BlockStore>⟧ stores.items) }
     {
         let locks = Locks::new(alloc, stores.len(), config.buffers.groups.len(), ends)?;
         match Alone::new(rt, alloc, config, stores, book) {
-            Ok(alone) => Ok(Shared::over(Unlocked { alone, locks })),
+            Ok(alone) => Ok(Shared::over(alone, locks)),
             Err(error) => {
                 drop(locks);
                 Err(error)
@@ -174,6 +185,10 @@ impl<S: BlockStore + Drop, J: StorePremises, L: Ledger> Shared<S, J, L> {
         ensures remember { IfOk result (λ shared.
             remember_in shared ≡ config.now.relay.remember) }
         ensures history { IfOk result (HasStopOf config.now stopped.history.items) }
+        // What was put behind the locks are the parts of a relay that was started from these stores
+        // and this text.
+        ensures started { IfOk result (λ shared. StartsOver config.now stopped.stores.items
+            stopped.history.items (put_in shared)) }
         ensures refused { IfErr result (IsNotStarted S.BlockStore config.now
             stopped.stores.items stopped.history.items) }
     {
@@ -189,7 +204,7 @@ impl<S: BlockStore + Drop, J: StorePremises, L: Ledger> Shared<S, J, L> {
             }
         };
         match Alone::start_with(rt, alloc, hasher, config, register, stopped, book) {
-            Ok(alone) => Ok(Shared::over(Unlocked { alone, locks })),
+            Ok(alone) => Ok(Shared::over(alone, locks)),
             Err(unstarted) => {
                 drop(locks);
                 Err(NotStarted::Refused(unstarted))
@@ -206,29 +221,27 @@ impl<S: BlockStore + Drop, J: StorePremises, L: Ledger> Shared<S, J, L> {
             length stopped.stores.items ≡ buffers_in self) }
         ensures known { IfOk result (λ stopped. J.trusted ≡ true → AreShutWith S.BlockStore
             J.register (next_stop (last_stop self)) stopped.stores.items) }
+        // They are what closing gives of the parts that came out of the locks.
+        ensures shuts { IfOk result (ShutsParts self) }
         ensures refused { IfErr result (IsUnshut self) }
     {
         let buffers = self.buffers.len();
         let groups = self.placed_groups.len();
-        let Ok(parts) = Room::new(alloc, buffers, groups) else {
+        let Ok(room) = FreeRoom::new(alloc, buffers, groups) else {
             return Err(Unshut::Memory(self));
         };
-        let Ok(rooms) = Room::new(alloc, buffers, groups) else {
-            drop(parts);
+        let Ok(rooms) = LockRoom::new(alloc, buffers, groups) else {
+            drop(room);
             return Err(Unshut::Memory(self));
         };
-        let (alone, locks) = self.into_alone(parts, rooms);
+        let (alone, locks) = self.into_alone(room, rooms);
         match alone.shut(alloc) {
             Ok(stopped) => {
                 drop(locks);
                 Ok(stopped)
             }
-            Err(Unstopped::NotIdle(alone)) => {
-                Err(Unshut::NotIdle(Shared::over(Unlocked { alone, locks })))
-            }
-            Err(Unstopped::Memory(alone)) => {
-                Err(Unshut::Memory(Shared::over(Unlocked { alone, locks })))
-            }
+            Err(Unstopped::NotIdle(alone)) => { Err(Unshut::NotIdle(Shared::over(alone, locks))) }
+            Err(Unstopped::Memory(alone)) => { Err(Unshut::Memory(Shared::over(alone, locks))) }
             Err(Unstopped::Device(number, stores)) => {
                 drop(locks);
                 Err(Unshut::Device(number, stores))
@@ -237,10 +250,13 @@ impl<S: BlockStore + Drop, J: StorePremises, L: Ledger> Shared<S, J, L> {
     }
 
     /// These parts, each behind its lock, put where there is room for them.
-    fn over(unlocked: Unlocked<S, J, L>) -> Shared<S, J, L>
-        ensures { HasParts result unlocked.alone (length unlocked.locks.slots.items) }
+    fn over(alone: Alone<S, J, L>, locks: Locks<S, J>) -> Shared<S, J, L>
+        requires { HasLockRoom (length alone.buffers.items) (length alone.placed_groups.items)
+            locks.rooms }
+        ensures parts { HasParts result alone (length locks.slots.items) }
+        ensures put { put_in result ≡ alone }
     {
-        let Unlocked { alone, locks } = unlocked;
+        let put = Snapshot::of(&alone);
         let Alone {
             shards,
             desk,
@@ -252,27 +268,28 @@ impl<S: BlockStore + Drop, J: StorePremises, L: Ledger> Shared<S, J, L> {
             remember,
         } = alone;
         Shared {
-            shards: lock_shards(shards, locks.rooms.shards),
+            shards: lock_all(shards, locks.rooms.shards),
             desk: Mutex::new(desk),
             feeds,
-            buffers: lock_all(buffers, locks.rooms.buffers),
+            buffers: BufferLocks::over(buffers, locks.rooms.buffers),
             placed_groups: lock_all(placed_groups, locks.rooms.placed_groups),
             slots: locks.slots,
             last: Mutex::new(last),
             stop,
             remember,
             rounds: locks.rounds,
+            put,
         }
     }
 
-    /// Its parts without their locks, put where there is room for them, and what stood beside
-    /// these, with the room for new locks.
+    /// Its parts without their locks, each in the place of its lock, put where there is room for
+    /// them, and what stood beside these, with the room for new locks.
     fn into_alone(
         self,
-        parts: PartRoom<S, J>,
+        room: FreeRoom<S, J>,
         rooms: LockRoom<S, J>,
     ) -> (Alone<S, J, L>, Locks<S, J>)
-        requires { HasRoom (buffers_in self) (groups_in self) parts }
+        requires { HasFreeRoom (buffers_in self) (groups_in self) room }
         ensures parts { HasParts self result.0 (length result.1.slots.items) }
         ensures rooms { result.1.rooms ≡ rooms }
     {
@@ -287,13 +304,18 @@ impl<S: BlockStore + Drop, J: StorePremises, L: Ledger> Shared<S, J, L> {
             stop,
             remember,
             rounds,
+            put: _,
         } = self;
+        let FreeRoom { freed, parts } = room;
         let alone = Alone {
-            shards: free_shards(shards, parts.shards),
+            shards: values_of(free_all(shards, freed.shards), parts.shards),
             desk: desk.into_inner(),
             feeds,
-            buffers: free_all(buffers, parts.buffers),
-            placed_groups: free_all(placed_groups, parts.placed_groups),
+            buffers: values_of(buffers.free(freed.buffers), parts.buffers),
+            placed_groups: values_of(
+                free_all(placed_groups, freed.placed_groups),
+                parts.placed_groups,
+            ),
             last: last.into_inner(),
             stop,
             remember,
@@ -313,6 +335,6 @@ impl<S: BlockStore + Drop, J: StorePremises, L: Ledger> Shared<S, J, L> {
 
     /// The shard that has the message-id.
     pub(crate) fn claims(&self, id: &MsgId) -> &Claims {
-        &self.shards[id_history::shard_of(id)]
+        self.shards[id_history::shard_of(id)].lock()
     }
 }

@@ -65,7 +65,7 @@ impl<S: BlockStore + Drop, J: StorePremises, L: Ledger, R: Wait> Shares<J, R> fo
         k: u32,
         chunk: &mut [u8; CHUNK_OCTETS],
     ) -> Result<Found, Fault> {
-        match self.buffers.get(usize::from(token.buffer)) {
+        match self.buffers.locks().get(usize::from(token.buffer)) {
             Some(buffer) => reads.read(rt, buffer, register, token, k, chunk),
             None => Ok(Found::Unknown),
         }

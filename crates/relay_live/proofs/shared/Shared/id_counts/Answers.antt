@@ -15,15 +15,15 @@ one_more index old more most add = omega arith
 pub sum-all-requires-clause-one : goal.sum-all-requires-clause-one
 sum-all-requires-clause-one g c =
     AtMost-weaker _ _ _
-    (so_many _ _ c.loop-claims-test.true
-    (ap length c.deref-claims-items.ensures.value ∙ c.args.self.now.sixteen))
-    c.loop-claims.invariant
+    (so_many _ _ c.loop-shard-test.true
+    (ap length c.deref-shard-items.ensures.value ∙ c.args.self.now.sixteen))
+    c.loop-shard.invariant
 
-pub loop-claims-preserved : goal.loop-claims-preserved
-loop-claims-preserved g c =
-    let old = c.loop-claims.invariant in
+pub loop-shard-preserved : goal.loop-shard-preserved
+loop-shard-preserved g c =
+    let old = c.loop-shard.invariant in
     let more = c.counts.ensures.few in
-    subst (AtMost ((c.loop-claims.claims-index + 1) * 2 ^ 63)) (sym c.sum-all.ensures) (record {
+    subst (AtMost ((c.loop-shard.shard-index + 1) * 2 ^ 63)) (sym c.sum-all.ensures) (record {
       offered = one_more _ _ _ old.offered more.offered;
       storing = one_more _ _ _ old.storing more.storing;
       stored = one_more _ _ _ old.stored more.stored;

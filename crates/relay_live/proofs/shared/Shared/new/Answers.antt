@@ -1,25 +1,24 @@
-use Rattle.std.proofs.Common.{◌∙◌, sym}
+use Rattle.std.proofs.Common.{◌∙◌, subst, sym}
 use Rattle.block_shelf.proofs.HostFaults.{host_refuses}
 use Rattle.block_shelf.proofs.NewBufferSet.{same_count}
 use Rattle.std.proofs.lemmas.Result.{IfOk-from_err}
+use Rattle.relay_live.specs.Beginning.{BeginsOver}
 use Rattle.relay_live.proofs.Parts.{room_for}
 use Rattle.relay_live.proofs.shared.Shared.new.Goals as goal
 
 -- there is room for as many locks
-pub invariant_of-over : goal.invariant_of-over
-invariant_of-over g c =
+pub over-requires : goal.over-requires
+over-requires g c =
     let begins = c.in-Ok.ensures.begins in
-    record {
-      room = room_for c.in_ok-locks.locks.rooms _ _ _ _ c.in_ok-locks.ensures.rooms
-          (begins.buffers.count ∙ sym (c.len.ensures ∙ c.args.stores.ok.0))
-          (begins.placed_group_count
-          ∙ sym (c.len-2.ensures ∙ c.args.config.now.buffers.groups.ok.0));
-    }
+    room_for c.in_ok-locks.locks.rooms _ _ _ _ c.in_ok-locks.ensures.rooms
+    (begins.buffers.count ∙ sym (c.len.ensures ∙ c.args.stores.ok.0))
+    (begins.placed_group_count
+    ∙ sym (c.len-2.ensures ∙ c.args.config.now.buffers.groups.ok.0))
 
 -- a buffer for each store, and so for each of the configuration
 pub returns-in-Ok : goal.returns-in-Ok
 returns-in-Ok g c =
-    let is = c.over.ensures in
+    let is = c.over.ensures.parts in
     let begins = c.in-Ok.ensures.begins in
     record {
       buffers = is.buffers ∙ begins.buffers.count
@@ -29,6 +28,8 @@ returns-in-Ok g c =
       feeds = is.feeds ∙ begins.feed_count;
       ends = is.ends ∙ c.in_ok-locks.ensures.ends_is;
       remember = is.remembers ∙ begins.remembers;
+      begins = subst (BeginsOver c.args.config.now c.args.stores.items)
+          (sym c.over.ensures.put) begins;
       refusal = tt;
     }
 
@@ -40,6 +41,7 @@ returns-in-Err g c =
       feeds = tt;
       ends = tt;
       remember = tt;
+      begins = tt;
       refusal = c.in-Err.ensures.refusal;
     }
 
@@ -53,5 +55,6 @@ returns-in_err-locks g c =
       feeds = IfOk-from_err told.result _ told.ensures.0;
       ends = IfOk-from_err told.result _ told.ensures.0;
       remember = IfOk-from_err told.result _ told.ensures.0;
+      begins = IfOk-from_err told.result _ told.ensures.0;
       refusal = host_refuses g.S.BlockStore c.args.stores.items told.result told.ensures.1;
     }

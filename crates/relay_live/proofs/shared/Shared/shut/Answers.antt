@@ -2,8 +2,8 @@ use Rattle.std.proofs.Common.{◌≡◌, ◌∙◌, refl, subst, sym, true}
 use Rattle.std.proofs.lemmas.List.{length-map}
 use Rattle.live_store.specs.Steps.{buffer_of}
 use Rattle.relay_core.specs.Stopping.{next_stop}
-use Rattle.relay_live.specs.Stopping.{AreShutWith, ComesBack}
-use Rattle.relay_live.proofs.Parts.{as_many, failed_within, room_again, room_for}
+use Rattle.relay_live.specs.Stopping.{AreShutWith, ComesBack, IsStoring}
+use Rattle.relay_live.proofs.Parts.{as_many, came_out, failed_within, room_again, room_for}
 use Rattle.relay_live.proofs.shared.Shared.shut.Goals as goal
 
 -- there is no room for its parts
@@ -11,6 +11,7 @@ pub returns-in_default : goal.returns-in_default
 returns-in_default g c = record {
   stores = tt;
   known = tt;
+  shuts = tt;
   refused = record { buffers = refl; groups = refl; feeds = refl; ends = refl; remembers = refl };
 }
 
@@ -19,6 +20,7 @@ pub returns-in_default-new : goal.returns-in_default-new
 returns-in_default-new g c = record {
   stores = tt;
   known = tt;
+  shuts = tt;
   refused = record { buffers = refl; groups = refl; feeds = refl; ends = refl; remembers = refl };
 }
 
@@ -36,37 +38,36 @@ returns-in-Ok-shut g c =
           → AreShutWith g.S.BlockStore g.J.StorePremises.register (next_stop n)
           c.in-Ok-shut.stopped.stores.items)
           (sym parts.stop_is) shut.known;
+      shuts = record {
+        alone = c.into_alone-alone.result.0;
+        came = came_out c.args.self c.into_alone-alone.result.0 _ parts;
+        shuts = shut;
+      };
       refused = tt;
     }
 
 -- parts that came back as they were go behind locks again
-pub invariant_of-over : goal.invariant_of-over
-invariant_of-over g c =
+pub over-requires : goal.over-requires
+over-requires g c =
     let parts = c.into_alone-alone in
     let back = subst (ComesBack parts.result.0) c.in-Err-NotIdle.field-0-is
     c.in-Err-NotIdle.ensures.back in
-    record {
-      room =
-          room_again c.args.self parts.result.0 c.in-Err-NotIdle.alone _ parts.ensures.parts
-          back.0 c.in-Ok-new.rooms parts.result.1.rooms parts.ensures.rooms
-          (room_for c.in-Ok-new.rooms _ _ _ _ c.in-Ok-new.ensures
-          (sym (c.len-buffers.ensures ∙ c.args.self.buffers.ok.0))
-          (sym (c.len-groups.ensures ∙ c.args.self.placed_groups.ok.0)));
-    }
+    room_again c.args.self parts.result.0 c.in-Err-NotIdle.alone _ parts.ensures.parts
+    back.0 c.in-Ok-new.rooms parts.result.1.rooms parts.ensures.rooms
+    (room_for c.in-Ok-new.rooms _ _ _ _ c.in-Ok-new.ensures
+    (sym c.len-buffers.ensures)
+    (sym (c.len-groups.ensures ∙ c.args.self.placed_groups.ok.0)))
 
-pub invariant_of-over-in-Err-Memory : goal.invariant_of-over-in-Err-Memory
-invariant_of-over-in-Err-Memory g c =
+pub over-requires-in-Err-Memory : goal.over-requires-in-Err-Memory
+over-requires-in-Err-Memory g c =
     let parts = c.into_alone-alone in
     let back = subst (ComesBack parts.result.0) c.in-Err-Memory.field-0-is
     c.in-Err-Memory.ensures.back in
-    record {
-      room =
-          room_again c.args.self parts.result.0 c.in-Err-Memory.alone _ parts.ensures.parts
-          back.0 c.in-Ok-new.rooms parts.result.1.rooms parts.ensures.rooms
-          (room_for c.in-Ok-new.rooms _ _ _ _ c.in-Ok-new.ensures
-          (sym (c.len-buffers.ensures ∙ c.args.self.buffers.ok.0))
-          (sym (c.len-groups.ensures ∙ c.args.self.placed_groups.ok.0)));
-    }
+    room_again c.args.self parts.result.0 c.in-Err-Memory.alone _ parts.ensures.parts
+    back.0 c.in-Ok-new.rooms parts.result.1.rooms parts.ensures.rooms
+    (room_for c.in-Ok-new.rooms _ _ _ _ c.in-Ok-new.ensures
+    (sym c.len-buffers.ensures)
+    (sym (c.len-groups.ensures ∙ c.args.self.placed_groups.ok.0)))
 
 pub returns-in-Err-NotIdle : goal.returns-in-Err-NotIdle
 returns-in-Err-NotIdle g c =
@@ -76,9 +77,12 @@ returns-in-Err-NotIdle g c =
     record {
       stores = tt;
       known = tt;
-      refused = as_many c.args.self parts.result.0 c.in-Err-NotIdle.alone _ parts.ensures.parts
-          back.0
-          c.over.result c.over.ensures;
+      shuts = tt;
+      refused = (
+        as_many c.args.self parts.result.0 c.in-Err-NotIdle.alone _ parts.ensures.parts back.0
+            c.over.result c.over.ensures.parts,
+        subst IsStoring (sym back.0 ∙ sym c.over.ensures.put) back.1,
+      );
     }
 
 pub returns-in-Err-Memory : goal.returns-in-Err-Memory
@@ -89,9 +93,10 @@ returns-in-Err-Memory g c =
     record {
       stores = tt;
       known = tt;
+      shuts = tt;
       refused = as_many c.args.self parts.result.0 c.in-Err-Memory.alone _ parts.ensures.parts
           back.0
-          c.over-in-Err-Memory.result c.over-in-Err-Memory.ensures;
+          c.over-in-Err-Memory.result c.over-in-Err-Memory.ensures.parts;
     }
 
 -- a device failed, and all stores come back
@@ -103,6 +108,15 @@ returns-in-Err-Device g c =
     record {
       stores = tt;
       known = tt;
-      refused = failed_within c.args.self parts.result.0 _ parts.ensures.parts
-          c.in-Err-Device.number c.in-Err-Device.stores.items back.1;
+      shuts = tt;
+      refused = (
+        failed_within c.args.self parts.result.0 _ parts.ensures.parts
+            c.in-Err-Device.number c.in-Err-Device.stores.items back.1,
+        record {
+          alone = parts.result.0;
+          came = came_out c.args.self parts.result.0 _ parts.ensures.parts;
+          rest = back.0;
+          failed = back.1;
+        },
+      );
     }

@@ -1,6 +1,7 @@
-use Rattle.std.proofs.Common.{◌∙◌, ap, refl, sym}
+use Rattle.std.proofs.Common.{◌∙◌, ap, refl, subst, sym}
 use Rattle.block_shelf.proofs.NewBufferSet.{same_count}
 use Rattle.block_shelf.specs.declared.starting.Unstarted.{Unstarted}
+use Rattle.relay_live.specs.Starting.{StartsOver}
 use Rattle.relay_live.proofs.Parts.{room_for}
 use Rattle.relay_live.proofs.StartedRelay.{no_room_before}
 use Rattle.relay_live.proofs.shared.Shared.start.Goals as goal
@@ -16,6 +17,7 @@ returns-in_default g c =
       ends = tt;
       remember = tt;
       history = tt;
+      started = tt;
       refused = no_room_before g.S.BlockStore c.args.config.now c.args.stopped.stores.items
           c.args.stopped.history.items told.result
           (ap (λ (u : Unstarted g.row.S.Denot). u.error) told.ensures)
@@ -24,22 +26,20 @@ returns-in_default g c =
     }
 
 -- there is room for as many locks
-pub invariant_of-over : goal.invariant_of-over
-invariant_of-over g c =
+pub over-requires : goal.over-requires
+over-requires g c =
     let started = c.in-Ok-start_with.ensures.started in
-    record {
-      room = room_for c.in-Ok.locks.rooms _ _ _ _ c.in-Ok.ensures.rooms
-          (started.opened.count ∙ started.from_stores.over.count
-          ∙ sym (c.len.ensures ∙ c.args.stopped.stores.ok.0))
-          (started.placed_group_count
-          ∙ sym (c.len-groups.ensures ∙ c.args.config.now.buffers.groups.ok.0));
-    }
+    room_for c.in-Ok.locks.rooms _ _ _ _ c.in-Ok.ensures.rooms
+    (started.opened.count ∙ started.from_stores.over.count
+    ∙ sym (c.len.ensures ∙ c.args.stopped.stores.ok.0))
+    (started.placed_group_count
+    ∙ sym (c.len-groups.ensures ∙ c.args.config.now.buffers.groups.ok.0))
 
 -- a buffer for each store, and so for each of the configuration; it goes on from the stop of its
 -- history
 pub returns-in-Ok-start_with : goal.returns-in-Ok-start_with
 returns-in-Ok-start_with g c =
-    let is = c.over.ensures in
+    let is = c.over.ensures.parts in
     let started = c.in-Ok-start_with.ensures.started in
     record {
       buffers = is.buffers ∙ started.opened.count ∙ started.from_stores.over.count
@@ -54,6 +54,9 @@ returns-in-Ok-start_with g c =
         reads = started.reads;
         stop_is = is.stop_is ∙ started.stop_is;
       };
+      started = subst (StartsOver c.args.config.now c.args.stopped.stores.items
+          c.args.stopped.history.items)
+          (sym c.over.ensures.put) started;
       refused = tt;
     }
 
@@ -67,6 +70,7 @@ returns-in-Err g c =
       ends = tt;
       remember = tt;
       history = tt;
+      started = tt;
       refused = refl;
     }
 
@@ -79,5 +83,6 @@ returns-in-Err-start_with g c =
       ends = tt;
       remember = tt;
       history = tt;
+      started = tt;
       refused = c.in-Err-start_with.ensures.refused;
     }
