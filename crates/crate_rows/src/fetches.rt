@@ -237,7 +237,7 @@ fn put_fetched<J: StorePremises>(fetched: Fetched<J>, octets: u64, sheet: &Sheet
             sheet.put(b"gone, ");
             sheet.debug(&front);
         }
-        Fetched::Unknown => sheet.put(b"unknown"),
+        Fetched::Unknown(_) => sheet.put(b"unknown"),
         Fetched::Device(fault) => {
             sheet.put(b"failed, ");
             sheet.debug(&fault);

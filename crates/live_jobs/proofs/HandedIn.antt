@@ -5,13 +5,14 @@ use Rattle.std.proofs.Common.{inr}
 use Rattle.std.proofs.Math.Logic.{∥∥₁_map}
 use Rattle.std.proofs.lemmas.Bool.{eq-eqb}
 use Rattle.std.proofs.lemmas.Option.{slice_get-get_or, slice_get_within}
-use Rattle.std.specs.Prelude.{slice_get, Some}
+use Rattle.std.specs.Prelude.{IsSomeAnd, slice_get, Option, None, Some}
+use Rattle.boxcar.specs.Table.{Shelves, Where}
 use Prim.Native.Nat.{zero, suc}
 use Rattle.job_queue.specs.declared.parcel.Handed.{Handed}
 use Rattle.live_jobs.specs.StoredAgain.{all_told}
 use Rattle.live_jobs.specs.StoreResults.{FitsJob}
 use Rattle.live_jobs.specs.Mismatches.{BearsOut}
-use Rattle.live_jobs.specs.Texts.{Run, ToldJob, IsHandedIn}
+use Rattle.live_jobs.specs.Texts.{IsGivenOf, Run, ToldJob, IsHandedIn}
 use Rattle.live_jobs.specs.declared.store_result.StoreResult.{StoreResult}
 use Rattle.live_jobs.specs.declared.store_result.StoreResult.TheVariants as store_results
 use Rattle.live_jobs.specs.declared.store_result.KeptJob.{KeptJob}
@@ -20,9 +21,11 @@ use Rattle.live_jobs.specs.Names.{Name}
 use Rattle.live_jobs.specs.Taken.{finished_name, name_of}
 use Rattle.live_jobs.specs.declared.outcome.FinishedJob.{FinishedJob}
 use Rattle.live_jobs.specs.declared.desk.both.Posted.{Posted}
-use Rattle.live_store.specs.Tied.{text_in}
+use Rattle.live_store.specs.Tied.{IsSameRecord, text_in}
 use Rattle.live_store.specs.declared.record.StorePremises.{Ghosts}
 use Rattle.live_store.specs.declared.stored.Receipt.{Receipt}
+use Rattle.live_store.specs.declared.writing.entering.Record.{Record}
+use Rattle.news_terms.specs.BlockImage.{chunk}
 
 -- one that stands in a list stands in it still where another may come before it
 behind : {X : Type 0} (b : Bool) (x y : X) (xs : List X) (k : ℕ) → slice_get xs k ≡ Some y
@@ -161,3 +164,20 @@ handed_in {J} {g} holds run answer d receipt posted octets told job borne kept r
       same_number = sym (ap (λ (n : Name). n.number) there.2) ∙ borne.same_number;
       text = sym (read ∙ text_of_job holds d.outcome receipt posted there.0 kept fits);
     })
+
+-- what is read of a record, by reads that keep to it, are blocks of the text that was handed in
+-- with a job whose receipt's record it is
+pub given_of : {J : Type 0} {g : Ghosts J} (register : Shelves) (hands : List (List (List Handed)))
+    (end number : ℕ) (receipt : Receipt J g) (own : Option (Where Record))
+    → IsSomeAnd own (IsSameRecord receipt.shown)
+    → IsHandedIn hands end number (text_in receipt.shown)
+    → IsGivenOf register own hands end number
+given_of {J} {g} register hands end number receipt None same handed = absurd same
+given_of {J} {g} register hands end number receipt (Some w) same handed = record {
+  text = text_in receipt.shown;
+  handed_in = handed;
+  given = λ token k slice n is. record {
+    whole = ap (λ (r : Record). length r.text.value.items) same.1 ∙ is.length;
+    block = is.chunk ∙ ap (λ (r : Record). chunk k r.text.value.items) (sym same.1);
+  };
+}

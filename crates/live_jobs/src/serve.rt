@@ -3,18 +3,20 @@ ghost use Rattle.std.specs.Prelude.{◌≡◌, ◌≤◌, true, map, length, vec
 ghost use Rattle.std.specs.Vec.Iter.{into_iter_items};
 ghost use Rattle.live_jobs.specs.Rows.{From};
 ghost use Rattle.live_jobs.specs.Gathered.{hands_of};
-ghost use Rattle.live_jobs.specs.Seats.{IsSeatOf};
+ghost use lib.Dec.{ltb};
+ghost use Rattle.live_jobs.specs.Seats.{IsSeatOf, PassesFit, end_of};
 ghost use Rattle.live_jobs.specs.Started.{AllReady, AllOpen, AllRight, Runs, Serves};
 ghost use Rattle.live_jobs.specs.Started.{AllEnded, AllLeft, AllKept, CameBack, CanRun};
 
 use crate::channel::JobChannel;
 use crate::gather::Seats;
 use crate::outcome::Outcome;
-use crate::session::{LeftSeat, push_marks};
+use crate::session::{LeftSeat, SessionSeat, push_marks};
 use crate::start::{
     Accounts, EndFinished, Leaver, Plan, Service, WriterFinished, start_end, start_writer,
 };
 use crate::writer::{Store, WriterSeat};
+use job_queue::QueuePass;
 use std::alloc::{AllocError, Global};
 use std::sync::Wait;
 use std::sync::atomic::AtomicBool;
@@ -69,15 +71,17 @@ fn start_writers<
 }
 
 /// Starts the ends' threads, in order. Where one can't be started, this end and all after it leave
-/// here and now.
-fn start_ends<'s, 'e: 's, V: Service<R> + Drop + Send + 's, R: Wait + Sync>(
+/// the writers that run here and now.
+fn start_ends<'s, 'e: 's, T, V: Service<R> + Drop + Send + 's, R: Wait + Sync>(
     scope: &'s Scope<'s, &'e ()>,
     rt: &'s R,
     channels: &'s [JobChannel],
     plans: Vec<Plan<V>>,
     leaves: &'s Vec<AtomicBool>,
+    running: &[T],
     serving: &mut Vec<PromisedHandle<Leaver<V>, EndFinished<'s, V>>>,
 ) -> bool
+    requires running { length running.now ≤ length channels.now }
     requires none { length serving.old.items ≡ 0 }
     requires room { (length plans.items ≤ vec_capacity serving.old)
         × (length plans.items ≤ length leaves.now.items) }
@@ -96,7 +100,7 @@ fn start_ends<'s, 'e: 's, V: Service<R> + Drop + Send + 's, R: Wait + Sync>(
         match start_end(scope, rt, channels, plan, &leaves[end]) {
             Some(handle) => serving.push_reserved(handle),
             None => {
-                leave_running(rt, channels, left, channels.len());
+                leave_running(rt, channels, left, running);
                 return false;
             }
         }
@@ -154,20 +158,43 @@ fn join_ends<'a, V: Accounts + Drop, R: Threads>(
     }
 }
 
-/// Pushes the closing mark of each end into so many channels, the first ones, whose writers run.
-fn leave_running<V: Drop, R: Wait>(
+/// The ends whose threads aren't started leave the writers that run, of which these are the
+/// handles: the first ones. Who doesn't run takes no mark, and a full queue would wait for it.
+fn leave_running<T, V: Drop, R: Wait>(
     rt: &R,
     channels: &[JobChannel],
     plans: IntoIter<Plan<V>>,
-    groups: usize,
+    running: &[T],
 )
-    requires groups { groups ≤ length channels.now }
+    requires groups { length running.now ≤ length channels.now }
     requires fit { From (λ e p. IsSeatOf channels.now p.seat) 0 (into_iter_items plans) }
 {
     for plan in plans {
-        let mut seat = plan.seat;
-        push_marks(rt, channels, seat.end, &mut seat.passes, groups);
+        let seat = plan.seat;
+        drop(leave_writers(rt, channels, seat, running));
     }
+}
+
+/// Pushes the closing mark of an end into the channel of each writer that runs: none of these waits
+/// for it for good.
+fn leave_writers<T, R: Wait>(
+    rt: &R,
+    channels: &[JobChannel],
+    seat: SessionSeat,
+    running: &[T],
+) -> Vec<QueuePass>
+    requires groups { length running.now ≤ length channels.now }
+    requires seat { IsSeatOf channels.now seat }
+    ensures { PassesFit channels.now (end_of seat) (λ g. ltb g (length running.now))
+        result.items }
+{
+    let SessionSeat {
+        end,
+        handed: _,
+        mut passes,
+    } = seat;
+    push_marks(rt, channels, end, &mut passes, running.len());
+    passes
 }
 
 /// All threads of a run: the writers' first, then the ends'.
@@ -196,11 +223,11 @@ fn run_threads<
         return Err(SeatsError::Memory);
     };
     if !start_writers(scope, rt, channels, store, writers, ends, &mut running) {
-        leave_running(rt, channels, plans.into_iter(), running.len());
+        leave_running(rt, channels, plans.into_iter(), &running);
         drop(seats);
         return Err(SeatsError::NoThread);
     }
-    let all = start_ends(scope, rt, channels, plans, leaves, &mut serving);
+    let all = start_ends(scope, rt, channels, plans, leaves, &running, &mut serving);
     join_ends(rt, channels, serving, &mut seats.lefts, &mut seats.services);
     join_writers(rt, channels, ends, running, &mut seats.writers);
     if !all {

@@ -33,7 +33,9 @@ use Rattle.live_session.specs.Going.{KeepsButReads, ReadOf, ReadsFor, Shared, Sh
 use Rattle.live_session.specs.Going.{hands_of, numbers_of}
 use Rattle.live_session.specs.declared.live.LiveSession.{LiveSession}
 use Rattle.live_store.specs.Steps.{IsChunkOf, IsFoundGone, IsFoundIn, IsReadFault}
+use Rattle.live_store.specs.Steps.{ones_found}
 use Rattle.live_store.specs.Tied.{text_in}
+use Rattle.live_store.specs.declared.answers.OneRead.{OneRead}
 use Rattle.live_store.specs.declared.record.StorePremises.{Ghosts}
 use Rattle.live_store.specs.declared.writing.entering.Record.{Record}
 use Rattle.news_terms.specs.BlockImage.{chunk_size}
@@ -440,3 +442,17 @@ module _ (register : Shelves) (token : Token) (k : ℕ) (old new : Option (Where
       → ReadsFor honest register token k old chunk new
   block_begun honest mid chunk begins reads asked gathered front =
       reads asked gathered (λ trusted. begins gathered (front trusted))
+
+-- a read that failed is at fault whatever it might have found
+pub fault_found : (token : Token) (read : Result OneRead Fault) → IfErr read (IsReadFault token)
+    → IfErr (ones_found read) (IsReadFault token)
+fault_found token (Ok one) fault = tt
+fault_found token (Err one) fault = fault
+
+-- the reads of a first block begin anew
+pub front_begun : (own : Option (Where Record)) (k : ℕ) (gathered : List ℕ) → k ≡ 0
+    → IsFrontOf own k gathered → IsFrontOf None k gathered
+front_begun None k gathered first front = front
+front_begun (Some w) k gathered first (inl none) = inl none
+front_begun (Some w) k gathered first (inr some) =
+    inl (first, some ∙ subst (λ n. take (chunk_size * n) (text_in w) ≡ []) (sym first) refl)

@@ -19,6 +19,10 @@ untold_in counts = counts.untold
 abbrev pub turns_in : Counts → ℕ
 turns_in counts = counts.turns
 
+-- octets of replies wait to be written only where they are fewer
+abbrev pub most_waiting : ℕ
+most_waiting = 65536
+
 -- the turns that a session has at most
 abbrev pub most_turns : ℕ
 most_turns = 2 ^ 40

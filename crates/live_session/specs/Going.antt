@@ -1,11 +1,13 @@
 -- Where the session of a thread is on its course.
 use Rattle.std.specs.Prelude.{◌≡◌, ◌≢◌, ◌⊎◌, ℕ, ◌*◌, ◌++◌, Bool, true, false, List, [], ◌∷◌, take}
-use Rattle.std.specs.Prelude.{map, Option, None, Some}
+use Rattle.std.specs.Prelude.{map, ◌==◌, IfOk, Option, None, Some, Result, if◌then◌else◌}
 use Rattle.std.specs.Option.{IsSomeAnd}
+use Rattle.article_fetch.specs.Chunks.{chunk_view}
 use Rattle.article_fetch.specs.Fetch.{Fetch, FoundAs}
 use Rattle.article_fetch.specs.Given.{given}
 use Rattle.article_fetch.specs.declared.chunk.Chunk.{Chunk}
 use Rattle.boxcar.specs.Table.{Shelves, Where}
+use Rattle.cyc_buffer.specs.declared.answers.Fault.{Fault}
 use Rattle.live_jobs.specs.declared.store_result.KeptJob.{KeptJob}
 use Rattle.live_jobs.specs.Seats.{count_of, end_of, handed_by}
 use Rattle.live_session.specs.Course.{Course, Hands, HandsAfter, HearsBy, IsFoundUnder, IsHeldOnce}
@@ -14,7 +16,9 @@ use Rattle.live_jobs.specs.declared.session.SessionSeat.{SessionSeat}
 use Rattle.live_session.specs.declared.live.LiveSession.{LiveSession}
 use Rattle.live_session.specs.declared.live.Turned.{Turned}
 use Rattle.live_session.specs.declared.live.Turned.TheVariants as turned
+use Rattle.live_store.specs.Steps.{IsOneUnfound, IsRecordAfter, ones_found}
 use Rattle.live_store.specs.Tied.{text_in}
+use Rattle.live_store.specs.declared.answers.OneRead.{OneRead}
 use Rattle.live_store.specs.declared.record.StorePremises.{Ghosts}
 use Rattle.live_store.specs.declared.writing.entering.Record.{Record}
 use Rattle.news_terms.specs.BlockImage.{chunk_size}
@@ -28,6 +32,7 @@ use Rattle.peer_session.specs.declared.session.Session.{Session}
 use Rattle.peer_session.specs.declared.steps.Answer.{Answer}
 use Rattle.peer_session.specs.declared.steps.Answer.TheVariants as answers
 use Rattle.peer_session.specs.declared.steps.Step.{Step}
+use Rattle.peer_session.specs.declared.steps.Step.TheVariants as steps
 use Rattle.relay_model.specs.Asks as asks
 use Rattle.relay_model.specs.Asks.{Ask, Due}
 use Rattle.relay_model.specs.Fetches as fetches
@@ -112,6 +117,36 @@ abbrev pub ReadsFor : (honest : Bool) → Shelves → Token → (k : ℕ) → Op
 ReadsFor honest register token k old chunk new =
     (asked : model.Asked) (gathered : List ℕ) → (honest ≡ true → IsFrontOf old k gathered)
     → ∥ ReadOf honest register asked token k gathered chunk new ∥₁
+
+-- the record that reads have at their block k: none at their first
+abbrev pub begun_at : (k : ℕ) → Option (Where Record) → Option (Where Record)
+begun_at k own = if k == 0 then None else own
+
+-- What a session heard of block k is what one read of it gave, by reads that had the record that
+-- they have there: nothing was found only for a cause of such a read, so that a first block is never
+-- taken for that of another record.
+pub record IsReadAt (k : ℕ) (old new : Option (Where Record)) (chunk : Chunk) : Type 0 where
+  pub read : Result OneRead Fault
+  pub octets : List ℕ
+  pub given_is : chunk ≡ chunk_view (ones_found read) octets
+  pub after : IsRecordAfter (ones_found read) (begun_at k old) new
+  pub unknown : IfOk read (IsOneUnfound k (begun_at k old))
+
+-- the block that a step reads
+abbrev pub block_in : Step → Option ℕ
+block_in (steps.Read token k) = Some k
+block_in other = None
+
+-- the group that a step hands a job over to
+abbrev pub group_in : Step → Option ℕ
+group_in (steps.Push group) = Some group
+group_in other = None
+
+-- a step that reads a block, and is answered by what was read, read it so
+abbrev pub IsStepRead : Step → Answer → (old new : Option (Where Record)) → Type 0
+IsStepRead step (answers.Chunk chunk) old new =
+    (k : ℕ) → block_in step ≡ Some k → ∥ IsReadAt k old new chunk ∥₁
+IsStepRead step other old new = Unit {0}
 
 -- the code's answer to what was asked is this, whatever a read gave
 abbrev pub IsAnyAnswerTo : Ask → List ℕ → Answer → shares.Answer → Type 0

@@ -27,7 +27,10 @@ pub(crate) fn push<J: StorePremises, R: Wait>(
     ensures did { DidStep channels.now (steps.Push group) live.old result live.new }
     ensures memory { result ≡ answers.Memory → ⊥ }
 {
-    if group >= channels.len() || live.seat.handed() >= JOB_NUMBERS {
+    if group >= channels.len() {
+        return Answer::Pushed(false);
+    }
+    if live.seat.handed() >= JOB_NUMBERS {
         return Answer::Pushed(false);
     }
     match live.session.hand_over() {

@@ -1,12 +1,13 @@
 //! A session is served over a connection.
-ghost use Rattle.std.specs.Prelude.{◌≡◌, ◌≤◌, ◌^◌, Bool, true, false, [], IfOk, IfSome, None, Some};
+ghost use Rattle.std.specs.Prelude.{◌≡◌, ◌≤◌, ◌<◌, ◌^◌, Bool, true, false, [], length, IfOk, IfSome};
+ghost use Rattle.std.specs.Prelude.{None, Some, Ok};
 ghost use Rattle.std.specs.Prelude.{is_some};
 ghost use Rattle.article_verdict.specs.Config.{terms_of};
 ghost use Rattle.live_jobs.specs.Seats.{IsSeatOf, count_of, end_of};
 ghost use Rattle.live_session.specs.Carried.{Begins, CarriesSame, IsFormed, IsServed, IsServedBy};
 ghost use Rattle.live_session.specs.Carried.{Lasts, Refusal, ServesOn, carried};
 ghost use Rattle.live_session.specs.Commands.{WasLetIn, newest_in};
-ghost use Rattle.live_session.specs.Counts.{most_turns, turns_in};
+ghost use Rattle.live_session.specs.Counts.{most_turns, most_waiting, turns_in};
 ghost use Rattle.live_session.specs.Going.{hands_at};
 ghost use Rattle.live_session.specs.Turns.{Conversed, HadRound, HasRead, ServedThrough};
 ghost use Rattle.live_session.specs.declared.wire.Finish.TheVariants as finishes;
@@ -88,10 +89,10 @@ pub fn serve_session<
     // It is held only where the gate said no to a command.
     ensures held { result.finish ≡ finishes.Held → Refusal (G.refuses context.now.gate.now) }
 {
-    match begin(alloc, hasher, context.config, connection.peer, &seat) {
-        Some(opened) => served(rt, alloc, context, opened, seat, kept, connection),
-        None => unserved(seat, kept, connection),
-    }
+    let Ok(Some(opened)) = begin(alloc, hasher, context.config, connection.peer, &seat) else {
+        return unserved(seat, kept, connection);
+    };
+    served(rt, alloc, context, opened, seat, kept, connection)
 }
 
 /// Serves a connection as the session that was opened for it, from the greeting until it is closed.
@@ -211,23 +212,25 @@ struct Opened {
     piece: Vec<u8>,
 }
 
-/// What a session of this seat begins with; none where the end has handed over all its jobs, or
-/// memory was refused.
+/// What a session of this seat begins with; none where the end has handed over all its jobs. The
+/// error is want of memory.
 fn begin(
     alloc: Global,
     hasher: RandomState,
     config: &Config,
     peer: usize,
     seat: &SessionSeat,
-) -> Option<Opened>
-    ensures begins { IfSome result (λ opened. Begins (terms_of config.now) peer opened.session
-        opened.greeting.items) }
-    ensures many { 2 ^ 62 ≤ count_of seat.now → result ≡ None }
+) -> Result<Option<Opened>, AllocError>
+    ensures begins { IfOk result (λ one. IfSome one (λ opened. Begins (terms_of config.now) peer
+        opened.session opened.greeting.items)) }
+    ensures many { 2 ^ 62 ≤ count_of seat.now → result ≡ Ok None }
+    ensures few { result ≡ Ok None → 2 ^ 62 ≤ count_of seat.now }
 {
     if seat.handed() >= MOST_JOBS {
-        return None;
+        return Ok(None);
     }
-    open(alloc, hasher, config, peer).ok()
+    let opened = open(alloc, hasher, config, peer)?;
+    Ok(Some(opened))
 }
 
 /// A session of a peer to which nothing has come.
@@ -325,6 +328,7 @@ fn write_on<G: Gate<R>, H: Hears, W: Says, R>(
 )
     requires newest { WasLetIn (G.admits gate.now) newest }
     ensures written { G.one_by_one gate.now ≡ true → wire.new.outbox.items ≡ [] }
+    ensures few { length wire.new.outbox.items < most_waiting }
     ensures same { CarriesSame
         (carried (H.heard wire.old.reader) (W.said wire.old.writer) wire.old.outbox wire.old.finish)
         (carried (H.heard wire.new.reader) (W.said wire.new.writer)
@@ -345,16 +349,20 @@ fn write_on<G: Gate<R>, H: Hears, W: Says, R>(
     }
 }
 
-/// Reads once, where the session reads. The connection is broken where the input has ended or
-/// fails, or there is no memory for what came.
+/// Reads once, where the session reads: a peer isn't waited for while it is to hear something. The
+/// connection is broken where the input has ended or fails, or there is no memory for what came.
 fn receive<J: StorePremises, H: Hears, W: Says>(talk: &mut Conversation<J, H, W>)
+    requires none { talk.old.wire.outbox.items ≡ [] }
     ensures { HasRead talk.old.live talk.new.live
         (carried (H.heard talk.old.wire.reader) (W.said talk.old.wire.writer)
         talk.old.wire.outbox talk.old.wire.finish)
         (carried (H.heard talk.new.wire.reader) (W.said talk.new.wire.writer)
         talk.new.wire.outbox talk.new.wire.finish) talk.old.counts talk.new.counts }
 {
-    if talk.wire.finish.is_some() || !talk.live.session.is_reading() {
+    if talk.wire.finish.is_some() {
+        return;
+    }
+    if !talk.live.session.is_reading() {
         return;
     }
     match talk.wire.reader.hear(&mut talk.wire.piece) {

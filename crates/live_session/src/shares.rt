@@ -4,18 +4,19 @@ ghost use Rattle.std.specs.Prelude.{vec_capacity, vec_len};
 ghost use Rattle.cyc_buffer.specs.Answers.{HasRoom};
 ghost use Rattle.cyc_token.specs.Token.{token_view};
 ghost use Rattle.id_history.specs.declared.claims.Take.TheVariants as takes;
-ghost use Rattle.live_store.specs.Steps.{IsFoundIn, IsFoundGone, IsReadFault};
+ghost use Rattle.live_store.specs.Steps.{IsFoundIn, IsFoundGone, IsOneUnfound, IsReadFault};
+ghost use Rattle.live_store.specs.Steps.{IsRecordAfter, ones_found};
 ghost use Rattle.relay_model.specs.Terms.{last_moment};
 
 use crate::commands::Command;
 use crate::wire::Finish;
 use cyc_block::CHUNK_OCTETS;
-use cyc_buffer::{Fault, Found};
+use cyc_buffer::Fault;
 use cyc_token::Token;
 use feed_queue::Taken;
 use id_history::{Offer, Take};
 use live_jobs::{JobAnswer, KeptJob};
-use live_store::{ArticleLog, OneRecord, StorePremises};
+use live_store::{ArticleLog, OneRead, OneRecord, StorePremises};
 use live_wire::Tally;
 use nntp_text::MsgId;
 use std::alloc::{AllocError, Global};
@@ -57,15 +58,19 @@ pub trait Shares<J: StorePremises, R> {
         token: &Token,
         k: u32,
         chunk: &mut [u8; CHUNK_OCTETS],
-    ) -> Result<Found, Fault>
+    ) -> Result<OneRead, Fault>
         requires { register.now ≡ J.register }
         // A chunk is that of the record, which has the token.
-        ensures chunk { J.trusted ≡ true → IfOk result
+        ensures chunk { J.trusted ≡ true → IfOk (ones_found result)
             (IsFoundIn J.register (token_view token.now) k chunk.new reads.new.shown) }
         // Once there is a record it stays.
         ensures kept { IfSome reads.old.shown (λ w. reads.new.shown ≡ Some w) }
-        ensures room { IfOk result HasRoom }
-        ensures gone { IfOk result (IsFoundGone (token_view token.now)) }
+        // With a chunk there is one, over any store; else it is as it was.
+        ensures after { IsRecordAfter (ones_found result) reads.old.shown reads.new.shown }
+        ensures room { IfOk (ones_found result) HasRoom }
+        ensures gone { IfOk (ones_found result) (IsFoundGone (token_view token.now)) }
+        // Unknown has its cause: of another record a chunk is only where there was one before.
+        ensures unknown { IfOk result (IsOneUnfound k reads.old.shown) }
         ensures fault { IfErr result (IsReadFault (token_view token.now)) };
 
     /// Waits until the writer has told what became of this end's job of this number, and takes that

@@ -1,10 +1,12 @@
 //! The one step of what is shared that a turn takes, by each of its kinds.
 ghost use Rattle.std.specs.Prelude.{◌≡◌, ◌≢◌, ℕ, Bool, List, true, IfOk};
+ghost use Rattle.article_fetch.specs.Chunks.{chunk_view};
 ghost use Rattle.cyc_token.specs.Token.{token_view};
 ghost use Rattle.id_history.specs.declared.claims.Take.TheVariants as takes;
 ghost use Rattle.live_jobs.specs.Seats.{IsSeatOf};
-ghost use Rattle.live_session.specs.Going.{IsFrontOf, ReadsFor};
+ghost use Rattle.live_session.specs.Going.{IsFrontOf, IsReadAt, ReadsFor, begun_at};
 ghost use Rattle.live_session.specs.Turns.{DidStep};
+ghost use Rattle.live_store.specs.Steps.{ones_found};
 ghost use Rattle.peer_session.specs.Session.{holds_article};
 
 use crate::live::{LiveSession, StepContext};
@@ -12,9 +14,10 @@ use crate::pushing::{look_in_slot, push};
 use crate::shares::Shares;
 use article_fetch::Chunk;
 use cyc_block::CHUNK_OCTETS;
+use cyc_buffer::Fault;
 use cyc_token::Token;
 use id_history::Take;
-use live_store::{ArticleLog, OneRecord, StorePremises};
+use live_store::{ArticleLog, OneRead, OneRecord, StorePremises};
 use nntp_text::MsgId;
 use peer_session::{Answer, Step};
 use std::alloc::AllocError;
@@ -91,19 +94,31 @@ fn read<S: Shares<J, R>, J: StorePremises, R: Wait>(
     k: u32,
 ) -> Chunk
     requires register { register.now ≡ J.register }
-    ensures { (honest : Bool) → (honest ≡ true → J.trusted ≡ true)
+    ensures reads { (honest : Bool) → (honest ≡ true → J.trusted ≡ true)
         → ReadsFor honest J.register (token_view token.now) k reads.old.shown result
         reads.new.shown }
+    ensures cause { ∥ IsReadAt k reads.old.shown reads.new.shown result ∥₁ }
 {
     begin_reads(reads, k);
     let mut octets = [0; CHUNK_OCTETS];
-    let found = shares.read(rt, register, reads, token, k, &mut octets);
-    Chunk::of_read(found, octets)
+    let read = shares.read(rt, register, reads, token, k, &mut octets);
+    chunk_of(read, octets)
+}
+
+/// What the session hears of a read, with the octets of the block at the front of these.
+fn chunk_of(read: Result<OneRead, Fault>, octets: [u8; CHUNK_OCTETS]) -> Chunk
+    ensures { result ≡ chunk_view (ones_found read) octets }
+{
+    match read {
+        Ok(one) => Chunk::of_read(Ok(one.into_found()), octets),
+        Err(fault) => Chunk::of_read(Err(fault), octets),
+    }
 }
 
 /// The reads of an article begin with its block 0.
 fn begin_reads<J: StorePremises>(reads: &mut OneRecord<J>, k: u32)
-    ensures { (gathered : List ℕ) → IsFrontOf reads.old.shown k gathered
+    ensures begun { reads.new.shown ≡ begun_at k reads.old.shown }
+    ensures front { (gathered : List ℕ) → IsFrontOf reads.old.shown k gathered
         → IsFrontOf reads.new.shown k gathered }
 {
     if k == 0 {

@@ -4,6 +4,7 @@ ghost use Rattle.live_session.specs.Carried.{CarriesOn, CarriesSame, Lasts, carr
 ghost use Rattle.live_session.specs.Carried.{is_break, part_finish};
 ghost use Rattle.live_session.specs.Carried as words;
 ghost use Rattle.live_session.specs.Counts.{turns_in};
+ghost use Rattle.live_session.specs.declared.wire.Finish.TheVariants as finishes;
 ghost use Rattle.peer_session.specs.Session.{has_parted};
 
 use crate::live::Conversation;
@@ -146,9 +147,11 @@ fn append<H: Hears, W: Says>(wire: &mut Wire<H, W>, said: Vec<u8>)
     }
 }
 
-/// The connection ends so, if it hasn't ended before.
+/// The connection ends so, if it hasn't ended before. It is broken off only once nothing waits, since
+/// what waits then isn't written any more.
 pub(crate) fn stop<H: Hears, W: Says>(wire: &mut Wire<H, W>, finish: Finish)
-    requires { is_break finish ≡ true }
+    requires ends { is_break finish ≡ true }
+    requires none { finish ≡ finishes.Broken → wire.old.outbox.items ≡ [] }
     ensures same { CarriesSame
         (carried (H.heard wire.old.reader) (W.said wire.old.writer) wire.old.outbox wire.old.finish)
         (carried (H.heard wire.new.reader) (W.said wire.new.writer)

@@ -1,14 +1,20 @@
 -- What a fetch gathers.
 use Rattle.std.proofs.Common.{◌≡◌, refl, sym, ◌∙◌, ap, subst, arith, ℕ, ◌+◌, ◌*◌, ◌<◌, ◌++◌, take}
-use Rattle.std.proofs.Common.{List, [], Option, None, Some}
+use Rattle.std.proofs.Common.{List, [], Option, None, Some, Ok, is_some}
+use Prim.Native.Nat.{zero, suc}
 use Rattle.std.proofs.Math.Seq.{take-add}
 use Rattle.std.proofs.lemmas.List.{take_all}
-use Rattle.std.proofs.lemmas.Option.{same_Some}
+use Rattle.std.proofs.lemmas.Bool.{false≢true}
+use Rattle.std.proofs.lemmas.Option.{none-some, same_Some}
 use Rattle.std.specs.Prelude.{IfSome, IsSomeAnd}
 use Rattle.boxcar.specs.Table.{Shelves, Where}
+use Rattle.cyc_buffer.specs.declared.answers.Found.TheVariants as found
+use Rattle.live_store.specs.Causes.{IsCauseAt, IsCauseOf, IsNowhere}
 use Rattle.live_store.specs.Fetches.{AreGathered, IsWholeOf}
-use Rattle.live_store.specs.Steps.{IsChunkOf}
+use Rattle.live_store.specs.Steps.{IsChunkOf, IsRecordAfter}
 use Rattle.live_store.specs.Tied.{text_in}
+use Rattle.live_store.specs.declared.steps.unfound.UnfoundCause.{UnfoundCause}
+use Rattle.live_store.specs.declared.steps.unfound.UnfoundCause.TheVariants as causes
 use Rattle.live_store.specs.declared.writing.entering.Record.{Record}
 use Rattle.live_store.proofs.ReadBackLemmas.{covers}
 use Rattle.news_terms.specs.BlockImage.{chunk, chunk_size}
@@ -62,3 +68,25 @@ gathered_all token (Some one) k octets so past = record {
   text = so.front ∙ take_all (chunk_size * k) (text_in one)
       (omega (arith, so.long, covers token.length k past));
 }
+
+-- with a chunk there is a record
+pub has_record : (n : ℕ) (old new : Option (Where Record))
+    → IsRecordAfter (Ok (found.Chunk n)) old new → new ≡ None → ⊥
+has_record n old None some none = absurd (false≢true some)
+has_record n old (Some own) some none = none-some own (sym none)
+
+-- why a block of an article isn't found is why a fetch of it ends so
+pub cause_at : (count : ℕ) (token : Token) (k : ℕ) (own : Option (Where Record))
+    (cause : UnfoundCause) → IsCauseAt k own cause → IsNowhere count token cause
+    → (k ≡ 0 → own ≡ None) → k < size_of token.length → IsCauseOf count token cause
+cause_at count token k own causes.NoOctets at nowhere first less = absurd at
+cause_at count token k own causes.NoBuffer at nowhere first less = nowhere
+cause_at count token k own (causes.NoChunk block) at nowhere first less = omega (arith, at, less)
+cause_at count token k own (causes.Another block) at nowhere first less = (
+  later k at.0 first,
+  omega (arith, at.0, less),
+)
+  where
+    later : (n : ℕ) → block ≡ n → (n ≡ 0 → own ≡ None) → 0 < block
+    later zero is none = absurd (false≢true (ap is_some (sym (none refl)) ∙ at.1))
+    later (suc n) is none = omega (arith, is)

@@ -1,14 +1,14 @@
 -- What a read under the lock finds.
 use Rattle.std.proofs.Common.{◌≡◌, ◌∙◌, ℕ, ◌+◌, ◌<◌, ◌≤◌, inl, inr, refl, sym, ap, subst, arith}
 use Rattle.std.specs.Option.{ForSome}
-use Rattle.std.specs.Prelude.{IfSome, IsSomeAnd}
+use Rattle.std.specs.Prelude.{◌≢◌, IfSome, IsSome, IsSomeAnd}
 use Rattle.std.proofs.Common.{Bool, true, false, not, cond, nat_lt, nat_le, ◌==◌, ◌||◌, List}
 use Rattle.std.proofs.Common.{length, take}
 use Rattle.std.proofs.Common.{Option, None, Some, Ok}
 use Rattle.std.proofs.Math.Logic.{∥∥₁_elim}
 use Rattle.std.proofs.Props.{props}
 use Rattle.std.specs.Coded.{le_prop}
-use Rattle.std.proofs.lemmas.Bool.{or_parts, eqb-true, ltb-true, ltb-false, leb-false}
+use Rattle.std.proofs.lemmas.Bool.{eq-eqb, or_parts, eqb-true, ltb-true, ltb-false, leb-false}
 use Rattle.boxcar.specs.Table.{Shelves, Where, Shows}
 use Rattle.news_terms.specs.BlockImage.{chunk}
 use Rattle.news_terms.specs.Places as places
@@ -38,6 +38,7 @@ use Rattle.live_store.specs.declared.writing.entering.Record.{Record}
 use Rattle.live_store.specs.Tied.{Tied, IsKnown, HasRecord, IsFirstAt, IsSameRecord, number_at}
 use Rattle.live_store.specs.Tied.{token_in, text_in}
 use Rattle.live_store.specs.Steps.{IsChunkOf, IsGoneBy, IsReadFault, IsReading, IsRecordAfter}
+use Rattle.live_store.specs.Steps.{found_in}
 use Rattle.live_store.specs.declared.answers.Reading.{Reading}
 use Rattle.live_store.specs.declared.answers.Reading.TheVariants as readings
 use Rattle.live_store.proofs.OpenLemmas.{device_fault_is, no_prop}
@@ -235,3 +236,30 @@ pub record_after : (n : ℕ) (old new : Option (Where Record)) (shown : Where Re
     → IsSomeAnd new (IsSameRecord shown) → IsRecordAfter (Ok (found.Chunk n)) old new
 record_after n old None shown same = absurd same
 record_after n old (Some w) shown same = refl
+
+-- what stands somewhere stands there
+pub some_of : (P : Where Record → Type 0) (o : Option (Where Record)) → IsSomeAnd o P → IsSome o
+some_of P None is = absurd is
+some_of P (Some own) is = refl
+
+-- a chunk of the record that reads have, or that they take, is one
+pub told_own : (n : ℕ) (shown : Where Record) (old new : Option (Where Record))
+    → IfSome old (λ w. new ≡ Some w) → IsSomeAnd new (IsSameRecord shown)
+    → found.Chunk n ≡ found_in (readings.Chunk n shown) old
+told_own n shown None new kept same = refl
+told_own n shown (Some own) new kept same =
+    ap (λ (b : Bool). cond b (found.Chunk n) found.Unknown)
+    (sym (eq-eqb shown.index own.index
+    (subst (λ o. IsSomeAnd o (IsSameRecord shown)) kept same).0))
+
+-- a chunk of another is none
+pub told_other : (n : ℕ) (shown : Where Record) (old : Option (Where Record))
+    → IsSomeAnd old (λ own. shown.index ≢ own.index)
+    → found.Unknown ≡ found_in (readings.Chunk n shown) old
+told_other n shown None apart = absurd apart
+told_other n shown (Some own) apart = by_case (shown.index == own.index) refl
+  where
+    by_case : (b : Bool) → (shown.index == own.index) ≡ b
+        → found.Unknown ≡ found_in (readings.Chunk n shown) (Some own)
+    by_case true e = absurd (apart (eqb-true shown.index own.index e))
+    by_case false e = ap (λ (b : Bool). cond b (found.Chunk n) found.Unknown) (sym e)

@@ -18,7 +18,8 @@ use Rattle.cyc_buffer.specs.declared.answers.StartError.{StartError}
 use Rattle.cyc_buffer.specs.declared.answers.StartError.TheVariants as errors
 use Rattle.cyc_buffer.specs.declared.buffer.Buffer.{Buffer}
 use Rattle.cyc_token.specs.declared.Token as codes
-use Rattle.live_store.specs.Started.{HaveFirsts, IsMerelyRead, IsRefusedFor, IsStarted, IsUnentered}
+use Rattle.live_store.specs.Started.{AreArticles, HaveFirsts, IsMerelyRead, IsRefusedFor}
+use Rattle.live_store.specs.Started.{IsStarted, IsUnentered}
 use Rattle.live_store.specs.Started.{WasStopped}
 use Rattle.live_store.specs.Tied.{AreNumbered, AreShown, HaveNumbers, IsFirstAt, IsKnown, Tied}
 use Rattle.live_store.specs.Tied.{number_at}
@@ -61,15 +62,19 @@ started_of buffer tokens heads blocks kept stopped agrees lists =
 -- what is refused once the buffer was started is so from without, or for a text
 pub refused_for : (heads blocks : List (List ℕ)) (buffer : places.Buffer) (stop : ℕ)
     (tokens : List codes.Token) → Starts heads blocks buffer stop tokens → (e : StartError)
-    → IsUnentered ⊥ e → IsRefusedFor heads blocks buffer e
-refused_for heads blocks buffer stop tokens starts errors.Memory is = inl tt
-refused_for heads blocks buffer stop tokens starts errors.Device is = inl tt
-refused_for heads blocks buffer stop tokens starts errors.NoHead is = absurd is
-refused_for heads blocks buffer stop tokens starts errors.Unclosed is = absurd is
-refused_for heads blocks buffer stop tokens starts errors.Damaged is = inr (record {
+    → IsUnentered ⊥ e
+    → ((under : ℕ) (h : History) → HoldsStopped heads blocks under h → h.buffer ≡ buffer
+    → IsUnentered (AreArticles h) e)
+    → IsRefusedFor heads blocks buffer e
+refused_for heads blocks buffer stop tokens starts errors.Memory is texts = inl tt
+refused_for heads blocks buffer stop tokens starts errors.Device is texts = inl tt
+refused_for heads blocks buffer stop tokens starts errors.NoHead is texts = absurd is
+refused_for heads blocks buffer stop tokens starts errors.Unclosed is texts = absurd is
+refused_for heads blocks buffer stop tokens starts errors.Damaged is texts = inr (record {
   damaged = refl;
   stop = stop;
   startable = record { tokens = tokens; starts = starts };
+  text = texts;
 })
 
 -- where each block at which an article begins is a listed one's first, it has its number

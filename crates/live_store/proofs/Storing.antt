@@ -4,6 +4,7 @@ use Rattle.live_store.specs.declared.answers.WriteFault.{WriteFault}
 use Rattle.live_store.specs.declared.answers.WriteFault.TheVariants as writes
 use Rattle.live_store.specs.declared.record.StorePremises.{Ghosts}
 use Rattle.live_store.specs.declared.stored.Stored.{Stored}
+use Rattle.live_store.specs.Handles.{IsConflictFor}
 use Rattle.live_store.specs.Steps.{IsWriteFault}
 use Rattle.live_store.specs.Stores.{IsBegunWith, IsGivenUp, IsStored}
 
@@ -14,7 +15,7 @@ module _ {J : Type 0} {g : Ghosts J} where
   given_up class text (writes.Device fault) result of told =
       subst (IsStored class text) (sym told) (record { kind = inl of.0; length = of.1 })
   given_up class text (writes.Conflict conflict) result of told =
-      subst (IsStored class text) (sym told) tt
+      subst (IsStored class text) (sym told) (subst (IsConflictFor text) (sym of) tt)
 
   -- nothing is kept then
   pub none_begun : (fresh : Bool) (fault : WriteFault) (result : Stored J g)

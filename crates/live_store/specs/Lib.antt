@@ -1,3 +1,4 @@
+pub mod Causes
 pub mod Fetches
 pub mod Handles
 pub mod Places

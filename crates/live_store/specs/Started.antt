@@ -152,23 +152,26 @@ pub record IsStartable (heads blocks : List (List ℕ)) (buffer : places.Buffer)
   pub tokens : List codes.Token
   pub starts : Starts heads blocks buffer stop tokens
 
--- nothing is wrong with the buffer, and yet it is said to be damaged
+-- the text of each live finished article is an article
+abbrev pub AreArticles : History → Type 0
+AreArticles h = (cycle first : ℕ) (article : Article) → IsThere h cycle first article
+    → ∥ IsArticle article.text ∥₁
+
+-- nothing is wrong with the buffer, and yet it is said to be damaged: of whatever history it holds
+-- some live text is no article
 pub record IsTextFault (heads blocks : List (List ℕ)) (buffer : places.Buffer) (e : StartError)
     : Type 0 where
   pub damaged : e ≡ errors.Damaged
   pub stop : ℕ
   pub startable : IsStartable heads blocks buffer stop
+  pub text : (under : ℕ) (h : History) → HoldsStopped heads blocks under h → h.buffer ≡ buffer
+      → AreArticles h → ⊥
 
 -- why a start is refused: for what is wrong with the buffer, from without, or as damaged where
 -- nothing is wrong with the buffer, as a text that is no article is
 abbrev pub IsRefusedFor : (heads blocks : List (List ℕ)) → places.Buffer → StartError → Type 0
 IsRefusedFor heads blocks buffer e =
     IsReason heads blocks buffer e ⊎ IsTextFault heads blocks buffer e
-
--- the text of each live finished article is an article
-abbrev pub AreArticles : History → Type 0
-AreArticles h = (cycle first : ℕ) (article : Article) → IsThere h cycle first article
-    → ∥ IsArticle article.text ∥₁
 
 -- the device holds this buffer as it was stopped
 pub record WasStopped (heads blocks : List (List ℕ)) (buffer : places.Buffer) : Type 0 where

@@ -1,6 +1,7 @@
 -- What the steps under a buffer's lock answer.
 use Rattle.std.specs.Prelude.{◌≡◌, ℕ, ◌+◌, ◌<◌, ◌≤◌, Bool, false, List, length, take, Option}
 use Rattle.std.specs.Prelude.{true, None, Some, Result, Ok, Err, is_none, IsSome, IsSomeAnd}
+use Rattle.std.specs.Prelude.{◌==◌, if◌then◌else◌}
 use Rattle.std.specs.Prelude.{IfErr, IfOk, IfSome}
 use Rattle.boxcar.specs.Table.{Shelves, Where, Shows}
 use Rattle.cyc_block.specs.declared.store.BlockStore.{Ghosts}
@@ -17,6 +18,10 @@ use Rattle.cyc_buffer.specs.declared.answers.Front.{Front}
 use Rattle.cyc_buffer.specs.declared.buffer.Buffer.{Buffer}
 use Rattle.cyc_token.specs.Token.{token_view}
 use Rattle.cyc_token.specs.declared.Token as codes
+use Rattle.live_store.specs.Causes.{cause_of, IsCauseAt, IsNowhere}
+use Rattle.live_store.specs.Handles.{conflict_in}
+use Rattle.live_store.specs.declared.answers.OneRead.{OneRead}
+use Rattle.live_store.specs.declared.answers.OneRead.TheVariants as ones
 use Rattle.live_store.specs.declared.answers.Reading.{Reading}
 use Rattle.live_store.specs.declared.answers.Reading.TheVariants as readings
 use Rattle.live_store.specs.declared.answers.WriteFault.{WriteFault}
@@ -24,6 +29,8 @@ use Rattle.live_store.specs.declared.answers.WriteFault.TheVariants as writes
 use Rattle.live_store.specs.declared.open_write.OpenWrite.{OpenWrite}
 use Rattle.live_store.specs.declared.numbered.NumberedBuffer.{NumberedBuffer}
 use Rattle.live_store.specs.declared.record.StorePremises as store_premises
+use Rattle.live_store.specs.declared.steps.handles.ConflictCause.TheVariants as conflicts
+use Rattle.live_store.specs.declared.steps.unfound.UnfoundCause.TheVariants as causes
 use Rattle.live_store.specs.declared.writing.entering.Record.{Record}
 use Rattle.live_store.specs.Tied.{token_in, text_in, number_at, IsNamed}
 use Rattle.news_terms.specs.BlockImage.{chunk, chunk_size}
@@ -111,10 +118,11 @@ WritesOrConflicts old shown text (Err (writes.Conflict conflict)) new = new ≡ 
 abbrev pub IsWriteFaultOf : (octets : ℕ) → Fault → Type 0
 IsWriteFaultOf octets fault = (fault.kind ≡ kinds.Write) × (fault.length ≡ octets)
 
--- the fault that the write of a block carries, where it does, is of the text
+-- the fault that the write of a block carries, where it does, is of the text; else the open write is
+-- in conflict
 abbrev pub IsWriteFault : (text : List ℕ) → WriteFault → Type 0
 IsWriteFault text (writes.Device fault) = IsWriteFaultOf (length text) fault
-IsWriteFault text (writes.Conflict conflict) = Unit {0}
+IsWriteFault text (writes.Conflict conflict) = conflict_in conflict ≡ conflicts.Write
 
 -- the open write isn't the record's, or no further block of it can be written
 abbrev pub IsConflict : WriteFault → Type 0
@@ -133,7 +141,7 @@ IsBeginFault octets (errors.Device fault) = ⊥
 abbrev pub as_found : Result Reading Fault → Result Found BufError
 as_found (Ok (readings.Chunk n shown)) = Ok (found.Chunk n)
 as_found (Ok (readings.Gone front)) = Ok (found.Gone front)
-as_found (Ok readings.Unknown) = Ok found.Unknown
+as_found (Ok (readings.Unknown unfound)) = Ok found.Unknown
 as_found (Err fault) = Err (errors.Device fault)
 
 -- these octets are chunk k of the text of the record of this number, which has the token
@@ -151,25 +159,25 @@ abbrev pub IsReading : Shelves → Token → (k : ℕ) → List ℕ → Reading 
 IsReading register token k slice (readings.Chunk n shown) =
     IsChunkOf register token k (take n slice) shown
 IsReading register token k slice (readings.Gone front) = Unit {0}
-IsReading register token k slice readings.Unknown = Unit {0}
+IsReading register token k slice (readings.Unknown unfound) = Unit {0}
 
 -- the number that a read gave is one of the register
 abbrev pub IsShown : Shelves → Reading → Type 0
 IsShown register (readings.Chunk n shown) = Shows register shown
 IsShown register (readings.Gone front) = Unit {0}
-IsShown register readings.Unknown = Unit {0}
+IsShown register (readings.Unknown unfound) = Unit {0}
 
 -- a chunk's number is the one that stands at this block
 abbrev pub IsNumberedAt : List (Option (Where Record)) → (block : ℕ) → Reading → Type 0
 IsNumberedAt numbers block (readings.Chunk n shown) = number_at numbers block ≡ Some shown
 IsNumberedAt numbers block (readings.Gone front) = Unit {0}
-IsNumberedAt numbers block readings.Unknown = Unit {0}
+IsNumberedAt numbers block (readings.Unknown unfound) = Unit {0}
 
 -- a chunk has no more octets than a block holds
 abbrev pub HasOctets : Reading → Type 0
 HasOctets (readings.Chunk n shown) = n ≤ chunk_size
 HasOctets (readings.Gone front) = Unit {0}
-HasOctets readings.Unknown = Unit {0}
+HasOctets (readings.Unknown unfound) = Unit {0}
 
 -- this front of the token's buffer has passed the article that the token is of
 pub record IsGoneBy (front : Front) (token : Token) : Type 0 where
@@ -182,7 +190,7 @@ pub record IsGoneBy (front : Front) (token : Token) : Type 0 where
 abbrev pub IsPassed : Token → Reading → Type 0
 IsPassed token (readings.Chunk n shown) = Unit {0}
 IsPassed token (readings.Gone front) = IsGoneBy front token
-IsPassed token readings.Unknown = Unit {0}
+IsPassed token (readings.Unknown unfound) = Unit {0}
 
 -- what was found is a chunk of the record that the reads are of
 abbrev pub IsFoundIn : Shelves → Token → (k : ℕ) → List ℕ → Option (Where Record) → Found → Type 0
@@ -190,6 +198,43 @@ IsFoundIn register token k slice own (found.Chunk n) =
     IsSomeAnd own (IsChunkOf register token k (take n slice))
 IsFoundIn register token k slice own (found.Gone front) = Unit {0}
 IsFoundIn register token k slice own found.Unknown = Unit {0}
+
+-- a buffer's read that found none says so of the block that was asked for
+abbrev pub IsUnfoundAt : (k : ℕ) → Reading → Type 0
+IsUnfoundAt k (readings.Chunk n shown) = Unit {0}
+IsUnfoundAt k (readings.Gone front) = Unit {0}
+IsUnfoundAt k (readings.Unknown unfound) = cause_of unfound ≡ causes.NoChunk k
+
+-- what was found, without the cause where that is nothing
+abbrev pub one_found : OneRead → Found
+one_found (ones.Chunk n) = found.Chunk n
+one_found (ones.Gone front) = found.Gone front
+one_found (ones.Unknown unfound) = found.Unknown
+
+-- the same of a read that may fail
+abbrev pub ones_found : Result OneRead Fault → Result Found Fault
+ones_found (Ok one) = Ok (one_found one)
+ones_found (Err fault) = Err fault
+
+-- where nothing was found it is for a cause of a read of block k, by reads that had this record
+abbrev pub IsOneUnfound : (k : ℕ) → Option (Where Record) → OneRead → Type 0
+IsOneUnfound k own (ones.Chunk n) = Unit {0}
+IsOneUnfound k own (ones.Gone front) = Unit {0}
+IsOneUnfound k own (ones.Unknown unfound) = IsCauseAt k own (cause_of unfound)
+
+-- where nothing was found as no buffer is the token's, there are only so many
+abbrev pub IsOneNowhere : (count : ℕ) → Token → OneRead → Type 0
+IsOneNowhere count token (ones.Chunk n) = Unit {0}
+IsOneNowhere count token (ones.Gone front) = Unit {0}
+IsOneNowhere count token (ones.Unknown unfound) = IsNowhere count token (cause_of unfound)
+
+-- what a reading is to reads that had this record: a chunk of another one is none
+abbrev pub found_in : Reading → Option (Where Record) → Found
+found_in (readings.Chunk n shown) None = found.Chunk n
+found_in (readings.Chunk n shown) (Some own) =
+    if shown.index == own.index then found.Chunk n else found.Unknown
+found_in (readings.Gone front) own = found.Gone front
+found_in (readings.Unknown unfound) own = found.Unknown
 
 -- with a chunk the reads have a record; else theirs is the one that it was
 abbrev pub IsRecordAfter : Result Found Fault → (old new : Option (Where Record)) → Type 0
@@ -205,16 +250,17 @@ IsFoundGone token (found.Gone front) = IsGoneBy front token
 IsFoundGone token found.Unknown = Unit {0}
 
 -- What reads that had the record `old` are told of a reading: a chunk of their record, which they
--- have from then on, is one; and what is gone is so.
+-- have from then on, is one; what is gone is so; and what is none is so for its cause.
 pub record TellsRead (register : Shelves) (reading : Reading) (old : Option (Where Record))
-    (found : Found) (new : Option (Where Record))
+    (one : OneRead) (new : Option (Where Record))
     : Type 0 where
+  pub told : one_found one ≡ found_in reading old
   pub chunk : (token : Token) (k : ℕ) (slice : List ℕ) → IsReading register token k slice reading
-      → IsFoundIn register token k slice new found
+      → IsFoundIn register token k slice new (one_found one)
   pub kept : IfSome old (λ w. new ≡ Some w)
-  pub after : IsRecordAfter (Ok found) old new
-  pub room : HasOctets reading → HasRoom found
-  pub gone : (token : Token) → IsPassed token reading → IsFoundGone token found
+  pub after : IsRecordAfter (Ok (one_found one)) old new
+  pub room : HasOctets reading → HasRoom (one_found one)
+  pub gone : (token : Token) → IsPassed token reading → IsFoundGone token (one_found one)
 
 -- the fault is the device's at a read of the token's article
 abbrev pub IsReadFault : Token → Fault → Type 0
@@ -234,6 +280,7 @@ pub record ReadsNumbered {S : Type 0} {s : Ghosts S} {J : Type 0} {j : store_pre
   pub number : IfOk result (IsNumberedAt (numbers_of old) token.first)
   pub room : IfOk result HasOctets
   pub gone : IfOk result (IsPassed (token_view token))
+  pub unknown : IfOk result (IsUnfoundAt k)
   pub fault : IfErr result (IsReadFault (token_view token))
   pub reads : ReadsBlock (buffer_of old) token k before (as_found result) after (buffer_of new)
   pub open_write : open_write_of new ≡ open_write_of old

@@ -11,6 +11,7 @@ use Rattle.live_store.specs.declared.writing.entering.Record.{Record}
 use Rattle.live_store.specs.declared.stored.Receipt.{Receipt}
 use Rattle.live_store.specs.declared.stored.Stored.{Stored}
 use Rattle.live_store.specs.declared.stored.Stored.TheVariants as stored
+use Rattle.live_store.specs.Handles.{IsConflictFor, conflict_in}
 use Rattle.live_store.specs.Tied.{text_in, token_in, named_in, fresh_in}
 
 -- the record of the number is one of this class with this text
@@ -28,12 +29,13 @@ pub record IsStoreFault (text : List ℕ) (fault : Fault) : Type 0 where
   pub kind : (fault.kind ≡ kinds.Write) ⊎ (fault.kind ≡ kinds.Worn)
   pub length : fault.length ≡ length text
 
--- the record of the receipt has class and text; or the fault is one of the storing of the text
+-- the record of the receipt has class and text; or the fault, or the conflict, is one of the storing
+-- of the text
 abbrev pub IsStored : {J : Type 0} {g : Ghosts J} → (class : ℕ) → (text : List ℕ) → Stored J g
     → Type 0
 IsStored class text (stored.Kept finished) = IsTextOf class text finished.receipt.shown
 IsStored class text (stored.Failed fault) = IsStoreFault text fault
-IsStored class text (stored.Conflict conflict) = Unit {0}
+IsStored class text (stored.Conflict conflict) = IsConflictFor text (conflict_in conflict)
 
 -- what is kept was begun with this flag
 abbrev pub IsBegunWith : {J : Type 0} {g : Ghosts J} → (fresh : Bool) → Stored J g → Type 0

@@ -4,6 +4,7 @@ ghost use Rattle.boxcar.specs.Table.{Shows};
 ghost use Rattle.live_store.specs.Tied.{text_in};
 
 use crate::record::{ArticleLog, RecordNumber, StorePremises};
+use crate::steps::Unfound;
 use cyc_buffer::{Fault, Front};
 use std::marker::PhantomData;
 
@@ -41,7 +42,7 @@ pub enum Fetched<J: StorePremises> {
     /// The article was overwritten: this front has passed it.
     Gone(Front),
     /// Nothing was finished under the token, or another article took its place meanwhile.
-    Unknown,
+    Unknown(Unfound),
     /// The device failed.
     Device(Fault),
 }

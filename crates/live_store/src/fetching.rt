@@ -1,14 +1,16 @@
 //! A fetch, in any thread: one block at a time under the buffer's lock.
-ghost use Rattle.std.specs.Prelude.{◌≡◌, ◌++◌, [], None, IfOk, OnOk};
+ghost use Rattle.std.specs.Prelude.{◌≡◌, ◌++◌, [], None, length, IfOk, OnOk};
 ghost use Rattle.cyc_token.specs.Token.{token_view};
 ghost use Rattle.live_store.specs.Fetches.{IsFetched, IsGathered};
 
+use crate::answers::OneRead;
 use crate::fetched::{Fetched, Text};
 use crate::following::OneRecord;
 use crate::numbered::NumberedBuffer;
 use crate::record::{ArticleLog, StorePremises};
+use crate::steps::Unfound;
 use cyc_block::{BlockStore, CHUNK_OCTETS};
-use cyc_buffer::{Found, size_of};
+use cyc_buffer::size_of;
 use cyc_token::Token;
 use std::alloc::{AllocError, Global};
 use std::marker::PhantomData;
@@ -24,14 +26,11 @@ pub fn fetch<S: BlockStore, J: StorePremises, R: Wait>(
     token: &Token,
 ) -> Result<Fetched<J>, AllocError>
     requires { register.now ≡ J.register }
-    ensures { IfOk result (IsFetched J.trusted (token_view token.now)) }
+    ensures { IfOk result (IsFetched J.trusted (length buffers.now) (token_view token.now)) }
 {
-    let Some(buffer) = buffers.get(usize::from(token.buffer)) else {
-        return Ok(Fetched::Unknown);
-    };
     let mut text = Vec::new(alloc);
     let mut reads = OneRecord::new();
-    match gather(rt, buffer, register, token, &mut reads, &mut text) {
+    match gather(rt, buffers, register, token, &mut reads, &mut text) {
         Ok(None) => {}
         Ok(Some(fetched)) => {
             drop(reads);
@@ -49,7 +48,7 @@ pub fn fetch<S: BlockStore, J: StorePremises, R: Wait>(
             shown,
             of: PhantomData,
         })),
-        None => Ok(Fetched::Unknown),
+        None => Ok(Fetched::Unknown(Unfound::no_octets(token))),
     }
 }
 
@@ -57,7 +56,7 @@ pub fn fetch<S: BlockStore, J: StorePremises, R: Wait>(
 /// else the answer of the fetch.
 fn gather<S: BlockStore, J: StorePremises, R: Wait>(
     rt: &R,
-    buffer: &Mutex<NumberedBuffer<S, J>>,
+    buffers: &[Mutex<NumberedBuffer<S, J>>],
     register: &ArticleLog,
     token: &Token,
     reads: &mut OneRecord<J>,
@@ -65,15 +64,15 @@ fn gather<S: BlockStore, J: StorePremises, R: Wait>(
 ) -> Result<Option<Fetched<J>>, AllocError>
     requires register { register.now ≡ J.register }
     requires none { (reads.old.shown ≡ None) × (text.old.items ≡ []) }
-    ensures { IfOk result
-        (IsGathered J.trusted (token_view token.now) reads.new.shown text.new.items) }
+    ensures { IfOk result (IsGathered J.trusted (length buffers.now) (token_view token.now)
+        reads.new.shown text.new.items) }
 {
     let mut chunk = [0; CHUNK_OCTETS];
     for k in 0..size_of(token.length) {
-        match reads.read(rt, buffer, register, token, k, &mut chunk) {
-            Ok(Found::Chunk(octets)) => join(text, token.length, &chunk[..octets])?,
-            Ok(Found::Gone(front)) => return Ok(Some(Fetched::Gone(front))),
-            Ok(Found::Unknown) => return Ok(Some(Fetched::Unknown)),
+        match reads.read(rt, buffers, register, token, k, &mut chunk) {
+            Ok(OneRead::Chunk(octets)) => join(text, token.length, &chunk[..octets])?,
+            Ok(OneRead::Gone(front)) => return Ok(Some(Fetched::Gone(front))),
+            Ok(OneRead::Unknown(unfound)) => return Ok(Some(Fetched::Unknown(unfound))),
             Err(fault) => return Ok(Some(Fetched::Device(fault))),
         }
     }

@@ -30,13 +30,13 @@ mod stored;
 mod unopened;
 mod writing;
 
-pub use answers::{Reading, WriteFault};
+pub use answers::{OneRead, Reading, WriteFault};
 pub use fetched::{Fetched, Text, same_text};
 pub use fetching::fetch;
-pub use following::OneRecord;
+pub use following::{OneRecord, same_record};
 pub use numbered::NumberedBuffer;
 pub use record::{ArticleLog, RecordNumber, StorePremises};
-pub use steps::{Conflict, Entered};
+pub use steps::{Conflict, ConflictCause, Entered, Unfound, UnfoundCause};
 pub use stopping::Unshut;
 pub use stored::{Finished, Receipt, Stored};
 pub use unopened::UnopenedNumbered;

@@ -1,9 +1,6 @@
 //! The steps under a buffer's lock, each one call of the buffer.
-ghost use Rattle.std.specs.Prelude.{◌≡◌, ◌↔◌, IsTrue, None, Some, IfSome, length, slice_index_or};
-ghost use Rattle.boxcar.specs.Table.{Shows};
-ghost use Rattle.live_store.specs.Handles.{shown_of};
-ghost use Rattle.live_store.specs.Tied.{text_in};
-ghost use Rattle.live_store.specs.Steps.{CanWriteFor, CanFinishFor, IsOfWrite, IsDevice};
+ghost use Rattle.std.specs.Prelude.{◌≡◌, None, Some, slice_index_or};
+ghost use Rattle.live_store.specs.Steps.{IsDevice};
 ghost use Rattle.cyc_buffer.specs.declared.answers.BufError.TheVariants as errors;
 
 use crate::answers::{Reading, WriteFault};
@@ -13,19 +10,24 @@ use crate::record::{ArticleLog, RecordNumber, StorePremises};
 use crate::stored::{Finished, Receipt};
 use crate::writing::Begun;
 use cyc_block::{BlockStore, CHUNK_OCTETS};
-use cyc_buffer::{BufError, Fault, Found, Open, size_of};
+use cyc_buffer::{BufError, Fault, Found, Open};
 use cyc_token::Token;
 use std::marker::PhantomData;
 
+mod beginning;
 mod entered;
+mod fitting;
 mod handles;
+mod unfound;
 
 pub use entered::Entered;
-pub use handles::Conflict;
-pub(crate) use handles::{octets_of, refused};
+use fitting::{can_finish, can_write, is_named};
+pub(crate) use handles::octets_of;
+pub use handles::{Conflict, ConflictCause};
+pub use unfound::{Unfound, UnfoundCause};
 
 impl<S: BlockStore, J: StorePremises> NumberedBuffer<S, J> {
-    ghost use Rattle.std.specs.Prelude.{◌≡◌, ◌≤◌, ◌<◌, Bool, true, None, Some, Ok, Err, IfOk};
+    ghost use Rattle.std.specs.Prelude.{◌≡◌, ◌+◌, ◌≤◌, ◌<◌, Bool, true, None, Some, Ok, Err, IfOk};
     ghost use Rattle.std.specs.Prelude.{OnOk, OnErr, IfErr, IsSomeAnd, slice_set};
     ghost use Rattle.boxcar.specs.Table.{Shows};
     ghost use Rattle.cyc_token.specs.Token.{token_view};
@@ -40,7 +42,10 @@ impl<S: BlockStore, J: StorePremises> NumberedBuffer<S, J> {
     ghost use Rattle.live_store.specs.Steps.{CanFinishFor, IsOfWrite, IsReading, IsPassed};
     ghost use Rattle.live_store.specs.Steps.{IsReadFault, HasOctets, IsShown, IsBeginFault};
     ghost use Rattle.live_store.specs.Steps.{IsWriteFault, as_found, IsConflict, ReadsNumbered};
-    ghost use Rattle.live_store.specs.Handles.{begun_token, begun_fresh, shown_of};
+    ghost use Rattle.live_store.specs.Steps.{IsUnfoundAt};
+    ghost use Rattle.live_store.specs.Handles.{begun_token, begun_fresh, blocks_of, shown_of};
+    ghost use Rattle.live_store.specs.Handles.{conflict_in, written_with};
+    ghost use Rattle.live_store.specs.declared.steps.handles.ConflictCause.TheVariants as conflicts;
     ghost use Rattle.live_store.specs.Stores.{receipt_token};
 
     /// Begins an article of a class and of so many octets, at least 1; `fresh` at the front of a
@@ -94,24 +99,31 @@ impl<S: BlockStore, J: StorePremises> NumberedBuffer<S, J> {
     pub fn write_next(
         &mut self,
         register: &ArticleLog,
-        entered: &Entered,
+        entered: &mut Entered,
         text: &[u8],
     ) -> Result<bool, WriteFault>
         requires register { register.now ≡ J.register }
-        requires shown { Shows J.register (shown_of entered.now) }
-        requires text { text.now ≡ text_in (shown_of entered.now) }
-        ensures writes { WritesOrConflicts self.old (shown_of entered.now) text.now
+        requires shown { Shows J.register (shown_of entered.old) }
+        requires text { text.now ≡ text_in (shown_of entered.old) }
+        // No block past the last is asked for.
+        requires left { written_with entered.old < blocks_of entered.old }
+        ensures writes { WritesOrConflicts self.old (shown_of entered.old) text.now
             result self.new }
         ensures fault { IfErr result (IsWriteFault text.now) }
         // Conflict says that no block can be written for the record.
         ensures conflict { IfErr result (λ e. IsConflict e
-            → IsSomeAnd (open_write_of self.old) (λ b. CanWriteFor b (shown_of entered.now)) → ⊥) }
+            → IsSomeAnd (open_write_of self.old) (λ b. CanWriteFor b (shown_of entered.old)) → ⊥) }
+        // The handle tells of one block more; else it is as it was.
+        ensures record { shown_of entered.new ≡ shown_of entered.old }
+        ensures blocks { blocks_of entered.new ≡ blocks_of entered.old }
+        ensures one { OnOk result (written_with entered.new ≡ written_with entered.old + 1) }
+        ensures none { OnErr result (written_with entered.new ≡ written_with entered.old) }
     {
         let Some(open_write) = &self.open_write else {
-            return Err(WriteFault::Conflict(Conflict(())));
+            return Err(WriteFault::Conflict(Conflict::of_write()));
         };
         if !can_write(register, open_write, entered, text.len()) {
-            return Err(WriteFault::Conflict(Conflict(())));
+            return Err(WriteFault::Conflict(Conflict::of_write()));
         }
         let Some(
             OpenWrite {
@@ -134,6 +146,7 @@ impl<S: BlockStore, J: StorePremises> NumberedBuffer<S, J> {
                     written + 1,
                     false,
                 );
+                entered.written += 1;
                 Ok(last)
             }
             Err(error) => {
@@ -158,6 +171,8 @@ impl<S: BlockStore, J: StorePremises> NumberedBuffer<S, J> {
     ) -> Result<Finished<J>, (Conflict, Entered)>
         requires register { register.now ≡ J.register }
         requires shown { Shows J.register (shown_of entered) }
+        // All blocks were written with it.
+        requires all { written_with entered ≡ blocks_of entered }
         ensures named { IfOk result (λ finished. finished.receipt.shown ≡ shown_of entered) }
         ensures finished { OnOk result
             (Follows with_finish (buffer_of self.old) (buffer_of self.new)) }
@@ -174,16 +189,21 @@ impl<S: BlockStore, J: StorePremises> NumberedBuffer<S, J> {
             (IsSomeAnd (open_write_of self.old) (λ b. CanFinishFor b (shown_of entered)) → ⊥) }
         ensures refused { OnErr result (self.new ≡ self.old) }
         ensures back { IfErr result (λ back. back.1 ≡ entered) }
+        ensures cause { IfErr result (λ back. conflict_in back.0 ≡ conflicts.Write) }
         // The device isn't called.
         ensures store { store_of (buffer_of self.new) ≡ store_of (buffer_of self.old) }
     {
         let Some(open_write) = &self.open_write else {
-            return Err((Conflict(()), entered));
+            return Err((Conflict::of_write(), entered));
         };
         if !can_finish(register, open_write, &entered) {
-            return Err((Conflict(()), entered));
+            return Err((Conflict::of_write(), entered));
         }
-        let Entered { token: _, shown } = entered;
+        let Entered {
+            token: _,
+            shown,
+            written: _,
+        } = entered;
         let Some(
             OpenWrite {
                 write,
@@ -227,10 +247,14 @@ impl<S: BlockStore, J: StorePremises> NumberedBuffer<S, J> {
             Some(open_write) => is_named(register, open_write, &entered),
             None => false,
         };
-        let Entered { shown, token: _ } = entered;
+        let Entered {
+            shown,
+            token: _,
+            written: _,
+        } = entered;
         drop(shown);
         if !named {
-            return Err(Conflict(()));
+            return Err(Conflict::of_write());
         }
         let Some(
             OpenWrite {
@@ -263,6 +287,8 @@ impl<S: BlockStore, J: StorePremises> NumberedBuffer<S, J> {
         ensures number { IfOk result (IsNumberedAt (numbers_of self.old) token.now.first) }
         ensures room { IfOk result HasOctets }
         ensures gone { IfOk result (IsPassed (token_view token.now)) }
+        // Unknown is said of the block that was asked for.
+        ensures unknown { IfOk result (IsUnfoundAt k) }
         // An error is the device's fault at a read of this article.
         ensures fault { IfErr result (IsReadFault (token_view token.now)) }
         // It is the buffer's own read: what is found, the slice, the buffer after and its device.
@@ -290,7 +316,7 @@ impl<S: BlockStore, J: StorePremises> NumberedBuffer<S, J> {
                 None => unreachable!(),
             },
             Ok(Found::Gone(front)) => Ok(Reading::Gone(front)),
-            Ok(Found::Unknown) => Ok(Reading::Unknown),
+            Ok(Found::Unknown) => Ok(Reading::Unknown(Unfound::no_chunk(k))),
             Err(error) => Err(device_fault(error)),
         }
     }
@@ -339,56 +365,5 @@ fn put(
     match before {
         None => {}
         Some(_) => unreachable!(),
-    }
-}
-
-/// Whether the next block of an open write can be written for a record, whose text has so many
-/// octets.
-fn can_write(
-    register: &ArticleLog,
-    open_write: &OpenWrite,
-    entered: &Entered,
-    octets: usize,
-) -> bool
-    requires shown { Shows register.now (shown_of entered.now) }
-    requires own { IfSome open_write.now.shown (λ w. Shows register.now w) }
-    requires octets { octets ≡ length (text_in (shown_of entered.now)) }
-    ensures { IsTrue result ↔ CanWriteFor open_write.now (shown_of entered.now) }
-{
-    let length = open_write.write.length();
-    !open_write.broken
-        && is_named(register, open_write, entered)
-        && open_write.written < size_of(length)
-        && octets == length as usize
-}
-
-/// Whether an open write can be finished for a record.
-fn can_finish(register: &ArticleLog, open_write: &OpenWrite, entered: &Entered) -> bool
-    requires shown { Shows register.now (shown_of entered.now) }
-    requires own { IfSome open_write.now.shown (λ w. Shows register.now w) }
-    ensures { IsTrue result ↔ CanFinishFor open_write.now (shown_of entered.now) }
-{
-    !open_write.broken
-        && open_write.shown.is_some()
-        && is_named(register, open_write, entered)
-        && open_write.written == size_of(open_write.write.length())
-}
-
-/// Whether an open write is the record's: it has the record's number, or has none yet and has the
-/// record's token.
-fn is_named(register: &ArticleLog, open_write: &OpenWrite, entered: &Entered) -> bool
-    requires shown { Shows register.now (shown_of entered.now) }
-    requires own { IfSome open_write.now.shown (λ w. Shows register.now w) }
-    ensures { IsTrue result ↔ IsOfWrite open_write.now (shown_of entered.now) }
-{
-    match &open_write.shown {
-        None => entered.token == open_write.write.token(),
-        Some(own) => {
-            if own.index() != entered.shown.index() {
-                return false;
-            }
-            register.agrees(own, &entered.shown);
-            true
-        }
     }
 }

@@ -1,7 +1,7 @@
 //! Storing a text, a step at a time, each under the lock.
-ghost use Rattle.std.specs.Prelude.{◌≡◌, IfErr};
+ghost use Rattle.std.specs.Prelude.{◌≡◌, IfErr, OnOk};
 ghost use Rattle.boxcar.specs.Table.{Shows};
-ghost use Rattle.live_store.specs.Handles.{shown_of};
+ghost use Rattle.live_store.specs.Handles.{blocks_of, shown_of, written_with};
 ghost use Rattle.live_store.specs.Tied.{text_in};
 ghost use Rattle.live_store.specs.Steps.{IsWriteFault};
 ghost use Rattle.live_store.specs.Stores.{IsBegunWith, IsGivenUp, IsStored};
@@ -10,9 +10,9 @@ ghost use Rattle.news_terms.specs.ArticleTexts.{IsArticle};
 use crate::answers::WriteFault;
 use crate::numbered::NumberedBuffer;
 use crate::record::{ArticleLog, StorePremises};
-use crate::steps::{Entered, octets_of, refused};
+use crate::steps::{Entered, octets_of};
 use crate::stored::Stored;
-use cyc_block::{BlockStore, CHUNK_OCTETS};
+use cyc_block::BlockStore;
 use std::sync::{Mutex, Wait};
 
 mod entering;
@@ -42,16 +42,16 @@ pub fn store<S: BlockStore, J: StorePremises, R: Wait>(
         Ok(octets) => octets,
         Err(conflict) => return Stored::Conflict(conflict),
     };
-    let answer = buffer.lock(rt).begin(class, octets, fresh);
+    let answer = buffer.lock(rt).begin_told(class, octets, fresh);
     let begun = match answer {
         Ok(begun) => begun,
-        Err(error) => match refused(error) {
+        Err(told) => match told {
             Ok(fault) => return Stored::Failed(fault),
             Err(conflict) => return Stored::Conflict(conflict),
         },
     };
-    let entered = Record::enter(rt, register, begun, text);
-    if let Err(fault) = write_all(rt, buffer, register, &entered, text) {
+    let mut entered = Record::enter(rt, register, begun, text);
+    if let Err(fault) = write_all(rt, buffer, register, &mut entered, text) {
         return give_up(rt, buffer, register, entered, fault);
     }
     let finished = buffer.lock(rt).finish(register, entered);
@@ -74,15 +74,18 @@ fn write_all<S: BlockStore, J: StorePremises, R: Wait>(
     rt: &R,
     buffer: &Mutex<NumberedBuffer<S, J>>,
     register: &ArticleLog,
-    entered: &Entered,
+    entered: &mut Entered,
     text: &[u8],
 ) -> Result<(), WriteFault>
     requires register { register.now ≡ J.register }
-    requires shown { Shows J.register (shown_of entered.now) }
-    requires text { text.now ≡ text_in (shown_of entered.now) }
-    ensures { IfErr result (IsWriteFault text.now) }
+    requires shown { Shows J.register (shown_of entered.old) }
+    requires text { text.now ≡ text_in (shown_of entered.old) }
+    requires none { written_with entered.old ≡ 0 }
+    ensures fault { IfErr result (IsWriteFault text.now) }
+    ensures record { shown_of entered.new ≡ shown_of entered.old }
+    ensures all { OnOk result (written_with entered.new ≡ blocks_of entered.new) }
 {
-    for _ in 0..text.len().div_ceil(CHUNK_OCTETS) {
+    for _block in 0..entered.blocks() {
         let _last = buffer.lock(rt).write_next(register, entered, text)?;
     }
     Ok(())

@@ -13,10 +13,12 @@ impl<S: BlockStore + Drop, J: StorePremises, L: Ledger> Shared<S, J, L> {
     ghost use Rattle.std.specs.Prelude.{IfOk};
     ghost use Rattle.cyc_token.specs.Token.{token_view};
     ghost use Rattle.live_store.specs.Fetches.{IsFetched};
+    ghost use Rattle.relay_live.specs.Making.{buffers_in};
 
     /// Fetches the text under a token, in any thread: one block at a time under the lock of the
     /// token's buffer. A text that is given whole is that of the record of its number, which has
-    /// the token; gone is said with a front, and a device's failure with its fault.
+    /// the token; gone is said with a front, unknown with its cause, and a device's failure with its
+    /// fault.
     pub fn fetch<R: Wait>(
         &self,
         rt: &R,
@@ -25,7 +27,8 @@ impl<S: BlockStore + Drop, J: StorePremises, L: Ledger> Shared<S, J, L> {
         token: &Token,
     ) -> Result<Fetched<J>, AllocError>
         requires { register.now ≡ J.register }
-        ensures { IfOk result (IsFetched J.trusted (token_view token.now)) }
+        ensures { IfOk result
+            (IsFetched J.trusted (buffers_in self.now) (token_view token.now)) }
     {
         fetch(rt, alloc, self.buffers.locks(), register, token)
     }

@@ -2,13 +2,13 @@
 
 use crate::shared::Shared;
 use cyc_block::{BlockStore, CHUNK_OCTETS};
-use cyc_buffer::{Fault, Found};
+use cyc_buffer::Fault;
 use cyc_token::Token;
 use feed_queue::Taken;
 use id_history::{Offer, Take};
 use live_jobs::{JobAnswer, KeptJob};
 use live_session::Shares;
-use live_store::{ArticleLog, OneRecord, StorePremises};
+use live_store::{ArticleLog, OneRead, OneRecord, StorePremises};
 use nntp_text::MsgId;
 use std::alloc::{AllocError, Global};
 use std::sync::Wait;
@@ -64,11 +64,8 @@ impl<S: BlockStore + Drop, J: StorePremises, L: Ledger, R: Wait> Shares<J, R> fo
         token: &Token,
         k: u32,
         chunk: &mut [u8; CHUNK_OCTETS],
-    ) -> Result<Found, Fault> {
-        match self.buffers.locks().get(usize::from(token.buffer)) {
-            Some(buffer) => reads.read(rt, buffer, register, token, k, chunk),
-            None => Ok(Found::Unknown),
-        }
+    ) -> Result<OneRead, Fault> {
+        reads.read(rt, self.buffers.locks(), register, token, k, chunk)
     }
 
     fn outcome(&self, rt: &R, end: u64, number: u64, _kept: &Vec<KeptJob<J>>) -> JobAnswer<J> {

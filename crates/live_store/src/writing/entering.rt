@@ -62,9 +62,9 @@ const _: () = prove!(size_of::<Record>() == 0);
 const _: () = prove!(size_of::<Place<Record>>() == 16);
 
 impl Record {
-    ghost use Rattle.std.specs.Prelude.{◌≡◌, IfOk};
+    ghost use Rattle.std.specs.Prelude.{◌≡◌, length, IfOk};
     ghost use Rattle.boxcar.specs.Table.{Shows};
-    ghost use Rattle.live_store.specs.Handles.{begun_token, begun_fresh, shown_of};
+    ghost use Rattle.live_store.specs.Handles.{begun_token, begun_fresh, shown_of, written_with};
     ghost use Rattle.live_store.specs.Tied.{text_in, named_in, fresh_in};
 
     /// Enters an article under its token in the register. Where memory is refused it gives way and
@@ -76,7 +76,9 @@ impl Record {
         text: &Vec<u8>,
     ) -> Entered
         requires article { ∥ IsArticle text.now.items ∥₁ }
+        requires long { length text.now.items ≡ (begun_token begun).length }
         ensures shown { Shows register.now (shown_of result) }
+        ensures none { written_with result ≡ 0 }
         ensures token { named_in (shown_of result) ≡ begun_token begun }
         ensures fresh { fresh_in (shown_of result) ≡ begun_fresh begun }
         ensures text { text_in (shown_of result) ≡ text.now.items }

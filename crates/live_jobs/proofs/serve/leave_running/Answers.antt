@@ -10,8 +10,8 @@ loop-plan-init g c =
     subst (λ left. From (λ n p. IsSeatOf c.args.channels.now p.seat) 0 (into_iter_items left))
     (sym c.into_iter-plan-iterator.ensures.into_iter_gives) c.requires.fit
 
-pub push_marks-requires-clause-fits : goal.push_marks-requires-clause-fits
-push_marks-requires-clause-fits g c =
+pub leave_writers-requires-clause-seat : goal.leave_writers-requires-clause-seat
+leave_writers-requires-clause-seat g c =
     from_head (λ n p. IsSeatOf c.args.channels.now p.seat) 0 _ _ _ c.loop-plan.invariant
     c.in-Some.ensures.steps.0
 

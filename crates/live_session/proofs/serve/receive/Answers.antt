@@ -1,5 +1,6 @@
-use Rattle.std.proofs.Common.{◌∙◌, ◌++◌, [], Some, ap, refl, sym, take}
-use Rattle.std.proofs.lemmas.List.{append-nil}
+use Rattle.std.proofs.Common.{◌∙◌, ◌++◌, [], Some, Ok, Err, ap, inl, inr, is_some}
+use Rattle.std.proofs.Common.{refl, sym, take, true≢false}
+use Rattle.std.proofs.lemmas.List.{append-nil, length-take-le}
 use Rattle.live_session.proofs.Carrying.{breaks, lasts_same, lost, piece_came, same_heard}
 use Rattle.live_session.proofs.LiveSessions.{fed, served_still, still, then_same}
 use Rattle.live_session.proofs.serve.receive.Goals as goal
@@ -24,6 +25,19 @@ returns-in-Ok-eq0 g c =
           (none_of wire.finish (sym c.is_some.ensures ∙ c.if-is_some.false)));
       ends = breaks wire.finish;
       turns = refl;
+      waiting = refl;
+      broken = λ is. inr (λ w m gathered stands. stands);
+      read = λ none reading. ∣ record {
+        answer = Ok c.in-Ok-eq0.field-0;
+        came = (
+          take c.in-Ok-eq0.field-0 c.hear.new.room.items,
+          length-take-le
+              c.in-Ok-eq0.field-0 c.hear.new.room.items c.in-Ok-eq0.ensures.ok.0,
+          c.in-Ok-eq0.ensures.ok.1,
+        );
+        failed = tt;
+        over = λ is. refl;
+      } ∣₁;
     }
 
 pub returns-in-Ok-feed : goal.returns-in-Ok-feed
@@ -46,6 +60,19 @@ returns-in-Ok-feed g c =
           (none_of wire.finish (sym c.is_some.ensures ∙ c.if-is_some.false)));
       ends = lasts_same wire.finish;
       turns = c.read.ensures.rest.2;
+      waiting = refl;
+      broken = λ is. inl is;
+      read = λ none reading. ∣ record {
+        answer = Ok c.in-Ok.n;
+        came = (
+          take c.in-Ok.n c.hear.new.room.items,
+          length-take-le c.in-Ok.n
+              c.hear.new.room.items c.in-Ok.ensures.ok.0,
+          c.in-Ok.ensures.ok.1,
+        );
+        failed = tt;
+        over = λ is. absurd (c.in-Ok.n-test.1 is);
+      } ∣₁;
     }
 
 pub returns-in-Err-feed : goal.returns-in-Err-feed
@@ -67,6 +94,19 @@ returns-in-Err-feed g c =
           (none_of wire.finish (sym c.is_some.ensures ∙ c.if-is_some.false)));
       ends = breaks wire.finish;
       turns = c.read.ensures.rest.2;
+      waiting = refl;
+      broken = λ is. inr c.in-Err-feed.ensures.err;
+      read = λ none reading. ∣ record {
+        answer = Ok c.in-Ok.n;
+        came = (
+          take c.in-Ok.n c.hear.new.room.items,
+          length-take-le c.in-Ok.n
+              c.hear.new.room.items c.in-Ok.ensures.ok.0,
+          c.in-Ok.ensures.ok.1,
+        );
+        failed = tt;
+        over = λ is. refl;
+      } ∣₁;
     }
 
 pub returns-in_default : goal.returns-in_default
@@ -86,6 +126,14 @@ returns-in_default g c =
           (none_of wire.finish (sym c.is_some.ensures ∙ c.if-is_some.false)));
       ends = breaks wire.finish;
       turns = refl;
+      waiting = refl;
+      broken = λ is. inr (λ w m gathered stands. stands);
+      read = λ none reading. ∣ record {
+        answer = Err c.in-Err.error;
+        came = tt;
+        failed = c.in-Err.ensures.err;
+        over = λ is. refl;
+      } ∣₁;
     }
 
 pub returns-in-Interrupted : goal.returns-in-Interrupted
@@ -103,4 +151,36 @@ returns-in-Interrupted g c =
           (same_heard old heard c.in-Err.ensures.err);
       ends = lasts_same wire.finish;
       turns = refl;
+      waiting = refl;
+      broken = λ is. inl is;
+      read = λ none reading. ∣ record {
+        answer = Err c.in-Err.error;
+        came = tt;
+        failed = c.in-Err.ensures.err;
+        over = λ other. absurd (other (sym c.kind.ensures ∙ c.in-Interrupted.is));
+      } ∣₁;
     }
+
+pub returns-then-is_some : goal.returns-then-is_some
+returns-then-is_some g c = record {
+  seat = refl;
+  served = λ w honest trust s end first read written one. one;
+  ends = lasts_same c.args.talk.now.wire.finish;
+  turns = refl;
+  waiting = refl;
+  broken = λ is. inl is;
+  read = λ none reading. absurd (true≢false (sym c.if-is_some.true ∙ c.is_some.ensures
+      ∙ ap is_some none));
+}
+
+pub returns-then-not-is_reading : goal.returns-then-not-is_reading
+returns-then-not-is_reading g c = record {
+  seat = refl;
+  served = λ w honest trust s end first read written one. one;
+  ends = lasts_same c.args.talk.now.wire.finish;
+  turns = refl;
+  waiting = refl;
+  broken = λ is. inl is;
+  read = λ none reading. absurd (true≢false (sym reading ∙ sym c.is_reading.ensures
+      ∙ c.if-not-is_reading.true));
+}

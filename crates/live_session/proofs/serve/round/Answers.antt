@@ -1,4 +1,5 @@
-use Rattle.std.proofs.Common.{◌∙◌, ap, inr, refl, subst, sym}
+use Rattle.std.proofs.Common.{◌≡◌, ◌∙◌, ◌<◌, ℕ, ap, arith, inr, length, refl, subst, sym}
+use Rattle.std.specs.Global.{Vec}
 use Rattle.article_verdict.specs.Config.{terms_of}
 use Rattle.live_jobs.specs.Seats.{IsSeatOf, end_of}
 use Rattle.live_jobs.specs.declared.session.SessionSeat.{SessionSeat}
@@ -7,8 +8,13 @@ use Rattle.live_session.proofs.Differs.{held-spent, memory-held, rests-held, say
 use Rattle.live_session.proofs.LiveSessions.{served_still, served_turn, then_on, then_same}
 use Rattle.live_session.proofs.serve.round.Goals as goal
 use Rattle.live_session.specs.Carried.{carried}
+use Rattle.live_session.specs.Counts.{most_waiting}
 use Rattle.live_session.specs.Turns.{HadRound}
 use Rattle.live_session.specs.declared.wire.Finish.TheVariants as finishes
+
+-- where nothing waits, it is little
+none_waits : (n : ℕ) → n ≡ 0 → n < most_waiting
+none_waits n none = omega (arith, none)
 
 pub returns-in-Says : goal.returns-in-Says
 returns-in-Says g c =
@@ -41,6 +47,7 @@ returns-in-Says g c =
       };
       turns = c.say.ensures.turns;
       newest = λ _. c.in-Says.ensures.newest (says-held c.in-Says.said);
+      waiting = λ few. c.write_on.ensures.few;
     })
 
 pub returns-in-Rests : goal.returns-in-Rests
@@ -70,6 +77,8 @@ returns-in-Rests g c =
       };
       turns = c.receive.ensures.turns ∙ c.tell.ensures.rest.1;
       newest = λ _. c.in-Rests.ensures.newest rests-held;
+      waiting = λ few. none_waits _ (ap length c.receive.ensures.waiting
+          ∙ ap length c.flush.ensures.none);
     }
 
 -- the gate said no
@@ -99,6 +108,8 @@ returns-in-Held g c =
       turns = refl;
       newest = λ none. absurd (stopped_over wire.finish last.finish finishes.Held
           c.stop.ensures.finish none);
+      waiting = subst (λ (o : Vec ℕ). length wire.outbox.items < most_waiting
+          → length o.items < most_waiting) (sym c.stop.ensures.waiting) (λ few. few);
     }
 
 pub returns-in-Memory : goal.returns-in-Memory
@@ -128,4 +139,6 @@ returns-in-Memory g c =
       };
       turns = refl;
       newest = λ _. c.in-Memory.ensures.newest memory-held;
+      waiting = λ few. none_waits _ (ap (λ (o : Vec ℕ). length o.items) c.stop-in-Memory.ensures.waiting
+          ∙ ap length c.flush-in-Memory.ensures.none);
     }

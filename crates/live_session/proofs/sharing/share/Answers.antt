@@ -1,11 +1,12 @@
-use Rattle.std.proofs.Common.{refl, subst, sym}
+use Rattle.std.proofs.Common.{◌∙◌, ap, refl, subst, sym}
+use Rattle.std.proofs.lemmas.Option.{same_Some}
 use Rattle.live_jobs.specs.Seats.{IsSeatOf}
 use Rattle.live_jobs.specs.declared.session.SessionSeat.{SessionSeat}
 use Rattle.live_session.proofs.Differs.{chunk-memory}
 use Rattle.live_session.proofs.Sharings.{looked, nothing, offered, queued, refused, released}
 use Rattle.live_session.proofs.Sharings.{taken_up, was_read}
 use Rattle.live_session.proofs.sharing.share.Goals as goal
-use Rattle.live_session.specs.Going.{SharesFor}
+use Rattle.live_session.specs.Going.{IsReadAt, IsStepRead, SharesFor, block_in}
 use Rattle.live_session.specs.Turns.{DidStep}
 use Rattle.peer_session.specs.declared.steps.Answer.TheVariants as answers
 use Rattle.peer_session.specs.declared.steps.Step.{Step}
@@ -21,6 +22,9 @@ returns-in-Nothing g c =
       place = record { number = refl; end_is = refl };
       shared = subst P (sym c.in-Nothing.is)
           (λ w. nothing w live);
+      reads = tt;
+      slot = tt;
+      push = tt;
       memory = λ same. record { session = refl; reads = refl; hands = refl };
     }
 
@@ -34,6 +38,9 @@ returns-in-Ok g c =
       place = record { number = refl; end_is = refl };
       shared = subst P (sym c.in-Offer.is)
           (λ w. offered w live c.in-Offer.id c.in-Ok.offer);
+      reads = tt;
+      slot = tt;
+      push = tt;
       memory = λ same. record { session = refl; reads = refl; hands = refl };
     }
 
@@ -47,6 +54,9 @@ returns-in-Look g c =
       place = record { number = refl; end_is = refl };
       shared = subst P (sym c.in-Look.is)
           (λ w. looked w live c.in-Look.id c.look.result);
+      reads = tt;
+      slot = tt;
+      push = tt;
       memory = λ same. record { session = refl; reads = refl; hands = refl };
     }
 
@@ -62,7 +72,11 @@ returns-in-Read g c =
       shared = subst P (sym c.in-Read.is)
           (λ w. was_read w live c.in-Read.token c.in-Read.k c.read.result new
           (record { session = refl; hands = refl; place = record { number = refl; end_is = refl } })
-          c.read.ensures);
+          c.read.ensures.reads);
+      reads = λ k is. subst (λ n. ∥ IsReadAt n live.reads.shown new.reads.shown c.read.result ∥₁)
+          (same_Some c.in-Read.k k (sym (ap block_in c.in-Read.is) ∙ is)) c.read.ensures.cause;
+      slot = tt;
+      push = tt;
       memory = λ is. absurd (chunk-memory c.read.result is);
     }
 
@@ -77,6 +91,9 @@ returns-in-Ok-take_queue g c =
       shared = subst P (sym c.in-TakeQueue.is)
           (λ w. queued w live c.in-TakeQueue.feed c.in-TakeQueue.most c.in-Ok-take_queue.taken
           c.in-Ok-take_queue.ensures);
+      reads = tt;
+      slot = tt;
+      push = tt;
       memory = λ same. record { session = refl; reads = refl; hands = refl };
     }
 
@@ -89,6 +106,9 @@ returns-in-Ok-refuse g c =
       place = record { number = refl; end_is = refl };
       shared = subst P (sym c.in-Refuse.is)
           (λ w. refused w live c.in-Refuse.id);
+      reads = tt;
+      slot = tt;
+      push = tt;
       memory = λ same. record { session = refl; reads = refl; hands = refl };
     }
 
@@ -102,6 +122,9 @@ returns-in-Ok-take g c =
       place = record { number = refl; end_is = refl };
       shared = subst P (sym c.in-Take.is)
           (λ w. taken_up w live c.in-Take.id c.in-Ok-take.told c.in-Ok-take.ensures.once);
+      reads = tt;
+      slot = tt;
+      push = tt;
       memory = λ same. record { session = refl; reads = refl; hands = refl };
     }
 
@@ -114,6 +137,9 @@ returns-in-Release g c =
       place = record { number = refl; end_is = refl };
       shared = subst P (sym c.in-Release.is)
           (λ w. released w live c.in-Release.id);
+      reads = tt;
+      slot = tt;
+      push = tt;
       memory = λ same. record { session = refl; reads = refl; hands = refl };
     }
 
@@ -123,6 +149,9 @@ returns-in-Err g c = record {
   seat = c.requires.seat;
   place = record { number = refl; end_is = refl };
   shared = λ w honest trusts m d gathered planned is fits other. absurd (other refl);
+  reads = tt;
+  slot = tt;
+  push = tt;
   memory = λ same. record { session = refl; reads = refl; hands = refl };
 }
 
@@ -131,6 +160,9 @@ returns-in-Err-take_queue g c = record {
   seat = c.requires.seat;
   place = record { number = refl; end_is = refl };
   shared = λ w honest trusts m d gathered planned is fits other. absurd (other refl);
+  reads = tt;
+  slot = tt;
+  push = tt;
   memory = λ same. record { session = refl; reads = refl; hands = refl };
 }
 
@@ -139,6 +171,9 @@ returns-in-Err-refuse g c = record {
   seat = c.requires.seat;
   place = record { number = refl; end_is = refl };
   shared = λ w honest trusts m d gathered planned is fits other. absurd (other refl);
+  reads = tt;
+  slot = tt;
+  push = tt;
   memory = λ same. record { session = refl; reads = refl; hands = refl };
 }
 
@@ -147,6 +182,9 @@ returns-in-Err-take g c = record {
   seat = c.requires.seat;
   place = record { number = refl; end_is = refl };
   shared = λ w honest trusts m d gathered planned is fits other. absurd (other refl);
+  reads = tt;
+  slot = tt;
+  push = tt;
   memory = λ same. record { session = refl; reads = refl; hands = refl };
 }
 
@@ -167,5 +205,9 @@ returns-in-Slot g c =
       seat = subst S (sym c.look_in_slot.ensures.seat) c.requires.seat;
       place = c.look_in_slot.ensures.place;
       shared = subst P (sym c.in-Slot.is) c.look_in_slot.ensures.shared;
+      reads = subst (λ s. IsStepRead s c.look_in_slot.result c.args.live.now.reads.shown
+          c.look_in_slot.new.live.reads.shown) (sym c.in-Slot.is) c.look_in_slot.ensures.reads;
+      slot = c.look_in_slot.ensures.slot;
+      push = c.look_in_slot.ensures.push _ _;
       memory = c.look_in_slot.ensures.memory;
     }

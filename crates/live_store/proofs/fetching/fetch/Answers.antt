@@ -1,4 +1,4 @@
-use Rattle.std.proofs.Common.{subst}
+use Rattle.std.proofs.Common.{length, subst}
 use Rattle.std.specs.Prelude.{IfSome}
 use Rattle.cyc_token.specs.Token.{token_view}
 use Rattle.live_store.specs.Fetches.{IsGathered, IsWholeOf}
@@ -11,8 +11,15 @@ invariant_of-result g c =
     let shown = c.gather.new.reads.shown in
     let octets = c.gather.new.text.items in
     record {
-      here = c.gather.new.reads.here c.in-Some-shown.shown c.in-Some-shown.is;
-      whole = λ trusted. (subst (λ o. IfSome o (IsWholeOf token octets)) c.in-Some-shown.is
-          (subst (IsGathered g.J.StorePremises.trusted token shown octets)
-          c.in-Ok-None.field-0-is c.in-Ok-None.ensures trusted)).text;
+      here = c.gather.new.reads.here c.in-Some.shown c.in-Some.is;
+      whole = λ trusted. (subst (λ o. IfSome o (IsWholeOf token octets)) c.in-Some.is
+          ((subst (IsGathered g.J.StorePremises.trusted (length c.args.buffers.now) token shown
+          octets) c.in-Ok-None.field-0-is c.in-Ok-None.ensures).whole trusted)).text;
     }
+
+-- without a record there was no block
+pub no_octets-requires : goal.no_octets-requires
+no_octets-requires g c =
+    (subst (IsGathered g.J.StorePremises.trusted (length c.args.buffers.now)
+    (token_view c.args.token.now) c.gather.new.reads.shown c.gather.new.text.items)
+    c.in-Ok-None.field-0-is c.in-Ok-None.ensures).some c.in-None.is

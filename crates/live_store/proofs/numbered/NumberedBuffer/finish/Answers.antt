@@ -97,6 +97,7 @@ returns-then-not-can_finish g c = record {
       (subst (λ o. IsSomeAnd o (λ b. CanFinishFor b c.args.entered.shown)) c.in-Some.is can));
   refused = refl;
   back = refl;
+  cause = c.of_write-then-not-can_finish.ensures;
   store = refl;
 }
 
@@ -127,5 +128,6 @@ returns g c =
       conflict = tt;
       refused = tt;
       back = tt;
+      cause = tt;
       store = c.finish-token.ensures.store;
     }

@@ -49,6 +49,7 @@ returns-in-Some g c =
       number = here;
       room = reads.room;
       gone = tt;
+      unknown = tt;
       fault = tt;
       reads = reads;
       open_write = refl;
@@ -67,6 +68,7 @@ returns-in-Ok-Gone g c =
       gone = read_gone old.buffer c.args.token.now c.args.k c.in-Ok-Gone.front
           (subst (IsFoundBy old.buffer c.args.token.now c.args.k) is
           c.read_block.ensures.remembered);
+      unknown = tt;
       fault = tt;
       reads = subst (λ r. ReadsBlock old.buffer c.args.token.now c.args.k c.args.chunk.now r
           c.read_block.new.chunk c.read_block.new.self) is c.read_block.ensures.reads;
@@ -81,6 +83,7 @@ returns-in-Ok-Unknown g c = record {
   number = tt;
   room = tt;
   gone = tt;
+  unknown = c.no_chunk.ensures;
   fault = tt;
   reads = subst (λ r. ReadsBlock c.args.self.now.buffer c.args.token.now c.args.k c.args.chunk.now r
       c.read_block.new.chunk c.read_block.new.self)
@@ -96,6 +99,7 @@ returns-in-Err g c = record {
   number = tt;
   room = tt;
   gone = tt;
+  unknown = tt;
   fault = read_fails c.args.self.now.buffer c.args.token.now c.in-Err.error c.device_fault.result
       c.in-Err.ensures.remembered c.device_fault.ensures;
   reads = subst (λ r. ReadsBlock c.args.self.now.buffer c.args.token.now c.args.k c.args.chunk.now r

@@ -87,7 +87,9 @@ returns-in-Err-read_back g c =
             blocks = length (g.S.BlockStore.blocks c.args.store);
             first_cycle = c.args.first_cycle;
           }) c.in-Ok.started.stop c.in-Ok.started.tokens.items (was.started honest)
-          c.in-Err-read_back.refused.error read.fault;
+          c.in-Err-read_back.refused.error read.fault
+          (λ under h held same. read.refused h (was.agrees honest under h held same)
+          (was.tokens honest under h held));
       unopened = tt;
       idle = tt;
       under = tt;
