@@ -282,7 +282,7 @@ class Texts:
         if is_file and len(steps) == 2 and steps[0] in ("specs", "proofs"):
             return inside
         found = [it for step in steps for it in self.named.get((crate, step), ())]
-        if (crate, last) in self.named or last in self.calls:
+        if (crate, last) in self.named or any(it.crate == crate for it in self.calls.get(last, ())):
             return found
         if is_file:
             return found + inside
