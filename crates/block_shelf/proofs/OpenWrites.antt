@@ -3,8 +3,9 @@ use Rattle.std.proofs.Common.{◌≡◌, ◌≢◌, ◌∙◌, ℕ, ◌+◌, ◌
 use Rattle.std.proofs.Common.{subst, arith, take, length, List, [], ◌∷◌, ◌++◌, Option, None, Some}
 use Rattle.std.proofs.Common.{slice_get, Result, Ok, Err}
 use Rattle.std.proofs.lemmas.List.{length-take, take_min, take_all}
-use Rattle.std.proofs.lemmas.Option.{same_Some, none-some}
-use Rattle.std.specs.Prelude.{count_by}
+use Rattle.std.proofs.lemmas.Bool.{ltb-false}
+use Rattle.std.proofs.lemmas.Option.{same_Some, none-some, slice_get_past}
+use Rattle.std.specs.Prelude.{IsSomeAnd, count_by}
 use Rattle.cyc_block.specs.declared.store.BlockStore.{Ghosts}
 use Rattle.cyc_buffer.proofs.OpenLemmas.{can_write, can_finish, is_open}
 use Rattle.cyc_buffer.specs.Agreement as buffers
@@ -37,11 +38,14 @@ use Rattle.block_shelf.proofs.Writings.{writing_ended, writing_here}
 use Rattle.block_shelf.proofs.Shelving.{KeptAt, buffers_kept, failed_once, groups_kept, kept_at}
 use Rattle.block_shelf.proofs.Shelving.{only_there, opened_after, past_last, replaced, stands}
 use Rattle.block_shelf.proofs.Shelving.{with_buffer}
+use Rattle.block_shelf.specs.Calls as calls
 use Rattle.block_shelf.specs.Calls.{WrittenAs}
 use Rattle.block_shelf.specs.Histories.{IsHistoryOf, IsWriting}
-use Rattle.block_shelf.specs.Keeping.{KeepsTexts, HasItsLength}
+use Rattle.block_shelf.specs.Keeping.{HasBuffer, KeepsTexts, HasItsLength}
 use Rattle.block_shelf.specs.Openings.{Opening, IsOpen, IsBroken, token_in}
+use Rattle.block_shelf.specs.declared.buffer_set.Begun.{Begun}
 use Rattle.block_shelf.specs.declared.buffer_set.BufferSet.{BufferSet}
+use Rattle.block_shelf.specs.declared.buffer_set.WriteError.TheVariants as errors
 
 -- so much of a text is the front of it that is as long
 front_of_text : (m : ℕ) (text : List ℕ) → take (length (take m text)) text ≡ take m text
@@ -216,11 +220,11 @@ module _ {S : Type 0} {g : Ghosts S} {trusted : Bool} {old : BufferSet S g} {w :
         (writing_here openings h (record { token = token_is; writing = is_writing_it }))
 
     -- the buffer set after a write of a block
-    pub wrote : {code' : Buffer S g} (result : Result Bool BufError)
-        → WritesNext code write text result code' → LeavesDevice code result code'
-        → WrittenAs trusted w h token text written begun kept openings failures result
+    pub wrote : {code' : Buffer S g} (last : Bool)
+        → WritesNext code write text (Ok last) code' → LeavesDevice {X = Bool} code (Ok last) code'
+        → WrittenAs trusted w h token text written begun kept openings failures (Ok last)
         (with_buffer old i code' old.placed_groups)
-    wrote (Ok last) does device = (
+    wrote last does device = (
       cc (does.last, does.count, open_as.blocks, open_as.octets, whole_length),
       after_call is number there (with_block text h_now) refl
           (does.written trusted h_now
@@ -232,7 +236,13 @@ module _ {S : Type 0} {g : Ghosts S} {trusted : Bool} {old : BufferSet S g} {w :
           (λ t apart. refl) (λ buffer apart. refl)
           ((at is number there).failed ∙ sym device.no_failure) (λ n apart. refl),
     )
-    wrote {code'} (Err e) does device = (
+
+    -- and after one that failed
+    pub wrote_none : {code' : Buffer S g} (e : BufError)
+        → WritesNext code write text (Err e) code' → LeavesDevice {X = Bool} code (Err e) code'
+        → WrittenAs trusted w h token text written begun kept openings failures
+        (Err (errors.Failed e)) (with_buffer old i code' old.placed_groups)
+    wrote_none {code'} e does device = (
       does.fault trusted h_now (at is number there).agrees
           ∙ rw (← named_here is number there, ← named),
       (
@@ -250,9 +260,15 @@ module _ {S : Type 0} {g : Ghosts S} {trusted : Bool} {old : BufferSet S g} {w :
       ),
     )
 
+    -- the call can be served
+    pub can_be_finished : written ≡ size_of (length text) → CanFinish code write
+    can_be_finished all =
+        can_finish code write (writing_at token text written) open_as refl
+        (all ∙ ap size_of whole_length)
+
     -- the buffer set after a finish, where all is written
     pub finish : {code' : Buffer S g} (id : List ℕ) → written ≡ size_of (length text)
-        → (CanFinish code write → Follows with_finish code code') → store_of code' ≡ store_of code
+        → Follows with_finish code code' → store_of code' ≡ store_of code
         → KeepsTexts trusted (with_buffer old i code' old.placed_groups) w begun
         (kept ++ record { token = token; id = id; text = text } ∷ []) (put_at openings h None)
         failures
@@ -264,10 +280,7 @@ module _ {S : Type 0} {g : Ghosts S} {trusted : Bool} {old : BufferSet S g} {w :
         }) refl
         (subst (λ begins. Agrees trusted code' (record h_now { begins = begins; writing = None }))
         ends
-        (follows
-        (can_finish code write (writing_at token text written) open_as refl
-        (all ∙ ap size_of whole_length))
-        trusted h_now (at is number there).agrees))
+        (follows trusted h_now (at is number there).agrees))
         (finished_said h_now newest.earlier newest.fresh (size_of token.length) article added
         named_as whole
         (at is number there).said newest.newest (is_at is number there)
@@ -304,3 +317,51 @@ module _ {S : Type 0} {g : Ghosts S} {trusted : Bool} {old : BufferSet S g} {w :
         named_as =
             let here = rw (writes, newest.newest) at (this is number there).token in
             sym (same_Some _ _ here) ∙ cc (whole_length, whole)
+
+-- the calls that the buffer set serves: those that the buffer of the token's place does
+module _ {S : Type 0} {g : Ghosts S} (old : BufferSet S g) (one : Begun) {i : ℕ}
+    (number : i ≡ (calls.token_of one).buffer) where
+  -- what holds of the buffer there holds of the one that is read
+  pub at_token : {code : Buffer S g} (P : Buffer S g → Type 0)
+      → slice_get old.buffers.items i ≡ Some code
+      → IsSomeAnd (slice_get old.buffers.items (calls.token_of one).buffer) P → P code
+  at_token P there holds =
+      subst (λ o. IsSomeAnd o P) (ap (slice_get old.buffers.items) (sym number) ∙ there) holds
+
+  -- and the other way round
+  pub of_token : {code : Buffer S g} (P : Buffer S g → Type 0)
+      → slice_get old.buffers.items i ≡ Some code → P code
+      → IsSomeAnd (slice_get old.buffers.items (calls.token_of one).buffer) P
+  of_token P there holds =
+      subst (λ o. IsSomeAnd o P) (sym (ap (slice_get old.buffers.items) (sym number) ∙ there)) holds
+
+  -- where there is no buffer nothing holds of it
+  pub none_at_token : (P : Buffer S g → Type 0) → false ≡ nat_lt i (length old.buffers.items)
+      → IsSomeAnd (slice_get old.buffers.items (calls.token_of one).buffer) P → ⊥
+  none_at_token P missing holds =
+      subst (λ o. IsSomeAnd o P) (ap (slice_get old.buffers.items) (sym number)
+      ∙ slice_get_past old.buffers.items i (ltb-false i (length old.buffers.items) (sym missing)))
+      holds
+
+module _ {S : Type 0} {g : Ghosts S} {trusted : Bool} {old : BufferSet S g} {w : Terms}
+    {begun : ℕ → List ℕ} {kept : List Kept} {openings : ℕ → Option Opening} {failures : ℕ → ℕ}
+    (keeps : KeepsTexts trusted old w begun kept openings failures) (one : Begun) {h : ℕ}
+    {text : List ℕ} {written : ℕ}
+    (is : openings h ≡ Some (IsOpen (calls.token_of one) text written)) where
+  -- the buffer that it is in
+  has_code : HasBuffer trusted old.buffers.items w.groups begun kept openings failures
+      (calls.token_of one).buffer
+      (keeps.opened h (IsOpen (calls.token_of one) text written) is).buffer
+  has_code = keeps.buffers (calls.token_of one).buffer _ (place keeps is refl)
+
+  -- its next block can be written
+  pub writes_there : written < size_of (length text) → calls.CanWrite old one text
+  writes_there left =
+      of_token old one refl (λ code. CanWrite code one.open text) has_code.there
+      (can_be_written keeps is refl has_code.there one.open refl left)
+
+  -- it can be finished where all is written
+  pub finishes_there : written ≡ size_of (length text) → calls.CanFinish old one
+  finishes_there all =
+      of_token old one refl (λ code. CanFinish code one.open) has_code.there
+      (can_be_finished keeps is refl has_code.there one.open refl all)

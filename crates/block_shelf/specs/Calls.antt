@@ -1,15 +1,19 @@
 -- What a begin, a write of a block, a finish and an abandon do to what the buffer set keeps. The
--- calls are total: what each needs stands as a premise, in the relay's own words.
+-- calls are total: what each needs stands as a premise, in the relay's own words. A block that can't
+-- be written, and an article that can't be finished, is refused by name.
 use Rattle.std.specs.Prelude.{◌≡◌, ℕ, ◌+◌, ◌==◌, ◌≤◌, ◌<◌, Bool, List, [], ◌∷◌, ◌++◌, length}
-use Rattle.std.specs.Prelude.{slice_get}
+use Rattle.std.specs.Prelude.{slice_get, IsOkAnd, IsSomeAnd}
 use Rattle.std.specs.Prelude.{Option, None, Some, option_and_then, Result, Ok, Err}
 use Rattle.cyc_block.specs.declared.store.BlockStore.{Ghosts}
 use Rattle.cyc_buffer.specs.Agreement as buffers
+use Rattle.cyc_buffer.specs.Answers.{IsDeviceFault}
+use Rattle.cyc_buffer.specs.Remembered.{place_of}
 use Rattle.cyc_buffer.specs.declared.answers.BufError.{BufError}
 use Rattle.cyc_buffer.specs.declared.answers.BufError.TheVariants.{Device}
 use Rattle.cyc_buffer.specs.declared.answers.FaultKind.{FaultKind}
 use Rattle.cyc_buffer.specs.declared.answers.FaultKind.TheVariants as kinds
 use Rattle.cyc_token.specs.Token.{token_view}
+use Rattle.cyc_token.specs.declared.Token as codes
 use Rattle.news_terms.specs.Fronts.{FitsGroup}
 use Rattle.news_terms.specs.Places.{Group, Place, next_place, size_of, last_cycle}
 use Rattle.news_terms.specs.Token.{Token}
@@ -21,6 +25,8 @@ use Rattle.block_shelf.specs.Keeping.{KeepsTexts}
 use Rattle.block_shelf.specs.Openings.{Opening, IsOpen, IsBroken, token_in}
 use Rattle.block_shelf.specs.declared.buffer_set.Begun.{Begun}
 use Rattle.block_shelf.specs.declared.buffer_set.BufferSet.{BufferSet}
+use Rattle.block_shelf.specs.declared.buffer_set.WriteError.{WriteError}
+use Rattle.block_shelf.specs.declared.buffer_set.WriteError.TheVariants as errors
 
 -- the token that a begun article is finished under
 abbrev pub token_of : Begun → Token
@@ -92,12 +98,13 @@ IsFaultAt kind token e =
 -- said; or the device failed
 abbrev pub WrittenAs : {S : Type 0} {g : Ghosts S} → (trusted : Bool) → Terms → (h : ℕ) → Token
     → (text : List ℕ) → (written : ℕ) → (ℕ → List ℕ) → List Kept → (ℕ → Option Opening) → (ℕ → ℕ)
-    → Result Bool BufError → (new : BufferSet S g) → Type 0
+    → Result Bool WriteError → (new : BufferSet S g) → Type 0
 WrittenAs trusted w h token text written begun kept openings failures (Ok last) new =
     (last ≡ (written + 1 == size_of (length text)))
     × KeepsTexts trusted new w begun kept
     (put_at openings h (Some (IsOpen token text (written + 1)))) failures
-WrittenAs trusted w h token text written begun kept openings failures (Err e) new =
+WrittenAs trusted w h token text written begun kept openings failures (Err errors.NotOpen) new = ⊥
+WrittenAs trusted w h token text written begun kept openings failures (Err (errors.Failed e)) new =
     IsFaultAt kinds.Write token e
     × ((later : ℕ → ℕ) × HasFailedAt token.buffer failures later
     × KeepsTexts trusted new w begun kept (put_at openings h (Some (IsBroken token))) later)
@@ -105,7 +112,7 @@ WrittenAs trusted w h token text written begun kept openings failures (Err e) ne
 -- the next block of the open write under this token is written, whichever group has it, by one call
 -- of its buffer's device
 abbrev pub WritesOn : {S : Type 0} {g : Ghosts S} → Token → (text : List ℕ) → (old : BufferSet S g)
-    → Result Bool BufError → (new : BufferSet S g) → Type 0
+    → Result Bool WriteError → (new : BufferSet S g) → Type 0
 WritesOn token text old result new =
     (trusted : Bool) (w : Terms) (begun : ℕ → List ℕ) (kept : List Kept)
     (openings : ℕ → Option Opening) (failures : ℕ → ℕ)
@@ -115,16 +122,55 @@ WritesOn token text old result new =
     → WrittenAs trusted w h token text written begun kept openings failures result new
     × (calls_at new token.buffer ≡ calls_at old token.buffer + 1)
 
--- the open write under this token, all of which is written, becomes whole
-abbrev pub FinishesOn : {S : Type 0} {g : Ghosts S} → Token → (old new : BufferSet S g) → Type 0
-FinishesOn token old new =
+-- the next block of a text can be written to a begun article: the buffer of its token is here, and
+-- can write it to the open write of this handle
+abbrev pub CanWrite : {S : Type 0} {g : Ghosts S} → BufferSet S g → Begun → (text : List ℕ)
+    → Type 0
+CanWrite buffer_set begun text =
+    IsSomeAnd (slice_get buffer_set.buffers.items (token_of begun).buffer)
+    (λ code. buffers.CanWrite code begun.open text)
+
+-- a block is written by one call of the device where it can be written, or that call fails; else it
+-- is said that it can't, and nothing is done
+abbrev pub WritesWhereItCan : {S : Type 0} {g : Ghosts S} → Begun → (text : List ℕ)
+    → (old : BufferSet S g) → Result Bool WriteError → (new : BufferSet S g) → Type 0
+WritesWhereItCan begun text old (Ok last) new =
+    CanWrite old begun text
+    × (calls_at new (token_of begun).buffer ≡ calls_at old (token_of begun).buffer + 1)
+WritesWhereItCan begun text old (Err errors.NotOpen) new =
+    (CanWrite old begun text → ⊥) × (new ≡ old)
+WritesWhereItCan begun text old (Err (errors.Failed e)) new =
+    CanWrite old begun text
+    × IsSomeAnd (slice_get old.buffers.items (token_of begun).buffer)
+    (λ code. IsDeviceFault (place_of code) kinds.Write (token_of begun).length e)
+    × (calls_at new (token_of begun).buffer ≡ calls_at old (token_of begun).buffer + 1)
+
+-- the open write under this token, all of which is written, is finished under it and becomes whole
+abbrev pub FinishesOn : {S : Type 0} {g : Ghosts S} → Token → (old : BufferSet S g)
+    → Result codes.Token Begun → (new : BufferSet S g) → Type 0
+FinishesOn token old result new =
     (trusted : Bool) (w : Terms) (begun : ℕ → List ℕ) (kept : List Kept)
     (openings : ℕ → Option Opening) (failures : ℕ → ℕ)
     → KeepsTexts trusted old w begun kept openings failures
     → (h : ℕ) (text id : List ℕ)
     → openings h ≡ Some (IsOpen token text (size_of (length text)))
-    → KeepsTexts trusted new w begun
+    → IsOkAnd result (λ finished. token_view finished ≡ token)
+    × KeepsTexts trusted new w begun
     (kept ++ record { token = token; id = id; text = text } ∷ []) (put_at openings h None) failures
+
+-- a begun article can be finished: the buffer of its token is here, and can finish the open write of
+-- this handle
+abbrev pub CanFinish : {S : Type 0} {g : Ghosts S} → BufferSet S g → Begun → Type 0
+CanFinish buffer_set begun =
+    IsSomeAnd (slice_get buffer_set.buffers.items (token_of begun).buffer)
+    (λ code. buffers.CanFinish code begun.open)
+
+-- an article is finished where it can be; else it is given back, and nothing is done
+abbrev pub FinishesWhereItCan : {S : Type 0} {g : Ghosts S} → Begun → (old : BufferSet S g)
+    → Result codes.Token Begun → (new : BufferSet S g) → Type 0
+FinishesWhereItCan begun old (Ok token) new = CanFinish old begun
+FinishesWhereItCan begun old (Err back) new =
+    (CanFinish old begun → ⊥) × (back ≡ begun) × (new ≡ old)
 
 -- the open write under this token is given up
 abbrev pub AbandonsOn : {S : Type 0} {g : Ghosts S} → Token → (old new : BufferSet S g) → Type 0

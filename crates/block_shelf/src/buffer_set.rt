@@ -33,6 +33,16 @@ impl Begun {
     }
 }
 
+/// Why a block of an article isn't written, in the order of trial.
+#[derive(Drop)]
+pub enum WriteError {
+    /// The article isn't open here, a write of one of its blocks failed, all of it is written, or
+    /// the text has another length.
+    NotOpen,
+    /// The device failed at the write.
+    Failed(BufError),
+}
+
 /// All buffers, by their numbers, and the groups that they are in.
 #[derive(Drop)]
 pub struct BufferSet<S: BlockStore> {
@@ -41,9 +51,10 @@ pub struct BufferSet<S: BlockStore> {
 }
 
 impl<S: BlockStore> BufferSet<S> {
-    ghost use Rattle.std.specs.Prelude.{◌≡◌, Bool, ℕ, ◌+◌, Option, slice_get, IfNone, OnErr};
+    ghost use Rattle.std.specs.Prelude.{◌≡◌, ◌↔◌, Bool, ℕ, Option, slice_get, IfNone, IfOk, IsTrue};
     ghost use Rattle.block_shelf.specs.Calls.{BeginsOn, KeepsAll, WritesOn, FinishesOn, AbandonsOn};
-    ghost use Rattle.block_shelf.specs.Calls.{token_of};
+    ghost use Rattle.block_shelf.specs.Calls.{CanFinish, CanWrite, FinishesWhereItCan, token_of};
+    ghost use Rattle.block_shelf.specs.Calls.{WritesWhereItCan};
     ghost use Rattle.block_shelf.specs.Devices.{CallsNone, CallsOneAtMost, calls_at};
     ghost use Rattle.block_shelf.specs.Keeping.{KeepsTexts};
     ghost use Rattle.block_shelf.specs.Openings.{Opening};
@@ -76,36 +87,65 @@ impl<S: BlockStore> BufferSet<S> {
         Some(Begun { open })
     }
 
-    /// Writes the next block of a begun article, whose whole text this is, and says whether nothing
-    /// of it is left to be written. After a fault of the device the article can only be abandoned.
-    /// Takes no memory.
-    pub fn write_next(&mut self, begun: &Begun, text: &[u8]) -> Result<bool, BufError>
+    /// Writes the next block of a begun article, whose whole text this is, and says whether it was
+    /// the last. After Failed the article can only be abandoned. Takes no memory.
+    pub fn write_next(&mut self, begun: &Begun, text: &[u8]) -> Result<bool, WriteError>
         ensures written { WritesOn (token_of begun.now) text.now self.old result self.new }
-        // An error comes of a call of the device alone, and of one.
-        ensures error { OnErr result (calls_at self.new (token_of begun.now).buffer
-            ≡ calls_at self.old (token_of begun.now).buffer + 1) }
+        // It is written where it can be, by one call of the device; else nothing is done.
+        ensures cases { WritesWhereItCan begun.now text.now self.old result self.new }
         // No other device is called.
         ensures calls { (number : ℕ) → (number ≡ (token_of begun.now).buffer → ⊥)
             → calls_at self.new number ≡ calls_at self.old number }
     {
+        if !self.can_write(begun, text) {
+            return Err(WriteError::NotOpen);
+        }
         match self.buffers.get_mut(usize::from(begun.open.token().buffer)) {
-            Some(buffer) => buffer.write_next(&begun.open, text),
-            None => Ok(true),
+            Some(buffer) => match buffer.write_next(&begun.open, text) {
+                Ok(last) => Ok(last),
+                Err(error) => Err(WriteError::Failed(error)),
+            },
+            None => unreachable!(),
+        }
+    }
+
+    /// Whether the next block of a text can be written to a begun article.
+    fn can_write(&self, begun: &Begun, text: &[u8]) -> bool
+        ensures { IsTrue result ↔ CanWrite self.now begun.now text.now }
+    {
+        match self.buffers.get(usize::from(begun.open.token().buffer)) {
+            Some(buffer) => buffer.can_write(&begun.open, text),
+            None => false,
         }
     }
 
     /// Finishes a begun article, all of which is written: from now on its text is found under the
-    /// token. Takes no memory.
-    pub fn finish(&mut self, begun: Begun) -> Token
-        ensures token { token_view result ≡ token_of begun }
-        ensures finished { FinishesOn (token_of begun) self.old self.new }
+    /// token. One that can't be finished here is given back. Takes no memory.
+    pub fn finish(&mut self, begun: Begun) -> Result<Token, Begun>
+        ensures token { IfOk result (λ token. token_view token ≡ token_of begun) }
+        ensures finished { FinishesOn (token_of begun) self.old result self.new }
+        // It is finished where it can be; else nothing is done.
+        ensures cases { FinishesWhereItCan begun self.old result self.new }
         ensures calls { CallsNone self.old self.new }
     {
+        if !self.can_finish(&begun) {
+            return Err(begun);
+        }
         let Begun { open } = begun;
-        let token = open.token();
-        match self.buffers.get_mut(usize::from(token.buffer)) {
-            Some(buffer) => buffer.finish(open),
-            None => open.into_token(),
+        let number = usize::from(open.token().buffer);
+        match self.buffers.get_mut(number) {
+            Some(buffer) => Ok(buffer.finish(open)),
+            None => unreachable!(),
+        }
+    }
+
+    /// Whether a begun article can be finished.
+    fn can_finish(&self, begun: &Begun) -> bool
+        ensures { IsTrue result ↔ CanFinish self.now begun.now }
+    {
+        match self.buffers.get(usize::from(begun.open.token().buffer)) {
+            Some(buffer) => buffer.can_finish(&begun.open),
+            None => false,
         }
     }
 

@@ -17,7 +17,7 @@ mod starting;
 mod stopping;
 
 pub use beginning::{BeginError, unbegun};
-pub use buffer_set::{Begun, BufferSet, PlacedGroup};
+pub use buffer_set::{Begun, BufferSet, PlacedGroup, WriteError};
 pub use figures::BufferFigures;
 pub use filling::{BufferSetError, new_placed_groups, unformatted};
 pub use opening::UnopenedBufferSet;

@@ -46,8 +46,8 @@ pub struct Unformatted<S: BlockStore> {
 }
 
 impl<S: BlockStore> Buffer<S> {
-    ghost use Rattle.std.specs.Prelude.{◌≡◌, ◌≤◌, ◌+◌, length, Bool, true, false, Some, Ok, IfOk};
-    ghost use Rattle.std.specs.Prelude.{IfErr, OnOk, OnErr};
+    ghost use Rattle.std.specs.Prelude.{◌≡◌, ◌≤◌, ◌+◌, ◌↔◌, length, Bool, true, false, Some, IfOk};
+    ghost use Rattle.std.specs.Prelude.{IfErr, IsTrue, OnOk, OnErr};
     ghost use Rattle.cyc_token.specs.Token.{token_view};
     ghost use Rattle.cyc_buffer.specs.Agreement.{Agrees, Follows, Owns, store_of, buffer_state_of};
     ghost use Rattle.cyc_buffer.specs.Agreement.{blocks_written, is_broken, length_of, token_of};
@@ -156,25 +156,26 @@ impl<S: BlockStore> Buffer<S> {
         self.buffer_state.begin(class, length, fresh)
     }
 
-    /// Writes the next block of the open write's text, and says whether nothing of it is left.
-    /// After Device the write can only be abandoned. Where the handle is another buffer's, a write
-    /// failed, all is written, or the text has another length, nothing is left to write.
+    /// Whether the next block of a text can be written to the write of this handle: it is open here,
+    /// no block of it failed, one is left, and the text has the article's length.
+    pub fn can_write(&self, write: &Open, text: &[u8]) -> bool
+        ensures { IsTrue result ↔ CanWrite self.now write.now text.now }
+    {
+        self.buffer_state.can_write(write, text)
+    }
+
+    /// Writes the next block of the open write's text, and says whether it was the last. After
+    /// Device the write can only be abandoned.
     pub fn write_next(&mut self, write: &Open, text: &[u8]) -> Result<bool, BufError>
-        ensures written { CanWrite self.old write.now text.now
-            → WritesNext self.old write.now text.now result self.new }
-        ensures refused { (CanWrite self.old write.now text.now → ⊥)
-            → (result ≡ Ok true) × (self.new ≡ self.old) }
-        // Whether it can be written or not, an error says that it can, and that the device failed.
-        ensures error { OnErr result (CanWrite self.old write.now text.now) }
+        requires { CanWrite self.old write.now text.now }
+        ensures written { WritesNext self.old write.now text.now result self.new }
+        // An error says that the device failed.
         ensures fault { IfErr result (IsDeviceFault (place_of self.old) kinds.Write
             (length_of write.now)) }
         ensures starts { AddsNoStart self.old self.new }
         ensures device { LeavesDevice self.old result self.new }
         ensures head { has_open_head self.new ≡ has_open_head self.old }
     {
-        if !self.buffer_state.can_write(write, text) {
-            return Ok(true);
-        }
         let stamp = self.buffer_state.next_stamp(write);
         prove!(stamp.first < self.buffer_state.line.blocks);
         let image = block_image(&stamp, chunk_of(text, stamp.index));
@@ -188,24 +189,28 @@ impl<S: BlockStore> Buffer<S> {
         Ok(self.buffer_state.count_block(write))
     }
 
+    /// Whether the write of this handle can be finished: it is open here, no block of it failed, and
+    /// all of it is written.
+    pub fn can_finish(&self, write: &Open) -> bool
+        ensures { IsTrue result ↔ CanFinish self.now write.now }
+    {
+        self.buffer_state.can_finish(write)
+    }
+
     /// Finishes the open write, all of which is written: from now on its text is given by the
-    /// token. A write that isn't open here, is broken or isn't all written is not finished.
+    /// token.
     pub fn finish(&mut self, write: Open) -> Token
+        requires { CanFinish self.old write }
         ensures handle { result ≡ token_of write }
-        ensures token { Owns self.old write → (trusted : Bool) (h : History)
-            → Agrees trusted self.old h → Some (token_view result) ≡ open_token h }
-        ensures finished { CanFinish self.old write → Follows with_finish self.old self.new }
-        ensures idle { CanFinish self.old write → is_busy self.new ≡ false }
+        ensures token { (trusted : Bool) (h : History) → Agrees trusted self.old h
+            → Some (token_view result) ≡ open_token h }
+        ensures finished { Follows with_finish self.old self.new }
+        ensures idle { is_busy self.new ≡ false }
         ensures starts { AddsStart (token_of write).first self.old self.new }
-        ensures refused { (CanFinish self.old write → ⊥) → self.new ≡ self.old }
         ensures head { has_open_head self.new ≡ has_open_head self.old }
         // The device isn't called.
         ensures store { store_of self.new ≡ store_of self.old }
     {
-        if !self.buffer_state.can_finish(&write) {
-            let Open { token } = write;
-            return token;
-        }
         self.buffer_state.finish(write)
     }
 

@@ -171,7 +171,7 @@ module _ {S : Type 0} {s : Ghosts S} {J : Type 0} {j : store_premises.Ghosts J}
     (own : CanWriteFor b shown) where
   -- what is written of an open write is written for the record
   pub writes_record : (r : Result Bool BufError)
-      → (CanWrite old.buffer b.write text → WritesNext old.buffer b.write text r new.buffer)
+      → WritesNext old.buffer b.write text r new.buffer
       → LeavesDevice old.buffer r new.buffer → new.open_write ≡ Some (after_write shown r b)
       → new.numbers.items ≡ old.numbers.items → WritesRecord old shown text r new
   writes_record r writes device stands numbers =
@@ -186,7 +186,7 @@ module _ {S : Type 0} {s : Ghosts S} {J : Type 0} {j : store_premises.Ghosts J}
         named = named_token j.register j.trusted old.buffer b old.numbers.items tied shown
             own.unbroken own.named;
         can = can;
-        writes = writes can;
+        writes = writes;
         device = device;
         stands = stands;
         numbers = numbers;
@@ -194,7 +194,7 @@ module _ {S : Type 0} {s : Ghosts S} {J : Type 0} {j : store_premises.Ghosts J}
 
   -- or the device fails at it
   pub writes_failed : (e : BufError) (f : Fault) → e ≡ errors.Device f
-      → (CanWrite old.buffer b.write text → WritesNext old.buffer b.write text (Err e) new.buffer)
+      → WritesNext old.buffer b.write text (Err e) new.buffer
       → LeavesDevice {X = Bool} old.buffer (Err e) new.buffer
       → new.open_write ≡ Some (open_write_of b.write shown b.written true)
       → new.numbers.items ≡ old.numbers.items

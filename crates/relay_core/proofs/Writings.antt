@@ -11,11 +11,12 @@ use Rattle.block_shelf.specs.Keeping.{KeepsTexts}
 use Rattle.block_shelf.specs.Openings.{IsBroken, IsOpen}
 use Rattle.block_shelf.specs.declared.buffer_set.Begun.{Begun}
 use Rattle.block_shelf.specs.declared.buffer_set.BufferSet.{BufferSet}
+use Rattle.block_shelf.specs.declared.buffer_set.WriteError.{WriteError}
+use Rattle.block_shelf.specs.declared.buffer_set.WriteError.TheVariants as errors
 use Rattle.buffer_group.specs.Jobs.{article_view, job_view}
 use Rattle.buffer_group.specs.declared.job.Job.{Job}
 use Rattle.buffer_group.specs.declared.writer.Writer.TheVariants as code
 use Rattle.cyc_block.specs.declared.store.BlockStore.{Ghosts}
-use Rattle.cyc_buffer.specs.declared.answers.BufError.{BufError}
 use Rattle.cyc_token.specs.Token.{token_view}
 use Rattle.cyc_token.specs.declared.Token.{Token}
 use Rattle.feed_queue.specs.Feeds.{HasRoomToCount, KeepsFeeds}
@@ -193,12 +194,15 @@ module _ {S : Type 0} {g : Ghosts S} (h now : ℕ) (job : Job) (old : System S g
       }
 
   -- the write of a block failed
-  pub block_failed : (b : Begun) (written : ℕ) (fault : BufError) (buffer_set : BufferSet S g)
+  pub block_failed : (b : Begun) (written : ℕ) (fault : WriteError) (buffer_set : BufferSet S g)
       → written < size
       → WritesOn (token_of b) job.article.text old.buffer_set (Err fault) buffer_set
       → Advances h now (code.Writing job b written) old (code.Failed job (Some b))
       (record old { buffer_set = buffer_set })
-  block_failed b written fault buffer_set left writes = λ x out well.
+  block_failed b written errors.NotOpen buffer_set left writes = λ x out well.
+      absurd (writes true w x.state.begun x.state.kept (openings x.work.writer) x.work.failures
+      out.buffer_set h written (ap opening_of out.writer_is) left).0
+  block_failed b written (errors.Failed fault) buffer_set left writes = λ x out well.
       let at = is_at w h (code.Writing job b written) old x out well in
       let r = (writes true w x.state.begun x.state.kept (openings x.work.writer) x.work.failures
       out.buffer_set h written (ap opening_of out.writer_is) left).0.1 in
@@ -216,37 +220,60 @@ module _ {S : Type 0} {g : Ghosts S} (h now : ℕ) (job : Job) (old : System S g
       }
 
   -- all blocks are written
+  module _ (b : Begun) (written : ℕ) (full : size ≤ written) (x : World)
+      (out : WriterOut w h (code.Writing job b written) old x) (well : IsWell w x) where
+    -- as many as there are
+    all_written : written ≡ size
+    all_written =
+        omega (arith, full, (is_at w h (code.Writing job b written) old x out well).2)
+
+    -- its open write is that of the group, with all of the text
+    all_open : openings x.work.writer h
+        ≡ Some (IsOpen (token_of b) job.article.text (size_of (length job.article.text)))
+    all_open =
+        ap opening_of out.writer_is
+        ∙ ap (λ k. Some (IsOpen (token_of b) job.article.text k)) all_written
+
+  -- so it is finished
   pub finished_one : (b : Begun) (written : ℕ) (token : Token) (buffer_set : BufferSet S g)
-      → size ≤ written → token_view token ≡ token_of b
-      → FinishesOn (token_of b) old.buffer_set buffer_set
+      → size ≤ written → FinishesOn (token_of b) old.buffer_set (Ok token) buffer_set
       → Advances h now (code.Writing job b written) old (code.Finished job token)
       (record old { buffer_set = buffer_set })
-  finished_one b written token buffer_set full named finishes = λ x out well.
+  finished_one b written token buffer_set full finishes = λ x out well.
       let at = is_at w h (code.Writing job b written) old x out well in
-      let all : written ≡ size = omega (arith, at.2) in
       let one : Kept =
       record { token = token_of b; id = job.id; text = job.article.text } in
       let σ : State = record (with_stage x.state (job_view job) (claims.Whole (token_of b))) {
         kept = x.state.kept ++ one ∷ [];
       } in
-      let texts = finishes true w x.state.begun x.state.kept (openings x.work.writer)
+      let does = finishes true w x.state.begun x.state.kept (openings x.work.writer)
       x.work.failures out.buffer_set h job.article.text job.id
-      (ap opening_of out.writer_is
-      ∙ ap (λ k. Some (IsOpen (token_of b) job.article.text k)) all) in
+      (all_open b written full x out well) in
       let u : world.Writer = world.Finished (job_view job) (token_of b) in
       record {
         after = writer_at x σ h u;
-        writes = writers.HasStored (job_view job) (token_of b) written σ out.writer_is all
+        writes = writers.HasStored (job_view job) (token_of b) written σ out.writer_is
+            (all_written b written full x out well)
             (record { begun = at.1; after = refl }) refl;
         out = moved w h (code.Writing job b written) old x out (code.Finished job token) u σ
             x.work.failures old.shards old.desk buffer_set
-            (ap (world.Finished (job_view job)) (sym named)) refl
+            (ap (world.Finished (job_view job)) (sym does.0)) refl
             (keeps_staged old.shards x.state.claim job.id job.session (article_view job.article)
             (claims.Begun (token_of b)) (claims.Whole (token_of b)) out.claims at.1)
-            out.desk texts
+            out.desk does.1
             (λ s. peer_stays w x.state.kept (one ∷ []) (peer_at old.peers s) (x.state.session s)
             (x.work.slot s) (out.peers s));
       }
+
+  -- and isn't given back
+  pub not_given_back : {v' : _} {new : System S g} (b back : Begun) (written : ℕ)
+      (buffer_set : BufferSet S g) → size ≤ written
+      → FinishesOn (token_of b) old.buffer_set (Err back) buffer_set
+      → Advances h now (code.Writing job b written) old v' new
+  not_given_back b back written buffer_set full finishes = λ x out well.
+      absurd (finishes true w x.state.begun x.state.kept (openings x.work.writer)
+      x.work.failures out.buffer_set h job.article.text job.id
+      (all_open b written full x out well)).0
 
   -- the job is settled, and its feeds gain its token
   pub settled_one : (token : Token) (now' : ℕ) (settled : Settled) (shards : Shards)

@@ -1,5 +1,6 @@
 //! A Write: the next bit of the work of a group's writer, one call of one part.
-ghost use Rattle.std.specs.Prelude.{◌≡◌, ℕ};
+ghost use Rattle.std.specs.Prelude.{◌≡◌, ◌≤◌, ℕ, length};
+ghost use Rattle.news_terms.specs.Places.{size_of};
 ghost use Rattle.buffer_group.specs.declared.writer.Writer.TheVariants as writers;
 ghost use Rattle.relay_core.specs.Writing.{AdvancesBy, writer_of};
 
@@ -131,11 +132,22 @@ fn write_next<S: BlockStore>(
         buffer_set.old result buffer_set.new }
 {
     if written >= job.article.blocks() {
-        let token = buffer_set.finish(begun);
-        return Writer::Finished(job, token);
+        return finish(buffer_set, job, begun);
     }
     match buffer_set.write_next(&begun, job.article.text.as_slice()) {
         Ok(_last) => Writer::Writing(job, begun, written + 1),
         Err(_fault) => Writer::Failed(job, Some(begun)),
+    }
+}
+
+/// It finishes the write, all of whose blocks are written.
+fn finish<S: BlockStore>(buffer_set: &mut BufferSet<S>, job: Job, begun: Begun) -> Writer<Begun>
+    ensures { (group now written : ℕ) → size_of (length job.article.text) ≤ written
+        → AdvancesBy group now (writers.Writing job begun written)
+        buffer_set.old result buffer_set.new }
+{
+    match buffer_set.finish(begun) {
+        Ok(token) => Writer::Finished(job, token),
+        Err(back) => Writer::Failed(job, Some(back)),
     }
 }

@@ -140,15 +140,21 @@ fn begin_article<S: BlockStore>(buffer: &mut Buffer<S>, stored: Stored, sheet: &
 /// Writes so many blocks of an article that was begun, ends it so, and writes its token.
 fn write_article<S: BlockStore>(buffer: &mut Buffer<S>, open: Open, stored: Stored, sheet: &Sheet) {
     let text = text_of(stored.class, stored.octets, sheet);
-    if write_blocks(buffer, &open, &text, stored.blocks, sheet) {
-        sheet.put(&ended(buffer, open, stored.end).to_text());
-    } else {
-        buffer.abandon(open);
+    if !write_blocks(buffer, &open, &text, stored.blocks, sheet) {
+        return buffer.abandon(open);
+    }
+    match stored.end {
+        End::Finished => put_finished(buffer, open, sheet),
+        End::Abandoned => {
+            sheet.put(&open.token().to_text());
+            buffer.abandon(open);
+        }
+        End::Unfinished => sheet.put(&open.into_token().to_text()),
     }
 }
 
-/// Writes so many blocks of an article; where one fails, that is written, and the answer is
-/// `false`.
+/// Writes so many blocks of an article; where one fails, or there is none to be written, that is
+/// written, and the answer is `false`.
 fn write_blocks<S: BlockStore>(
     buffer: &mut Buffer<S>,
     open: &Open,
@@ -157,6 +163,10 @@ fn write_blocks<S: BlockStore>(
     sheet: &Sheet,
 ) -> bool {
     for _block in 0..blocks {
+        if !buffer.can_write(open, text) {
+            sheet.put(b"not open");
+            return false;
+        }
         if let Err(error) = buffer.write_next(open, text) {
             sheet.debug(&error);
             return false;
@@ -165,16 +175,14 @@ fn write_blocks<S: BlockStore>(
     true
 }
 
-/// Ends an article so, and gives its token.
-fn ended<S: BlockStore>(buffer: &mut Buffer<S>, open: Open, end: End) -> Token {
-    match end {
-        End::Finished => buffer.finish(open),
-        End::Abandoned => {
-            let token = open.token();
-            buffer.abandon(open);
-            token
-        }
-        End::Unfinished => open.into_token(),
+/// Finishes an article, and writes its token; where that can't be, it is written, and the article
+/// abandoned.
+fn put_finished<S: BlockStore>(buffer: &mut Buffer<S>, open: Open, sheet: &Sheet) {
+    if buffer.can_finish(&open) {
+        sheet.put(&buffer.finish(open).to_text());
+    } else {
+        sheet.put(b"not written");
+        buffer.abandon(open);
     }
 }
 

@@ -1,16 +1,13 @@
 use Rattle.std.proofs.Common.{ℕ, ◌<◌, ◌≤◌, List, subst, Ok, Err}
 use Rattle.block_shelf.specs.Calls.{WritesOn, token_of}
-use Rattle.relay_core.proofs.Writings.{block_failed, block_written, finished_one}
+use Rattle.relay_core.proofs.Writings.{block_failed, block_written}
 use Rattle.relay_core.proofs.writing.write_next.Goals as goal
 
 -- all blocks are written
 pub returns-then-written-blocks : goal.returns-then-written-blocks
-returns-then-written-blocks g c = λ group now system.
-    finished_one group now c.args.job
-    (record system { buffer_set = c.args.buffer_set.now }) c.args.begun c.args.written
-    c.finish-token.result c.finish-token.new.self
+returns-then-written-blocks g c = λ group now.
+    c.finish.ensures group now c.args.written
     (subst (λ (k : ℕ). k ≤ c.args.written) c.blocks-2.ensures c.if-written-blocks.true)
-    c.finish-token.ensures.token c.finish-token.ensures.finished
 
 -- a block is written
 pub returns-in-Ok : goal.returns-in-Ok

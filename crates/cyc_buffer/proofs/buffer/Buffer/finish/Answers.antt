@@ -1,6 +1,5 @@
 -- A finish keeps the buffer's agreement with a history.
 use Rattle.std.proofs.Common.{◌≡◌, ◌+◌, ◌∙◌, ◌⊎◌, ℕ, Bool, true, arith, sym}
-use Rattle.std.proofs.lemmas.Bool.{false≢true}
 use Rattle.std.proofs.lemmas.Bool.Decides.{nat_tests}
 use Rattle.cyc_buffer.specs.Marks.{marked_after}
 use Rattle.cyc_buffer.proofs.Contents.{holds_finish}
@@ -16,15 +15,10 @@ returns-clause-starts g c block e =
     marked_one c.args.write.token.first block _ (sym (c.finish.ensures.starts block) ∙ e)
 
 pub returns-clause-finished : goal.returns-clause-finished
-returns-clause-finished g c can trusted h agrees = record {
+returns-clause-finished g c trusted h agrees = record {
   keeps = c.finish.ensures.finished h agrees.keeps;
   honest = agrees.honest;
   holds = λ is. holds_finish _ c.args.self.now.buffer_state c.finish.new.self h c.args.write
       agrees.keeps c.finish.ensures.line
-      (agrees.holds is) can.owned can.written;
+      (agrees.holds is) c.requires.owned c.requires.written;
 }
-
--- what can't be finished isn't
-pub returns-then-not-can_finish-clause-finished : goal.returns-then-not-can_finish-clause-finished
-returns-then-not-can_finish-clause-finished g c can =
-    absurd (false≢true (sym c.if-not-can_finish.true ∙ c.can_finish.ensures.1 can))

@@ -1,7 +1,6 @@
 -- A write of the next block, and what its failure leaves.
 use Rattle.std.proofs.Common.{◌≡◌, ◌<◌, ◌∙◌, ◌+◌, ◌==◌, ℕ, true, length, arith, ap, subst, sym}
 use Rattle.std.proofs.Common.{refl, Option, None, Some}
-use Rattle.std.proofs.lemmas.Bool.{false≢true}
 use Rattle.news_terms.specs.Places.{Buffer, size_of}
 use Rattle.cyc_block.specs.Store.{ChangesOnly}
 use Rattle.cyc_block.specs.declared.image.Stamp.{Stamp}
@@ -22,14 +21,13 @@ use Rattle.cyc_buffer.proofs.buffer.Buffer.write_next.Goals as goal
 pub block_image-image-requires-clause-some : goal.block_image-image-requires-clause-some
 block_image-image-requires-clause-some g c =
     let stamp = c.next_stamp-stamp.result in
-    let can = c.can_write.ensures.0 c.if-not-can_write.false in
     omega (
       arith,
       ap length c.chunk_of.ensures,
       chunk_length stamp.index c.args.text.now,
       ap (λ (s : Stamp). s.index) c.next_stamp-stamp.ensures.stamp,
-      can.left,
-      can.octets,
+      c.requires.left,
+      c.requires.octets,
     )
 
 pub block_image-image-requires-clause-room : goal.block_image-image-requires-clause-room
@@ -45,12 +43,6 @@ still_open : (write : Open) (p : Option Progress) → IsTheOpen write p → IsTh
 still_open write None owned = owned
 still_open write (Some p) owned = owned
 
-pub count_block-requires-clause-left : goal.count_block-requires-clause-left
-count_block-requires-clause-left g c = (c.can_write.ensures.0 c.if-not-can_write.false).left
-
-pub count_block-requires-clause-open : goal.count_block-requires-clause-open
-count_block-requires-clause-open g c = (c.can_write.ensures.0 c.if-not-can_write.false).owned
-
 pub write-requires : goal.write-requires
 write-requires g c =
     let here = ap (λ (s : Stamp). s.first + s.index) c.next_stamp-stamp.ensures.stamp in
@@ -59,23 +51,10 @@ write-requires g c =
     + written_of c.args.self.now.buffer_state.progress < n) c.args.self.now.counted
     c.next_stamp-stamp.ensures.within)
 
-pub returns-then-not-can_write : goal.returns-then-not-can_write
-returns-then-not-can_write g c = record {
-  written = λ can. absurd
-      (false≢true (sym c.if-not-can_write.true ∙ c.can_write.ensures.1 can));
-  refused = λ none. (refl, refl);
-  error = tt;
-  fault = tt;
-  starts = λ block is. is;
-  device = record { failed = tt; no_failure = refl; honest = λ is. is; blocks = refl };
-  head = refl;
-}
-
 pub returns-then-is_err : goal.returns-then-is_err
 returns-then-is_err g c =
-    let can = c.can_write.ensures.0 c.if-not-can_write.false in
     record {
-      written = λ can. let stamp = c.next_stamp-stamp.result in record {
+      written = let stamp = c.next_stamp-stamp.result in record {
         last = tt;
         fault = λ trusted h agrees. ap errors.Device (c.fault-fault.ensures
             ∙ ap (λ (l : Line). fault_of (buffer_of l) kinds.Write stamp.article_length)
@@ -94,7 +73,7 @@ returns-then-is_err g c =
             (g.S.BlockStore.blocks c.write.new.self) old c.mark_broken.new.self h c.args.write.now
             agrees.keeps agrees.holds c.mark_broken.ensures.rest old.progress h.writing refl refl
             agrees.keeps.writing
-            can.owned can.left c.mark_broken.ensures.progress
+            c.requires.owned c.requires.left c.mark_broken.ensures.progress
             (λ is. subst (λ n. ChangesOnly n (g.S.BlockStore.blocks c.args.self.now.store)
             (g.S.BlockStore.blocks c.write.new.self)) here
             (c.write.ensures.others (agrees.honest is)))
@@ -105,11 +84,9 @@ returns-then-is_err g c =
               holds = left.1;
             };
         owned = subst (IsTheOpen c.args.write.now) (sym c.mark_broken.ensures.progress)
-            (still_open c.args.write.now c.args.self.now.buffer_state.progress can.owned);
+            (still_open c.args.write.now c.args.self.now.buffer_state.progress c.requires.owned);
         calls = c.write.ensures.calls;
       };
-      refused = λ none. absurd (none can);
-      error = can;
       fault = ap errors.Device (c.fault-fault.ensures
           ∙ ap (λ (l : Line). fault_of (buffer_of l) kinds.Write
           c.next_stamp-stamp.result.article_length) c.mark_broken.ensures.rest.line
@@ -129,9 +106,9 @@ returns-then-is_err g c =
 
 pub returns : goal.returns
 returns g c = record {
-  written = λ can.
+  written =
       let counted = counted_on c.args.write.now c.args.self.now.buffer_state.progress
-      c.count_block.new.self.progress can.owned c.count_block.ensures.progress in
+      c.count_block.new.self.progress c.requires.owned c.count_block.ensures.progress in
       record {
         last = c.count_block.ensures.last
             ∙ ap (λ (n : ℕ). n == size_of c.args.write.now.token.length) (sym counted.0);
@@ -141,9 +118,9 @@ returns g c = record {
             let here = ap (λ (s : Stamp). s.first + s.index) c.next_stamp-stamp.ensures.stamp in
             let left = next_by (trusted ≡ true) (g.S.BlockStore.blocks c.args.self.now.store)
             (g.S.BlockStore.blocks c.write.new.self) old c.count_block.new.self h c.args.write.now
-            agrees.keeps agrees.holds c.count_block.ensures.rest c.args.text.now can.octets
+            agrees.keeps agrees.holds c.count_block.ensures.rest c.args.text.now c.requires.octets
             old.progress h.writing refl refl agrees.keeps.writing
-            can.owned continues can.left c.count_block.ensures.progress
+            c.requires.owned continues c.requires.left c.count_block.ensures.progress
             (λ is. subst (λ n. ChangesOnly n (g.S.BlockStore.blocks c.args.self.now.store)
             (g.S.BlockStore.blocks c.write.new.self)) here
             (c.write.ensures.others (agrees.honest is)))
@@ -162,13 +139,11 @@ returns g c = record {
               holds = left.1;
             };
         count = counted.0;
-        whole = counted.1 ∙ can.whole;
+        whole = counted.1 ∙ c.requires.whole;
         broken = tt;
         owned = counted.2;
         calls = c.write.ensures.calls;
       };
-  refused = λ none. absurd (none (c.can_write.ensures.0 c.if-not-can_write.false));
-  error = tt;
   fault = tt;
   starts = λ block is. ap (λ (m : Marks). is_marked m.words.items block)
       (sym c.count_block.ensures.rest.starts) ∙ is;

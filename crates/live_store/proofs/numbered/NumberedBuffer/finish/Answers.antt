@@ -20,6 +20,19 @@ can_finish-requires-clause-own g c =
     c.args.self.now.buffer b
     c.args.self.now.numbers.items ∥₁) c.in-Some.is c.args.self.now.tied))
 
+-- the open write that stands beside the buffer can be finished, since it can for the record
+pub finish-token-requires : goal.finish-token-requires
+finish-token-requires g c =
+    let field = c.in-Some-take.field-0 in
+    let tied = subst (λ b. ∥ Tied g.J.StorePremises.trusted g.J.StorePremises.register
+    c.args.self.now.buffer b c.args.self.now.numbers.items ∥₁)
+    (sym c.take.ensures.value ∙ c.in-Some-take.is) c.args.self.now.tied in
+    let can = subst (λ b. CanFinishFor b c.args.entered.shown)
+    (the_same c.args.self.now.open_write c.take.result c.in-Some.open_write field c.in-Some.is
+    c.take.ensures.value c.in-Some-take.is) (c.can_finish.ensures.0 c.if-not-can_finish.false) in
+    can_finish g.J.StorePremises.register g.J.StorePremises.trusted c.args.self.now.buffer field
+    c.args.self.now.numbers.items tied c.args.entered.shown can
+
 pub index_mut-requires : goal.index_mut-requires
 index_mut-requires g c =
     let field = c.in-Some-take.field-0 in
@@ -43,9 +56,6 @@ invariant_of-self g c =
     let can = subst (λ b. CanFinishFor b c.args.entered.shown)
     (the_same c.args.self.now.open_write c.take.result c.in-Some.open_write field c.in-Some.is
     c.take.ensures.value c.in-Some-take.is) (c.can_finish.ensures.0 c.if-not-can_finish.false) in
-    let follows = c.finish-token.ensures.finished
-    (can_finish g.J.StorePremises.register g.J.StorePremises.trusted c.args.self.now.buffer field
-    c.args.self.now.numbers.items tied c.args.entered.shown can) in
     record {
       tied = subst
           (λ b. ∥ Tied g.J.StorePremises.trusted g.J.StorePremises.register
@@ -63,10 +73,7 @@ invariant_of-self g c =
           (tied_finished g.J.StorePremises.register g.J.StorePremises.trusted
           c.args.self.now.buffer field
           c.args.self.now.numbers.items tied c.finish-token.new.self c.args.entered.shown can
-          c.requires.shown follows
-          (c.finish-token.ensures.idle
-          (can_finish g.J.StorePremises.register g.J.StorePremises.trusted
-          c.args.self.now.buffer field c.args.self.now.numbers.items tied c.args.entered.shown can))
+          c.requires.shown c.finish-token.ensures.finished c.finish-token.ensures.idle
           c.finish-token.ensures.starts c.finish-token.ensures.store)));
     }
 
@@ -113,9 +120,7 @@ returns g c =
     c.take.ensures.value c.in-Some-take.is) (c.can_finish.ensures.0 c.if-not-can_finish.false) in
     record {
       named = refl;
-      finished = c.finish-token.ensures.finished
-          (can_finish g.J.StorePremises.register g.J.StorePremises.trusted c.args.self.now.buffer
-          field items tied c.args.entered.shown can);
+      finished = c.finish-token.ensures.finished;
       own = subst (λ o. IsSomeAnd o (λ b. CanFinishFor b c.args.entered.shown)) (sym c.in-Some.is)
           (c.can_finish.ensures.0 c.if-not-can_finish.false);
       closed = c.take.ensures.after;

@@ -26,6 +26,20 @@ can_write-requires-clause-own g c =
     c.args.self.now.buffer b
     c.args.self.now.numbers.items ∥₁) c.in-Some.is c.args.self.now.tied))
 
+-- the open write that stands beside the buffer can be written on, since it can for the record
+pub write_next-requires : goal.write_next-requires
+write_next-requires g c =
+    let field = c.in-Some-take.field-0 in
+    let tied = subst (λ b. ∥ Tied g.J.StorePremises.trusted g.J.StorePremises.register
+    c.args.self.now.buffer b c.args.self.now.numbers.items ∥₁)
+    (sym c.take.ensures.value ∙ c.in-Some-take.is) c.args.self.now.tied in
+    let can = subst (λ b. CanWriteFor b c.args.entered.now.shown)
+    (the_same c.args.self.now.open_write c.take.result c.in-Some.open_write field c.in-Some.is
+    c.take.ensures.value c.in-Some-take.is) (c.can_write.ensures.0 c.if-not-can_write.false) in
+    subst (λ x. CanWrite c.args.self.now.buffer field.write x) (sym c.requires.text)
+    (can_write g.J.StorePremises.register g.J.StorePremises.trusted c.args.self.now.buffer field
+    c.args.self.now.numbers.items tied c.args.entered.now.shown can)
+
 pub invariant_of-self : goal.invariant_of-self
 invariant_of-self g c =
     let field = c.in-Some-take.field-0 in
@@ -35,11 +49,8 @@ invariant_of-self g c =
     let can = subst (λ b. CanWriteFor b c.args.entered.now.shown)
     (the_same c.args.self.now.open_write c.take.result c.in-Some.open_write field c.in-Some.is
     c.take.ensures.value c.in-Some-take.is) (c.can_write.ensures.0 c.if-not-can_write.false) in
-    let writes = subst (λ x. CanWrite c.args.self.now.buffer field.write x
-    → WritesNext c.args.self.now.buffer field.write x (Ok c.in-Ok.last) c.write_next.new.self)
-    c.requires.text c.in-Ok.ensures.written
-    (can_write g.J.StorePremises.register g.J.StorePremises.trusted c.args.self.now.buffer field
-    c.args.self.now.numbers.items tied c.args.entered.now.shown can) in
+    let writes = subst (λ x. WritesNext c.args.self.now.buffer field.write x
+    (Ok c.in-Ok.last) c.write_next.new.self) c.requires.text c.in-Ok.ensures.written in
     record {
       tied = subst
           (λ b. ∥ Tied g.J.StorePremises.trusted g.J.StorePremises.register c.write_next.new.self b
@@ -62,11 +73,8 @@ invariant_of-self-in-Err g c =
     let can = subst (λ b. CanWriteFor b c.args.entered.now.shown)
     (the_same c.args.self.now.open_write c.take.result c.in-Some.open_write field c.in-Some.is
     c.take.ensures.value c.in-Some-take.is) (c.can_write.ensures.0 c.if-not-can_write.false) in
-    let writes = subst (λ x. CanWrite c.args.self.now.buffer field.write x
-    → WritesNext c.args.self.now.buffer field.write x (Err c.in-Err.error) c.write_next.new.self)
-    c.requires.text c.in-Err.ensures.written
-    (can_write g.J.StorePremises.register g.J.StorePremises.trusted c.args.self.now.buffer field
-    c.args.self.now.numbers.items tied c.args.entered.now.shown can) in
+    let writes = subst (λ x. WritesNext c.args.self.now.buffer field.write x
+    (Err c.in-Err.error) c.write_next.new.self) c.requires.text c.in-Err.ensures.written in
     record {
       tied = subst
           (λ b. ∥ Tied g.J.StorePremises.trusted g.J.StorePremises.register c.write_next.new.self b
