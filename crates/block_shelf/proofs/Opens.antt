@@ -30,6 +30,7 @@ module _ {S : Type 0} {g : Ghosts S} (before : List (Unopened S g)) (unopened : 
         (record {
           failed = λ same. absurd (omega (arith, had.0, same));
           before = λ less. absurd (omega (arith, had.0, less));
+          opened = λ less. absurd (omega (arith, had.0, less));
           behind = λ more. refl;
         }),
   )
@@ -60,11 +61,13 @@ module _ {S : Type 0} {g : Ghosts S} (before : List (Unopened S g)) (unopened : 
         record {
           failed = λ same. absurd (omega (arith, same, within));
           before = λ less. was.no_failure;
+          opened = λ less. record { written = was.written; calls = was.calls };
           behind = λ more. absurd (omega (arith, more, within));
         }))
         (record {
           failed = λ same. fails;
           before = λ less. absurd (omega (arith, less, is, had.count));
+          opened = λ less. absurd (omega (arith, less, is, had.count));
           behind = λ more. absurd (omega (arith, more, is, had.count));
         })),
   )

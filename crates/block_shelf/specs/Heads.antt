@@ -49,13 +49,22 @@ abbrev pub IsOpened : {S : Type 0} {g : Ghosts S} → UnopenedBufferSet S g → 
 IsOpened unopened buffer_set =
     AreEach IsOpenedFrom unopened.buffers.items buffer_set.buffers.items
 
+-- the store of a buffer whose head was opened, by one call: it says that the buffer may change
+pub record IsLeftOpen {S : Type 0} {g : Ghosts S} (unopened : Unopened S g) (store : S)
+    : Type 0 where
+  pub written : (h : History) → Agrees true (inside unopened) h
+      → block_at (g.heads store) 0
+      ≡ head_image (numbers_of Open (stop_of (inside unopened)) h)
+  pub calls : g.calls store ≡ g.calls (store_of (inside unopened)) + 1
+
 -- the store of a buffer, where the device of the one at this place failed: it has failed, none
--- before it has, and none behind it was called
+-- before it has, and their heads are open; none behind it was called
 pub record IsLeftUnopened {S : Type 0} {g : Ghosts S} (place b : ℕ) (unopened : Unopened S g)
     (store : S)
     : Type 0 where
   pub failed : b ≡ place → g.failures (store_of (inside unopened)) < g.failures store
   pub before : b < place → g.failures store ≡ g.failures (store_of (inside unopened))
+  pub opened : b < place → IsLeftOpen unopened store
   pub behind : place < b → store ≡ store_of (inside unopened)
 
 -- the device of a buffer failed, whose number is told; the stores are those of all, in their order

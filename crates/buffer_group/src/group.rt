@@ -28,7 +28,7 @@ pub struct Group {
 
 impl Group {
     ghost use Rattle.std.specs.Prelude.{◌≡◌, ◌<◌, ℕ, List, [], ◌∷◌, ◌++◌, length, slice_get};
-    ghost use Rattle.buffer_group.specs.Groups.{KeepsPlaces, blocks_in, pick_view};
+    ghost use Rattle.buffer_group.specs.Groups.{KeepsPlaces, blocks_in, pick_view, position_view};
     ghost use Rattle.buffer_group.specs.Groups.{group_mode, group_blocks, buffer_count};
     ghost use Rattle.news_terms.specs.Picks.{pick_of};
     ghost use Rattle.news_terms.specs.Places as places;
@@ -44,6 +44,8 @@ impl Group {
             → blocks.items ≡ blocks_in group.buffers
             → position_of group begun ≡ record { index = position; used = used }
             → KeepsPlaces result group begun }
+        // Whether sizes have brought a group there or not.
+        ensures position { position_view result ≡ record { index = position; used = used } }
         ensures mode { group_mode result ≡ mode }
         ensures blocks { group_blocks result ≡ blocks.items }
     {
@@ -59,6 +61,7 @@ impl Group {
     pub fn position(&self) -> usize
         ensures places { (group : places.Group) (begun : List ℕ) → KeepsPlaces self.now group begun
             → result ≡ (position_of group begun).index }
+        ensures here { result ≡ (position_view self.now).index }
         ensures within { result < buffer_count self.now }
     {
         self.position
