@@ -135,7 +135,7 @@ pub job_told : (w : Terms) (x y x' : World) (g now : ℕ) (job : Job) (rest : Li
     → RunOfJob w g y events outputs x' → x'.work.writer g ≡ Idle
     → x'.work.slot job.session ≡ Some IsKept
 job_told w x y x' g now job rest events outputs idle queue step run answered =
-    by (writer_goes w x y g (Write g now) Quiet (λ e. absurd (cc)) step)
+    by (writer_goes w x y g (Write g now) Quiet (λ e quiet. absurd (cc)) step)
   where
     by : Writer_goes w x y g (Write g now) Quiet → x'.work.slot job.session ≡ Some IsKept
     by (Is_left same none) = absurd (true≢false (sym (own_done g now) ∙ none))

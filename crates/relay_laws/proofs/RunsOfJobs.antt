@@ -57,7 +57,7 @@ pub pop_left : (w : Terms) (x y : World) (g now : ℕ) (job : Job) (rest : List 
     → Step w x (Write g now) Quiet y → x.work.writer g ≡ Idle → x.work.queue g ≡ job ∷ rest
     → writes_left (y.work.writer g) ≡ job_size job + 4
 pop_left w x y g now job rest step idle queue =
-    by (writer_goes w x y g (Write g now) Quiet (λ e. absurd (cc)) step)
+    by (writer_goes w x y g (Write g now) Quiet (λ e quiet. absurd (cc)) step)
   where
     by : Writer_goes w x y g (Write g now) Quiet → writes_left (y.work.writer g) ≡ job_size job + 4
     by (Is_left same none) = absurd (true≢false (sym (own_done g now) ∙ none))

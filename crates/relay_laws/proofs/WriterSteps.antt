@@ -1,6 +1,6 @@
 -- What a step does to the writer of a group: it is a Write of the group, or leaves it.
 use Rattle.std.proofs.Common.{◌≡◌, ◌∙◌, ℕ, ◌==◌, nat_lt, Bool, true, false, List, length, refl, sym}
-use Rattle.std.proofs.Common.{ap, subst, cond}
+use Rattle.std.proofs.Common.{ap, subst, cond, true≢false}
 use Rattle.std.specs.Prelude.{Option, None, Some, slice_get}
 use Rattle.std.proofs.lemmas.Bool.{eqb-true, eqb-false}
 use Rattle.news_terms.specs.Places.{Buffer}
@@ -10,6 +10,7 @@ use Rattle.relay_model.specs.Asks.{TakesQueue, Refuses, Takes, Pushes, LooksInSl
 use Rattle.relay_model.specs.Claims.{Passed}
 use Rattle.relay_model.specs.Run.{Event, Open, Bytes, Turn, Write, Break, Expire, Restart, Step}
 use Rattle.relay_model.specs.Run.{Does, IsRefused, WantsMemory, IsDone, Turns}
+use Rattle.relay_model.specs.Run.{HasNoRoom, HasNot, IsBusy, Restarts}
 use Rattle.relay_model.specs.Run.{expired, reads_front}
 use Rattle.relay_model.specs.Shares.{Answer, Shares, Reading, IsFound, HasNotRead, Pushing}
 use Rattle.relay_model.specs.State.{Job}
@@ -20,7 +21,7 @@ use Rattle.relay_model.specs.Writers.{Writes, NoJob, Pops, HasBegun, FindsWorn, 
 use Rattle.relay_model.specs.Writers.{FailsToWrite, HasStored, Settles, Closes, Forgets, TellsKept}
 use Rattle.relay_model.specs.Writers.{TellsFailed}
 use Rattle.relay_facts.proofs.Puts.{put_at_there}
-use Rattle.relay_laws.specs.Counts.{is_write_done}
+use Rattle.relay_laws.specs.Counts.{RestartsNone, is_write_done}
 
 -- the writers of a world
 abbrev pub writers : World → ℕ → Writer
@@ -148,16 +149,27 @@ write_done w x y g h now output quiet writes = by (h == g) refl
         Is_left (write_elsewhere w x h now y writes g (λ e. eqb-false h g other (sym e)))
         (said ∙ other)
 
--- each step but a Restart
+-- a Restart that is refused leaves it
+restart_goes : (w : Terms) (x y : World) (g : ℕ) (output : Output)
+    → (output ≡ world.Quiet → ⊥) → Restarts w x output y → Writer_goes w x y g Restart output
+restart_goes w x y g output undone (IsBusy id storing said e) =
+    Is_left (ap (λ v. writers v g) e) refl
+restart_goes w x y g output undone (HasNoRoom failures rises said e) =
+    Is_left (ap (λ v. writers v g) e) refl
+restart_goes w x y g output undone (HasNot i buffer failures there none failed said e) =
+    Is_left (ap (λ v. writers v g) e) refl
+restart_goes w x y g output undone (IsDone failures none rises said e) = absurd (undone said)
+
+-- each step but a Restart that is done
 pub writer_goes : (w : Terms) (x y : World) (g : ℕ) (event : Event) (output : Output)
-    → (event ≡ Restart → ⊥) → Step w x event output y → Writer_goes w x y g event output
-writer_goes w x y g event output open_still (IsRefused fault is said e) =
+    → RestartsNone event output → Step w x event output y → Writer_goes w x y g event output
+writer_goes w x y g event output undone (IsRefused fault is said e) =
     Is_left (ap (λ v. writers v g) e) (refused_none g event output fault said)
-writer_goes w x y g event output open_still (WantsMemory takes said e) =
+writer_goes w x y g event output undone (WantsMemory takes said e) =
     Is_left (ap (λ v. writers v g) e) (refused_none g event output world.Memory said)
-writer_goes w x y g event output open_still (IsDone free does) = done event open_still does
+writer_goes w x y g event output undone (IsDone free does) = done event undone does
   where
-    done : (one : Event) → (one ≡ Restart → ⊥) → Does w x one output y
+    done : (one : Event) → RestartsNone one output → Does w x one output y
         → Writer_goes w x y g one output
     done (Open s peer) never does = Is_left (ap (λ v. writers v g) does.1) refl
     done (Bytes s piece) never does = Is_left (ap (λ v. writers v g) does.3) refl
@@ -168,4 +180,15 @@ writer_goes w x y g event output open_still (IsDone free does) = done event open
     done (Expire shard now) never does =
         Is_left (ap (λ v. writers v g) does.1
         ∙ ap (λ (f : ℕ → Writer). f g) (expired_writers w x shard now x.work.expirer)) refl
-    done Restart never does = absurd (never refl)
+    done Restart never does = restart_goes w x y g output (never refl) does
+
+-- so a Restart that is refused leaves it
+pub restart_leaves : (w : Terms) (x x' : World) (g : ℕ) (fault : world.Fault)
+    → Step w x Restart (world.Refuses fault) x' → x'.work.writer g ≡ x.work.writer g
+restart_leaves w x x' g fault step =
+    by (writer_goes w x x' g Restart (world.Refuses fault) (λ e said. absurd (cc)) step)
+  where
+    by : Writer_goes w x x' g Restart (world.Refuses fault)
+        → x'.work.writer g ≡ x.work.writer g
+    by (Is_left same none) = same
+    by (Is_write now writes done) = absurd (true≢false (sym done))

@@ -74,12 +74,17 @@ writes_done g (event ∷ events) [] = 0
 writes_done g (event ∷ events) (output ∷ outputs) =
     (if is_write_done g event output then 1 else 0) + writes_done g events outputs
 
--- a run of any events but a Restart, in each world of which before the last the writer of this
--- group has a job, and in which it finds no fault
+-- no Restart is done: the event is another, or it was refused
+abbrev pub RestartsNone : Event → Output → Type 0
+RestartsNone event output = event ≡ Restart → output ≢ Quiet
+
+-- a run of any events in which no Restart is done, in each world of which before the last the writer
+-- of this group has a job, and in which it finds no fault
 abbrev pub RunOfJob : Terms → (g : ℕ) → World → List Event → List Output → World → Type 0
 RunOfJob w g x [] [] x' = x' ≡ x
 RunOfJob w g x (event ∷ events) (output ∷ outputs) x' =
-    (mid : World) × Step w x event output mid × (event ≢ Restart) × (x.work.writer g ≢ Idle)
+    (mid : World) × Step w x event output mid × RestartsNone event output
+    × (x.work.writer g ≢ Idle)
     × FindsNoFault x mid g × RunOfJob w g mid events outputs x'
 RunOfJob w g x [] (output ∷ outputs) x' = ⊥
 RunOfJob w g x (event ∷ events) [] x' = ⊥

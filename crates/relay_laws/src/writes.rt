@@ -1,9 +1,9 @@
 //! Laws of writers: how many Writes a job takes, and that a Write has one outcome.
 ghost use Rattle.std.specs.Prelude.{◌≡◌, ◌≢◌, ◌+◌, ◌<◌, ◌≤◌, ◌∷◌, [], ℕ, List, length, Some};
-ghost use Rattle.relay_model.specs.Run.{Event, Step, Write};
+ghost use Rattle.relay_model.specs.Run.{Event, Step, Restart, Write};
 ghost use Rattle.relay_model.specs.State.{Job};
 ghost use Rattle.relay_model.specs.Terms.{Terms};
-ghost use Rattle.relay_model.specs.World.{World, Output, Quiet, Idle, Popped, IsKept};
+ghost use Rattle.relay_model.specs.World.{World, Fault, Output, Quiet, Refuses, Idle, Popped, IsKept};
 ghost use Rattle.relay_model.specs.World.{with_failures};
 ghost use Rattle.relay_model.specs.Writers.{Writes, job_size};
 ghost use Rattle.relay_facts.specs.Sound.{IsSound};
@@ -39,9 +39,10 @@ pub fn writes_of_a_job()
         → x'.work.writer g ≢ Idle }
 {}
 
-/// In every run, whatever other events stand between, a job of n blocks without a fault takes n + 5
-/// Writes of its group that find it, from its pop to its answer, and fewer before the answer. The
-/// answer is that it was kept, to the session that brought it.
+/// In every run, whatever other events stand between but a Restart that is done, refused ones too, a
+/// job of n blocks without a fault takes n + 5 Writes of its group that find it, from its pop to its
+/// answer, and fewer before the answer. The answer is that it was kept, to the session that brought
+/// it.
 pub fn writes_along_a_run()
     ensures left { (w : Terms) (x x' : World) (g : ℕ) (events : List Event)
         (outputs : List Output) → RunOfJob w g x events outputs x'
@@ -64,10 +65,12 @@ pub fn writes_along_a_run()
         → x'.work.slot job.session ≡ Some IsKept }
 {}
 
-/// Only the Writes of a group move its writer, and a Restart.
+/// Only the Writes of a group move its writer, and a Restart that is done.
 pub fn others_leave_writers()
-    ensures { (w : Terms) (x x' : World) (g : ℕ) (event : Event) (output : Output)
+    ensures others { (w : Terms) (x x' : World) (g : ℕ) (event : Event) (output : Output)
         → Step w x event output x' → IsOther g event → x'.work.writer g ≡ x.work.writer g }
+    ensures refused { (w : Terms) (x x' : World) (g : ℕ) (fault : Fault)
+        → Step w x Restart (Refuses fault) x' → x'.work.writer g ≡ x.work.writer g }
 {}
 
 /// Two Writes that find no fault, from one world and at one moment, lead to one world but for how
