@@ -1,7 +1,7 @@
 -- A write of a block, and the end of a group's open write, in what the buffer set keeps.
 use Rattle.std.proofs.Common.{◌≡◌, ◌≢◌, ◌∙◌, ℕ, ◌+◌, ◌*◌, ◌<◌, nat_lt, Bool, false, refl, sym, ap}
 use Rattle.std.proofs.Common.{subst, arith, take, length, List, [], ◌∷◌, ◌++◌, Option, None, Some}
-use Rattle.std.proofs.Common.{slice_get, Result, Ok, Err}
+use Rattle.std.proofs.Common.{slice_get, Ok, Err}
 use Rattle.std.proofs.lemmas.List.{length-take, take_min, take_all}
 use Rattle.std.proofs.lemmas.Bool.{ltb-false}
 use Rattle.std.proofs.lemmas.Option.{same_Some, none-some, slice_get_past}

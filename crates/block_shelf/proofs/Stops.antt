@@ -1,10 +1,10 @@
 -- What the stop of a buffer set leaves, and its restart, buffer after buffer.
 use Rattle.std.proofs.Common.{◌≡◌, ◌∙◌, ℕ, ◌+◌, ◌<◌, Bool, true, false, arith, refl, sym, ap, List}
 use Rattle.std.proofs.Common.{[], ◌∷◌, ◌++◌, length, Option, None, Some, is_some, slice_get, subst}
-use Rattle.std.proofs.Common.{◌^◌, ◌≤◌, Result, Ok, Err, inl, inr, length-set}
-use Rattle.std.proofs.lemmas.Bool.{cases_eq, true≢false}
+use Rattle.std.proofs.Common.{◌^◌, ◌≤◌, Result, Ok, Err, inl, inr, length-set, ⊎_elim}
+use Rattle.std.proofs.lemmas.Bool.{cases_Bool, cases_eq, ltb-false, ltb-true, true≢false}
 use Rattle.std.proofs.lemmas.List.{length-append}
-use Rattle.std.proofs.lemmas.Option.{none-some, same_Some, slice_get_within}
+use Rattle.std.proofs.lemmas.Option.{none-some, same_Some, slice_get_past, slice_get_within}
 use Rattle.cyc_block.specs.declared.store.BlockStore.{Ghosts}
 use Rattle.cyc_buffer.specs.Agreement.{store_of, Agrees, Follows}
 use Rattle.cyc_buffer.specs.Head.{IsStopRefusal, LeavesBuffer, is_busy}
@@ -19,12 +19,12 @@ use Rattle.cyc_buffer.specs.Restart.{IsFromWithout, IsRestartRefusal}
 use Rattle.cyc_buffer.specs.declared.restarting.RestartError.{RestartError}
 use Rattle.cyc_buffer.specs.declared.restarting.RestartError.TheVariants as errors
 use Rattle.news_terms.specs.Settings.{IsSoundBuffer}
-use Rattle.news_terms.proofs.ListPlaces.{holds_at}
+use Rattle.news_terms.proofs.ListPlaces.{holds_at, there_within}
 use Rattle.relay_facts.proofs.Puts.{put_at_both, put_at_here, put_at_there}
 use Rattle.relay_model.specs.State.{Kept, put_at}
 use Rattle.relay_model.specs.Terms.{Terms}
 use Rattle.relay_model.specs.World.{HasFailedAt}
-use Rattle.std.specs.Prelude.{is_ok}
+use Rattle.std.specs.Prelude.{is_ok, nat_lt}
 use Rattle.block_shelf.proofs.EachLemmas.{each_so, one_more_each}
 use Rattle.block_shelf.proofs.Shelving.{KeptAt, buffers_kept, failed_once, groups_kept, kept_at}
 use Rattle.block_shelf.proofs.Shelving.{put_both, rises, still, with_buffer}
@@ -36,6 +36,7 @@ use Rattle.block_shelf.specs.declared.buffer_set.BufferSet.{BufferSet}
 use Rattle.block_shelf.specs.Keeping.{KeepsTexts}
 use Rattle.block_shelf.specs.Restarting.{AreRestarted, HaveRestarted, IsBusyRestart, IsOtherFault}
 use Rattle.block_shelf.specs.Restarting.{IsRestartedFrom, IsRestartedTo, KeepsOn, RestartsNext}
+use Rattle.block_shelf.specs.Restarting.{EndsAt, IsFaultOfPlace, IsRefusedRestart, LeavesOthers}
 use Rattle.block_shelf.specs.Restarting.{restart_fault}
 use Rattle.block_shelf.specs.declared.restarting.RestartFault.{RestartFault}
 use Rattle.block_shelf.specs.declared.restarting.RestartFault.TheVariants as faults
@@ -418,6 +419,55 @@ all_restarted stop place old new past had = record {
       (omega (arith, past, slice_get_within old.buffers.items b one there)));
   placed_groups = had.placed_groups;
 }
+
+-- the buffers from a place on that a restart has come to are as they were
+as_before : {S : Type 0} {g : Ghosts S} {stop place : ℕ} {old new : BufferSet S g}
+    → HaveRestarted stop place old new → (b : ℕ) → place ≤ b
+    → slice_get new.buffers.items b ≡ slice_get old.buffers.items b
+as_before {old = old} {new} had b behind =
+    ⊎_elim inside outside (cases_Bool (nat_lt b (length old.buffers.items)))
+  where
+    inside : nat_lt b (length old.buffers.items) ≡ true
+        → slice_get new.buffers.items b ≡ slice_get old.buffers.items b
+    inside within =
+        let one =
+        there_within old.buffers.items b (ltb-true b (length old.buffers.items) within) in
+        let now = had.each.each b one.0 one.1 in
+        now.there ∙ ap Some (now.belongs.behind behind) ∙ sym one.1
+
+    outside : nat_lt b (length old.buffers.items) ≡ false
+        → slice_get new.buffers.items b ≡ slice_get old.buffers.items b
+    outside past =
+        let above = ltb-false b (length old.buffers.items) past in
+        slice_get_past new.buffers.items b (omega (arith, above, had.each.count))
+        ∙ sym (slice_get_past old.buffers.items b above)
+
+-- a restart that came to a place and was refused there ended at it
+pub ends_at : {S : Type 0} {g : Ghosts S} {stop place : ℕ} {first old new : BufferSet S g}
+    → place < length first.buffers.items → HaveRestarted stop place first old
+    → LeavesOthers place old new → EndsAt stop place first new
+ends_at {first = first} within had leaves = record {
+  within = within;
+  before = λ b one less there.
+      let was = had.each.each b one there in
+      record {
+        item = was.item;
+        there = leaves.others b (λ same. absurd (omega (arith, less, same))) ∙ was.there;
+        belongs = was.belongs.before less;
+      };
+  behind = λ b more.
+      leaves.others b (λ same. absurd (omega (arith, more, same)))
+      ∙ as_before had b (omega (arith, more));
+  placed_groups = leaves.placed_groups ∙ had.placed_groups;
+}
+
+-- so it is told
+pub refused_at : {S : Type 0} {g : Ghosts S} {stop place : ℕ} {first new : BufferSet S g}
+    (fault : RestartFault) → IsFaultOfPlace place fault → EndsAt stop place first new
+    → IsRefusedRestart stop fault first new
+refused_at faults.Busy told ends = tt
+refused_at {place = place} faults.Memory told ends = (place, ends)
+refused_at {place = place} (faults.Failed number) told ends = (place, told, ends)
 
 -- a buffer set in whose buffers no write is open isn't busy
 pub not_idle : {S : Type 0} {g : Ghosts S} {buffer_set : BufferSet S g} → AreIdle buffer_set

@@ -1,6 +1,6 @@
 -- A buffer set that is stopped and started again in place (docs/PROTOCOL.md, Restart).
-use Rattle.std.specs.Prelude.{◌≡◌, ◌≢◌, ℕ, ◌+◌, ◌<◌, ◌≤◌, Bool, true, List, None, Some}
-use Rattle.std.specs.Prelude.{slice_get, Result, Ok, Err}
+use Rattle.std.specs.Prelude.{◌≡◌, ◌≢◌, ℕ, ◌+◌, ◌^◌, ◌<◌, ◌≤◌, Bool, true, List, None, Some}
+use Rattle.std.specs.Prelude.{length, slice_get, Result, Ok, Err}
 use Rattle.cyc_block.specs.Store.{block_at}
 use Rattle.cyc_block.specs.declared.store.BlockStore.{Ghosts}
 use Rattle.cyc_buffer.specs.Agreement.{Agrees, Follows, buffer_state_of, store_of}
@@ -17,7 +17,7 @@ use Rattle.news_terms.specs.Places as places
 use Rattle.relay_model.specs.State.{Kept}
 use Rattle.relay_model.specs.Terms.{Terms}
 use Rattle.relay_model.specs.World as world
-use Rattle.block_shelf.specs.Each.{AreEach}
+use Rattle.block_shelf.specs.Each.{AreEach, HasAt}
 use Rattle.block_shelf.specs.Keeping.{KeepsTexts}
 use Rattle.block_shelf.specs.Stopping.{IsBusyBufferSet}
 use Rattle.block_shelf.specs.declared.restarting.RestartFault.{RestartFault}
@@ -78,7 +78,39 @@ IsBusyRestart old faults.Busy new = IsBusyBufferSet old × (new ≡ old)
 IsBusyRestart old faults.Memory new = IsBusyBufferSet old → ⊥
 IsBusyRestart old (faults.Failed number) new = IsBusyBufferSet old → ⊥
 
+-- the restart ended at the buffer at this place: each before it was restarted, and those behind it
+-- and the groups are as they were
+pub record EndsAt {S : Type 0} {g : Ghosts S} (stop place : ℕ) (old new : BufferSet S g)
+    : Type 0 where
+  pub within : place < length old.buffers.items
+  pub before : (b : ℕ) (one : Buffer S g) → b < place → slice_get old.buffers.items b ≡ Some one
+      → HasAt (IsRestartedFrom stop) new.buffers.items b one
+  pub behind : (b : ℕ) → place < b
+      → slice_get new.buffers.items b ≡ slice_get old.buffers.items b
+  pub placed_groups : new.placed_groups ≡ old.placed_groups
+
+-- a fault that names a buffer names the one at this place
+abbrev pub IsFaultOfPlace : (place : ℕ) → RestartFault → Type 0
+IsFaultOfPlace place faults.Busy = Unit {0}
+IsFaultOfPlace place faults.Memory = Unit {0}
+IsFaultOfPlace place (faults.Failed number) = place < 2 ^ 8 → number ≡ place
+
+-- a restart that isn't refused as Busy ended at a buffer, which the fault names if it names one
+abbrev pub IsRefusedRestart : {S : Type 0} {g : Ghosts S} → (stop : ℕ) → RestartFault
+    → (old new : BufferSet S g) → Type 0
+IsRefusedRestart stop faults.Busy old new = Unit {0}
+IsRefusedRestart stop faults.Memory old new = (place : ℕ) × EndsAt stop place old new
+IsRefusedRestart stop (faults.Failed number) old new =
+    (place : ℕ) × (place < 2 ^ 8 → number ≡ place) × EndsAt stop place old new
+
 -- STEP BY STEP
+
+-- the buffer at this place may be another, and all else is as it was
+pub record LeavesOthers {S : Type 0} {g : Ghosts S} (place : ℕ) (old new : BufferSet S g)
+    : Type 0 where
+  pub others : (b : ℕ) → b ≢ place
+      → slice_get new.buffers.items b ≡ slice_get old.buffers.items b
+  pub placed_groups : new.placed_groups ≡ old.placed_groups
 
 -- the fault isn't Busy
 abbrev pub IsOtherFault : RestartFault → Type 0

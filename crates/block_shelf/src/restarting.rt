@@ -1,6 +1,7 @@
 //! How a buffer set is stopped and started again in place.
-ghost use Rattle.std.specs.Prelude.{◌≡◌, ◌^◌, ◌<◌, IfErr, OnOk};
+ghost use Rattle.std.specs.Prelude.{◌≡◌, ◌^◌, ◌<◌, IfErr, OnErr, OnOk};
 ghost use Rattle.block_shelf.specs.Restarting.{AreRestarted, IsBusyRestart, KeepsOn};
+ghost use Rattle.block_shelf.specs.Restarting.{IsFaultOfPlace, IsRefusedRestart, LeavesOthers};
 ghost use Rattle.block_shelf.specs.Restarting.{IsOtherFault, RestartsNext, restart_fault};
 
 use crate::buffer_set::BufferSet;
@@ -29,6 +30,9 @@ impl<S: BlockStore> BufferSet<S> {
         ensures keeps { KeepsOn self.old result self.new }
         ensures restarted { OnOk result (AreRestarted stop self.old self.new) }
         ensures busy { IfErr result (λ fault. IsBusyRestart self.old fault self.new) }
+        // Refused at a buffer, those before it are restarted and those behind it as they were.
+        ensures refused { IfErr result (λ fault.
+            IsRefusedRestart stop fault self.old self.new) }
     {
         if self.is_busy() {
             return Err(RestartFault::Busy);
@@ -46,6 +50,8 @@ impl<S: BlockStore> BufferSet<S> {
         ensures keeps { KeepsOn self.old result self.new }
         ensures restarted { OnOk result (RestartsNext stop place self.old self.new) }
         ensures other { IfErr result IsOtherFault }
+        ensures fault { IfErr result (IsFaultOfPlace place) }
+        ensures refused { OnErr result (LeavesOthers place self.old self.new) }
     {
         let Some(buffer) = self.buffers.get_mut(place) else {
             return Ok(());
@@ -61,6 +67,7 @@ impl<S: BlockStore> BufferSet<S> {
 fn fault_of(place: usize, error: &RestartError) -> RestartFault
     ensures fault { place < 2 ^ 8 → result ≡ restart_fault error.now place }
     ensures other { IsOtherFault result }
+    ensures number { IsFaultOfPlace place result }
 {
     match error {
         RestartError::Start(StartError::Memory) => RestartFault::Memory,

@@ -1,6 +1,6 @@
 use Rattle.std.proofs.Common.{Ok, Err, arith, refl}
 use Rattle.block_shelf.proofs.Stops.{all_restarted, keeps_further, not_busy, not_idle}
-use Rattle.block_shelf.proofs.Stops.{nothing_restarted, stays_same}
+use Rattle.block_shelf.proofs.Stops.{ends_at, nothing_restarted, refused_at, stays_same}
 use Rattle.block_shelf.proofs.buffer_set.BufferSet.restart.Goals as goal
 
 pub loop-place-init : goal.loop-place-init
@@ -25,6 +25,7 @@ returns-then-is_busy g c =
           absurd (busy.writing trusted w begun kept failures keeps);
       restarted = tt;
       busy = (busy, refl);
+      refused = tt;
     }
 
 pub returns-in-Err : goal.returns-in-Err
@@ -34,6 +35,14 @@ returns-in-Err g c = record {
   restarted = tt;
   busy = not_busy c.args.self.now c.restart_buffer.new.self c.in-Err.fault c.in-Err.ensures.other
       (not_idle (c.is_busy.ensures.idle c.if-is_busy.false));
+  refused = refused_at c.in-Err.fault c.in-Err.ensures.fault
+      (ends_at
+      (omega (
+        arith,
+        c.loop-place-test.true,
+        c.len-place-end.ensures,
+        c.args.self.now.buffers.ok,
+      )) c.loop-place.invariant.restarted c.in-Err.ensures.refused);
 }
 
 pub returns : goal.returns
@@ -49,4 +58,5 @@ returns g c = record {
       ))
       c.loop-place.invariant.restarted;
   busy = tt;
+  refused = tt;
 }

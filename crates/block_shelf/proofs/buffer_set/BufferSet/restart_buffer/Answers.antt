@@ -1,8 +1,8 @@
-use Rattle.std.proofs.Common.{sym}
+use Rattle.std.proofs.Common.{refl, sym}
 use Rattle.std.proofs.lemmas.Bool.{ltb-false}
 use Rattle.block_shelf.proofs.Stops.{keeps_done, keeps_refused, none_restarted, one_restarted}
 use Rattle.block_shelf.proofs.Stops.{stays_same}
-use Rattle.block_shelf.proofs.Shelving.{read_there}
+use Rattle.block_shelf.proofs.Shelving.{put_there, read_there}
 use Rattle.block_shelf.proofs.buffer_set.BufferSet.restart_buffer.Goals as goal
 
 pub returns-in_default : goal.returns-in_default
@@ -12,6 +12,8 @@ returns-in_default g c = record {
       none_restarted c.args.stop c.args.place c.args.self.now
       (ltb-false _ _ (sym c.in_default.ensures.item.0));
   other = tt;
+  fault = tt;
+  refused = tt;
 }
 
 pub returns-in-Ok : goal.returns-in-Ok
@@ -25,6 +27,8 @@ returns-in-Ok g c = record {
       (read_there c.args.self.now.buffers.items c.args.place c.in-Some.ensures.item)
       c.in-Ok.ensures.same c.args.stop (assumption c.in-Ok.ensures);
   other = tt;
+  fault = tt;
+  refused = tt;
 }
 
 pub returns-in-Err : goal.returns-in-Err
@@ -36,4 +40,10 @@ returns-in-Err g c = record {
       c.in-Err.ensures.cause c.fault_of.ensures.fault;
   restarted = tt;
   other = c.fault_of.ensures.other;
+  fault = c.fault_of.ensures.number;
+  refused = record {
+    others = λ b apart.
+        put_there c.args.self.now.buffers.items c.args.place b c.restart.new.self apart;
+    placed_groups = refl;
+  };
 }
