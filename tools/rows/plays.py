@@ -1,5 +1,7 @@
 """The plays of rows that have no lines for it: what goes on at once, in orders of the schedule."""
 
+import select
+import socket
 import string
 import threading
 from concurrent.futures import ThreadPoolExecutor
@@ -163,5 +165,32 @@ def each_start(row):
         raise Wrong(f"the calls that failed came to {came}")
 
 
-PLAYS = {"sixty-two": sixty_two, "each-cut": each_cut, "large-files": large_files,
-         "each-start": each_start}
+def cut_answers(row):
+    """What stands at the socket of a folder breaks off: a report that was told in part is none then, and
+    of a stop that is the end."""
+    path = row.dir / "control"
+    for word, told, status in (("report", b"buffer A\n", 4), ("stop", b"", 0)):
+        with socket.socket(socket.AF_UNIX) as place:
+            place.bind(str(path))
+            place.listen()
+            place.settimeout(row.given.patience)
+            asker = row.start(word, f"{word} {{dir}}")
+            with place.accept()[0] as client:
+                client.sendall(told)
+                # What was asked isn't read: so the connection breaks, and doesn't end in order.
+                select.select([client], [], [], row.given.patience)
+        path.unlink()
+        if not asker.has_ended(row.given.patience):
+            raise Wrong(f"{word} doesn't end")
+        came = (asker.process.returncode, asker.told(asker.out), len(asker.told(asker.err)))
+        if came != (status, [], 1 if status else 0):
+            raise Wrong(f"{word} came to {came}: {asker.told(asker.err)}")
+
+
+PLAYS = {
+    "sixty-two": sixty_two,
+    "each-cut": each_cut,
+    "large-files": large_files,
+    "each-start": each_start,
+    "cut-answers": cut_answers,
+}

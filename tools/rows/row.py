@@ -508,6 +508,10 @@ class Row:
             self.make_fault(ROWS_TAKES=rest)
         elif line == "unseeded":
             self.make_fault(REFUSE_RANDOM="1")
+        elif line == "unmoded":
+            self.make_fault(REFUSE_MODES="1")
+        elif line == "narrow":
+            self.make_fault(ROWS_NARROW="1")
         elif line == "flows":
             self.programs[""].flows()
         elif name in ("files", "octets"):

@@ -15,6 +15,7 @@ SHARING = r"""
 #include <string.h>
 #include <sys/mman.h>
 #include <sys/socket.h>
+#include <sys/stat.h>
 #include <sys/syscall.h>
 #include <time.h>
 #include <unistd.h>
@@ -98,11 +99,32 @@ ssize_t pwrite(int file, const void *octets, size_t count, off_t place) {
     return pwrite64(file, octets, count, place);
 }
 
-/* Whether a connection is one of a peer. */
-static int is_peer(int file) {
+/* Where REFUSE_MODES is set no file's rights can be. */
+int chmod(const char *path, mode_t mode) {
+    if (getenv("REFUSE_MODES")) {
+        errno = EPERM;
+        return -1;
+    }
+    return syscall(SYS_chmod, path, mode);
+}
+
+/* Whether a connection is one of this kind. */
+static int is_of(int file, int kind) {
     int domain = 0;
     socklen_t size = sizeof domain;
-    return getsockopt(file, SOL_SOCKET, SO_DOMAIN, &domain, &size) == 0 && domain == AF_INET;
+    return getsockopt(file, SOL_SOCKET, SO_DOMAIN, &domain, &size) == 0 && domain == kind;
+}
+
+/* Whether a connection is one of a peer. */
+static int is_peer(int file) {
+    return is_of(file, AF_INET);
+}
+
+/* Where ROWS_NARROW is set, who asks at the socket of a folder is told as little at once as can be. */
+static void narrow(int file) {
+    int least = 1;
+    if (getenv("ROWS_NARROW") && is_of(file, AF_UNIX))
+        setsockopt(file, SOL_SOCKET, SO_SNDBUF, &least, sizeof least);
 }
 
 /* Where connections go on by single octets, each second call of a thread is interrupted. */
@@ -124,6 +146,7 @@ ssize_t recv(int file, void *octets, size_t count, int flags) {
 
 ssize_t send(int file, const void *octets, size_t count, int flags) {
     uint64_t left;
+    narrow(file);
     if (!shared || !is_peer(file))
         return syscall(SYS_sendto, file, octets, count, flags, 0, 0);
     if (NOW(octets)) {
