@@ -55,28 +55,20 @@ module _ {X Y Z : Type 0} (f : X → Z) (k : Y → Z) where
       ∙ (λ i. same i ++ alike i ∷ [])
       ∙ sym (map-append k ys (y ∷ []))
 
-module _ {X Z : Type 0} (f : X → Z) where
-  -- so where it is the items themselves of the other,
-  pub read_pushed : (xs now : List X) (x : X) (zs : List Z) (z : Z) → map f xs ≡ zs
-      → now ≡ xs ++ x ∷ [] → f x ≡ z → map f now ≡ zs ++ z ∷ []
-  read_pushed xs now x zs z same longer is =
-      ap (map f) longer
-      ∙ map-append f xs (x ∷ [])
-      ∙ (λ i. same i ++ is i ∷ [])
+-- what is made of each item of a row is so of one more
+pub made_pushed : {X Z : Type 0} (f : X → Z) (zs now : List Z) (z : Z) (xs : List X) (x : X)
+    → zs ≡ map f xs → now ≡ zs ++ z ∷ [] → z ≡ f x → now ≡ map f (xs ++ x ∷ [])
+made_pushed f zs now z xs x same longer is =
+    longer ∙ (λ i. same i ++ is i ∷ []) ∙ sym (map-append f xs (x ∷ []))
 
-  -- or of the one
-  pub made_pushed : (zs now : List Z) (z : Z) (xs : List X) (x : X) → zs ≡ map f xs
-      → now ≡ zs ++ z ∷ [] → z ≡ f x → now ≡ map f (xs ++ x ∷ [])
-  made_pushed zs now z xs x same longer is =
-      longer ∙ (λ i. same i ++ is i ∷ []) ∙ sym (map-append f xs (x ∷ []))
-
--- as many numbers as are read of a row are in order with the next one
-pub in_order_with : {X : Type 0} (f : X → ℕ) (xs new : List X) (next : ℕ) → next ≡ length xs
-    → map f new ≡ map f xs ++ next ∷ [] → AreInOrder (map f xs) → AreInOrder (map f new)
-in_order_with f xs new next is longer order =
-    subst (λ l. AreInOrder l)
-    (ap (λ (n : ℕ). map f xs ++ n ∷ []) (length-map xs f ∙ sym is) ∙ sym longer)
-    (next_in_order (map f xs) order)
+-- rows that are as long are so with one item more of each
+pub both_longer : {X Y : Type 0} (xs now : List X) (x : X) (ys : List Y) (y : Y)
+    → length xs ≡ length ys → now ≡ xs ++ x ∷ [] → length now ≡ length (ys ++ y ∷ [])
+both_longer xs now x ys y same longer =
+    ap length longer
+    ∙ length-append xs (x ∷ [])
+    ∙ ap (λ n. n + 1) same
+    ∙ sym (length-append ys (y ∷ []))
 
 -- of a row whose numbers are in order the item at a place has the number of the place
 pub number_in_row : {X : Type 0} (f : X → ℕ) (xs : List X) (place : ℕ) (x : X)
@@ -90,11 +82,6 @@ number_in_row f xs place x order within here =
 pub as_many : (numbers : List ℕ) (beside n : ℕ) → numbers ≡ range_with_len 0 n
     → length numbers ≡ beside → beside ≡ n
 as_many numbers beside n are long = sym long ∙ ap length are ∙ length-range_with_len 0 n
-
--- what was made longer goes on from what is the same
-pub joined : {X : Type 0} (old new xs : List X) (x : X) → new ≡ old ++ x ∷ [] → old ≡ xs
-    → new ≡ xs ++ x ∷ []
-joined old new xs x longer same = longer ∙ ap (λ l. l ++ x ∷ []) same
 
 -- there is room for one of those that are left
 pub one_left : {X : Type 0} (f : X → ℕ) (xs : List X) (left next all : List ℕ)
@@ -116,10 +103,8 @@ pub as_long : {X Y : Type 0} (f : X → Y) (xs : List X) (ys : List Y) → map f
     → length xs ≡ length ys
 as_long f xs ys same = sym (length-map xs f) ∙ ap length same
 
--- a row is as long as another once nothing is left of what is read of that
-pub all_out : {X Y Z : Type 0} (f : X → Z) (k : Y → Z) (xs : List X) (ys : List Y) (left : List Z)
-    → map f xs ++ left ≡ map k ys → left ≡ [] → length xs ≡ length ys
-all_out f k xs ys left same none =
-    as_long f xs (map k ys)
-    (sym (append-nil (map f xs)) ∙ ap (λ l. map f xs ++ l) (sym none) ∙ same)
-    ∙ length-map ys k
+-- a row is as long as what is read of it once nothing else is left
+pub all_out : {X Z : Type 0} (f : X → Z) (xs : List X) (all left : List Z) → map f xs ++ left ≡ all
+    → left ≡ [] → length xs ≡ length all
+all_out f xs all left same none =
+    as_long f xs all (sym (append-nil (map f xs)) ∙ ap (λ l. map f xs ++ l) (sym none) ∙ same)

@@ -17,7 +17,9 @@ use Rattle.live_store.specs.declared.record.StorePremises as store_premises
 use Rattle.relay_conf.specs.Settings.{places_of_groups}
 use Rattle.relay_conf.specs.declared.settings.Config.{Config}
 use Rattle.relay_live.specs.Alone.{KeepsState, newest_in, stop_in}
+use Rattle.relay_live.specs.Making.{HasParts}
 use Rattle.relay_live.specs.declared.alone.Alone.{Alone}
+use Rattle.relay_live.specs.declared.shared.Shared.{Shared}
 use Rattle.relay_model.specs.Claims.{Unknown}
 use Rattle.relay_model.specs.State.{empty_state}
 use Rattle.std.specs.List.{All}
@@ -54,3 +56,12 @@ pub record BeginsOver {S J L : Type 0} {s : blocks.Ghosts S} {j : store_premises
   pub remembers : alone.remember ≡ config.relay.remember
   pub keeps : All s.honest stores
       → KeepsState (terms_of config) alone empty_state (failures_in s stores)
+
+-- a relay was made of such parts
+pub record BeginsShared {S J L : Type 0} {s : blocks.Ghosts S} {j : store_premises.Ghosts J}
+    (config : Config) (stores : List S) (shared : Shared S J L s j)
+    : Type 0 where
+  pub alone : Alone S J L s j
+  pub slots : ℕ
+  pub parts : HasParts shared alone slots
+  pub begins : BeginsOver config stores alone

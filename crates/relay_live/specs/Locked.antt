@@ -10,10 +10,6 @@ use Rattle.relay_live.specs.declared.locked.Locked.{Locked}
 abbrev pub number_of : {T K : Type 0} → Locked T K → ℕ
 number_of locked = locked.number
 
--- what was put behind it
-abbrev pub put_behind : {T K : Type 0} → Locked T K → T
-put_behind locked = locked.put.value
-
 -- the number of the lock that a value came out of
 abbrev pub freed_number : {T : Type 0} → Freed T → ℕ
 freed_number freed = freed.number

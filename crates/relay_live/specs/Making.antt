@@ -23,11 +23,6 @@ abbrev pub feeds_in : {S J L : Type 0} {s : blocks.Ghosts S} {j : store_premises
     → Shared S J L s j → ℕ
 feeds_in shared = shared.feeds
 
--- the parts that were put behind its locks
-abbrev pub put_in : {S J L : Type 0} {s : blocks.Ghosts S} {j : store_premises.Ghosts J}
-    → Shared S J L s j → Alone S J L s j
-put_in shared = shared.put.value
-
 -- for how many seconds ids are remembered, where they aren't for good
 abbrev pub remember_in : {S J L : Type 0} {s : blocks.Ghosts S} {j : store_premises.Ghosts J}
     → Shared S J L s j → Option ℕ

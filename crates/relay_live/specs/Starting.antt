@@ -45,7 +45,7 @@ use Rattle.relay_core.specs.declared.stopped.NotStarted.{NotStarted}
 use Rattle.relay_core.specs.declared.stopped.NotStarted.TheVariants as nots
 use Rattle.relay_facts.specs.Started.{HasSameStore, started}
 use Rattle.relay_live.specs.Alone.{KeepsState, newest_in, stop_in}
-use Rattle.relay_live.specs.Making.{last_stop}
+use Rattle.relay_live.specs.Making.{HasParts, last_stop}
 use Rattle.relay_live.specs.Numbers.{last_of}
 use Rattle.relay_live.specs.Stopping.{AreShutWith}
 use Rattle.relay_live.specs.declared.alone.Alone.{Alone}
@@ -253,6 +253,15 @@ pub record HasStopOf {S J L : Type 0} {s : blocks.Ghosts S} {j : store_premises.
   pub history : texts.Kept
   pub reads : Reads config text history
   pub stop_is : last_stop shared ≡ history.stop
+
+-- a relay was made of the parts of one that was started from these stores and this text
+pub record StartsShared {S J L : Type 0} {s : blocks.Ghosts S} {j : store_premises.Ghosts J}
+    (config : Config) (stores : List S) (text : List ℕ) (shared : Shared S J L s j)
+    : Type 0 where
+  pub alone : Alone S J L s j
+  pub slots : ℕ
+  pub parts : HasParts shared alone slots
+  pub starts : StartsOver config stores text alone
 
 -- STEP BY STEP
 

@@ -17,7 +17,7 @@ use Rattle.live_store.specs.declared.record.StorePremises as store_premises
 use Rattle.relay_core.specs.Stopping.{IsShut, Tells, next_stop}
 use Rattle.relay_core.specs.declared.stopped.Stopped.{Stopped}
 use Rattle.relay_live.specs.Alone.{KeepsBeside, KeepsState, codes_of, stop_in}
-use Rattle.relay_live.specs.Making.{buffers_in, last_stop, put_in}
+use Rattle.relay_live.specs.Making.{HasParts, buffers_in, last_stop}
 use Rattle.relay_live.specs.declared.alone.Alone.{Alone}
 use Rattle.relay_live.specs.declared.shared.Shared.{Shared}
 use Rattle.relay_live.specs.declared.shared.Unshut.{Unshut}
@@ -161,12 +161,21 @@ pub record FailsParts {S J L : Type 0} {s : blocks.Ghosts S} {j : store_premises
   pub rest : IsAtRest alone
   pub failed : IsShutPartly alone number stores
 
+-- a relay was made of parts in which an id is being stored, or a write is open
+pub record StoresParts {S J L : Type 0} {s : blocks.Ghosts S} {j : store_premises.Ghosts J}
+    (shared : Shared S J L s j)
+    : Type 0 where
+  pub alone : Alone S J L s j
+  pub slots : ℕ
+  pub parts : HasParts shared alone slots
+  pub storing : IsStoring alone
+
 -- A relay that isn't stopped for want of memory or as it isn't idle goes on, as large as it was; in
 -- what goes behind its locks again an id is being stored, or a write is open, where it isn't idle.
 -- Where a device failed, it is one of its buffers', and there is a store of each.
 abbrev pub IsUnshut : {S J L : Type 0} {s : blocks.Ghosts S} {j : store_premises.Ghosts J}
     → Shared S J L s j → Unshut S J L s j → Type 0
-IsUnshut old (answers.NotIdle back) = HasAsMany old back × IsStoring (put_in back)
+IsUnshut old (answers.NotIdle back) = HasAsMany old back × StoresParts back
 IsUnshut old (answers.Memory back) = HasAsMany old back
 IsUnshut old (answers.Device number stores) =
     ((number < buffers_in old) × (length stores.items ≡ buffers_in old))

@@ -6,39 +6,31 @@ use crate::locked::{Freed, Held};
 use cyc_block::BlockStore;
 use live_store::{NumberedBuffer, StorePremises};
 use std::alloc::{AllocError, Global};
-use std::snapshot::Snapshot;
 use std::sync::{Mutex, Wait};
 use std::vec::IntoIter;
 
-/// The number of a buffer, and what was put behind its lock, which is for contracts alone.
-#[derive(Drop)]
-struct Mark<S: BlockStore + Drop, J: StorePremises> {
-    number: usize,
-    put: Snapshot<NumberedBuffer<S, J>>,
-}
-
-/// Buffers behind their locks, and the mark of each. A lock and its mark go in together, and come
-/// out together.
+/// Buffers behind their locks, and the number of each. A lock and its number go in together, and
+/// come out together.
 #[derive(Drop)]
 pub(crate) struct BufferLocks<S: BlockStore + Drop, J: StorePremises> {
     locks: Vec<Mutex<NumberedBuffer<S, J>>>,
-    marks: Vec<Mark<S, J>>,
-    ghost as_many: { length locks.items ≡ length marks.items },
+    numbers: Vec<usize>,
+    ghost as_many: { length locks.items ≡ length numbers.items },
 }
 
 /// Those that have still to come out.
 #[derive(Drop)]
 struct LocksLeft<S: BlockStore + Drop, J: StorePremises> {
     locks: IntoIter<Mutex<NumberedBuffer<S, J>>>,
-    marks: IntoIter<Mark<S, J>>,
-    ghost as_many: { into_iter_len locks ≡ into_iter_len marks },
+    numbers: IntoIter<usize>,
+    ghost as_many: { into_iter_len locks ≡ into_iter_len numbers },
 }
 
 impl<S: BlockStore + Drop, J: StorePremises> BufferLocks<S, J> {
     ghost use Rattle.std.specs.Prelude.{◌≡◌, ◌≤◌, ◌<◌, ◌++◌, ◌∷◌, [], length, map, IfOk};
     ghost use Rattle.std.specs.Prelude.{vec_capacity};
-    ghost use Rattle.relay_live.specs.BufferLocks.{HasRoomFor, count_in, lock_room, mark_room};
-    ghost use Rattle.relay_live.specs.BufferLocks.{numbers_in, numbers_left, puts_in};
+    ghost use Rattle.relay_live.specs.BufferLocks.{HasRoomFor, count_in, lock_room, number_room};
+    ghost use Rattle.relay_live.specs.BufferLocks.{numbers_in, numbers_left};
     ghost use Rattle.relay_live.specs.Locked.{AreInOrder, freed_number, held_number};
 
     /// None yet, with room for so many.
@@ -46,8 +38,8 @@ impl<S: BlockStore + Drop, J: StorePremises> BufferLocks<S, J> {
         ensures { IfOk result (HasRoomFor count) }
     {
         let locks = Vec::with_capacity(alloc, count)?;
-        let marks = Vec::with_capacity(alloc, count)?;
-        Ok(BufferLocks { locks, marks })
+        let numbers = Vec::with_capacity(alloc, count)?;
+        Ok(BufferLocks { locks, numbers })
     }
 
     /// These buffers behind their locks, each with the number of its place, put where there is room
@@ -57,7 +49,6 @@ impl<S: BlockStore + Drop, J: StorePremises> BufferLocks<S, J> {
         room: BufferLocks<S, J>,
     ) -> BufferLocks<S, J>
         requires { HasRoomFor (length buffers.items) room }
-        ensures puts { puts_in result ≡ buffers.items }
         ensures order { AreInOrder (numbers_in result) }
         ensures count { count_in result ≡ length buffers.items }
     {
@@ -71,16 +62,12 @@ impl<S: BlockStore + Drop, J: StorePremises> BufferLocks<S, J> {
     /// The next buffer goes behind a lock, and has the number of its place.
     fn push(&mut self, buffer: NumberedBuffer<S, J>)
         requires lock_room { count_in self.old < lock_room self.old }
-        requires mark_room { count_in self.old < mark_room self.old }
+        requires number_room { count_in self.old < number_room self.old }
         ensures numbers { numbers_in self.new ≡ numbers_in self.old ++ count_in self.old ∷ [] }
-        ensures puts { puts_in self.new ≡ puts_in self.old ++ buffer ∷ [] }
         ensures rooms { (lock_room self.new ≡ lock_room self.old)
-            × (mark_room self.new ≡ mark_room self.old) }
+            × (number_room self.new ≡ number_room self.old) }
     {
-        self.marks.push_reserved(Mark {
-            number: self.marks.len(),
-            put: Snapshot::of(&buffer),
-        });
+        self.numbers.push_reserved(self.numbers.len());
         self.locks.push_reserved(Mutex::new(buffer));
     }
 
@@ -88,7 +75,7 @@ impl<S: BlockStore + Drop, J: StorePremises> BufferLocks<S, J> {
     pub(crate) fn len(&self) -> usize
         ensures { result ≡ count_in self.now }
     {
-        self.marks.len()
+        self.numbers.len()
     }
 
     /// The locks, in the order of their numbers.
@@ -104,7 +91,7 @@ impl<S: BlockStore + Drop, J: StorePremises> BufferLocks<S, J> {
         requires order { AreInOrder (numbers_in self.now) }
         ensures { held_number result ≡ place }
     {
-        Held::of(self.marks[place].number, self.locks[place].lock(rt))
+        Held::of(self.numbers[place], self.locks[place].lock(rt))
     }
 
     /// The buffers out of their locks, each with the number of its lock, put where there is room for
@@ -118,11 +105,11 @@ impl<S: BlockStore + Drop, J: StorePremises> BufferLocks<S, J> {
         ensures numbers { map freed_number result.items ≡ numbers_in self }
         ensures count { length result.items ≡ count_in self }
     {
-        let BufferLocks { locks, marks } = self;
+        let BufferLocks { locks, numbers } = self;
         let mut values = room;
         let mut left = LocksLeft {
             locks: locks.into_iter(),
-            marks: marks.into_iter(),
+            numbers: numbers.into_iter(),
         };
         while let Some(freed) = left.next() {
             values.push_reserved(freed);
@@ -143,7 +130,7 @@ impl<S: BlockStore + Drop, J: StorePremises> LocksLeft<S, J> {
         ensures none { IfNone result (numbers_left self.old ≡ []) }
     {
         let lock = self.locks.next()?;
-        let mark = self.marks.next()?;
-        Some(Freed::of(mark.number, lock.into_inner()))
+        let number = self.numbers.next()?;
+        Some(Freed::of(number, lock.into_inner()))
     }
 }

