@@ -4,3 +4,4 @@ pub mod Carried
 pub mod Commands
 pub mod Counts
 pub mod Turns
+pub mod Waiting

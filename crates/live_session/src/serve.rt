@@ -9,6 +9,7 @@ ghost use Rattle.live_session.specs.Carried.{Lasts, Refusal, ServesOn, carried};
 ghost use Rattle.live_session.specs.Commands.{WasLetIn, newest_in};
 ghost use Rattle.live_session.specs.Counts.{most_turns, most_waiting, turns_in};
 ghost use Rattle.live_session.specs.Going.{hands_at};
+ghost use Rattle.live_session.specs.Waiting.{WaitsLittle};
 ghost use Rattle.live_session.specs.Turns.{Conversed, HadRound, HasRead, ServedThrough};
 ghost use Rattle.live_session.specs.declared.wire.Finish.TheVariants as finishes;
 ghost use Rattle.peer_session.specs.Session.{session_view};
@@ -327,6 +328,7 @@ fn write_on<G: Gate<R>, H: Hears, W: Says, R>(
     newest: Option<Command>,
 )
     requires newest { WasLetIn (G.admits gate.now) newest }
+    ensures waiting { WaitsLittle wire.new.outbox.items }
     ensures written { G.one_by_one gate.now ≡ true → wire.new.outbox.items ≡ [] }
     ensures few { length wire.new.outbox.items < most_waiting }
     ensures same { CarriesSame
