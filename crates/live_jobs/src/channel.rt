@@ -5,8 +5,7 @@ ghost use Rattle.job_queue.specs.Delivery.{knows_all, OfWriter, IsOpen, IsClosed
 ghost use Rattle.job_queue.specs.Delivery.{HasHanded, HasTaken};
 ghost use Rattle.job_queue.specs.declared.parcel.Parcel.TheVariants as parcels;
 
-use crossbeam_utils::sync::EventCount;
-use job_queue::{Handed, JobQueue, Parcel, QueuePass};
+use job_queue::{Handed, JobQueue, Parcel, Parcels, QueuePass, Room, Row};
 use std::alloc::{AllocError, Global};
 use std::sync::Wait;
 use std::thread;
@@ -20,9 +19,9 @@ pub const LOOKS: u32 = 64;
 pub struct JobChannel {
     pub(crate) queue: JobQueue,
     // Told of each parcel that is pushed.
-    filled: EventCount,
+    filled: Row<Parcels>,
     // Told of each parcel that is taken.
-    emptied: EventCount,
+    emptied: Row<Room>,
 }
 
 // Written out, so that no crate above proves anew how each part is let go.
@@ -47,8 +46,8 @@ impl JobChannel {
         let (queue, first) = job_queue::new_queue(alloc)?;
         let channel = JobChannel {
             queue,
-            filled: EventCount::new(),
-            emptied: EventCount::new(),
+            filled: Row::new(),
+            emptied: Row::new(),
         };
         Ok((channel, first))
     }
@@ -68,9 +67,9 @@ impl JobChannel {
             HasHanded (view pass.old) (parcels.Job job) (view pass.new)) }
         ensures full { IfErr result (λ back. (back ≡ job) × (view pass.new ≡ view pass.old)) }
     {
-        match job_queue::hand_over(rt, &self.queue, pass, job) {
-            Ok(()) => {
-                self.filled.notify_one();
+        match job_queue::hand_over_first(rt, &self.queue, pass, job) {
+            Ok(change) => {
+                self.filled.tell(change);
                 Ok(())
             }
             Err(back) => Err(back),
@@ -115,12 +114,17 @@ impl JobChannel {
                 Ok(()) => return,
                 Err(back) => job = back,
             }
-            let key = self.emptied.prepare_wait();
-            match self.try_hand_over(rt, pass, job) {
-                Ok(()) => return,
-                Err(back) => job = back,
+            let announced = self.emptied.announce();
+            match job_queue::hand_over_last(rt, &self.queue, pass, job, announced) {
+                Ok(change) => {
+                    self.filled.tell(change);
+                    return;
+                }
+                Err((back, full)) => {
+                    job = back;
+                    full.wait(rt);
+                }
             }
-            key.wait(rt);
         }
         unreachable!()
     }
@@ -134,12 +138,14 @@ impl JobChannel {
         ensures marked { HasHanded (view pass.old) (parcels.Mark end) (view pass.new) }
     {
         for _ in rt.forever() {
-            let key = self.emptied.prepare_wait();
-            if job_queue::mark_closed(rt, &self.queue, pass, end) {
-                self.filled.notify_one();
-                return;
+            let announced = self.emptied.announce();
+            match job_queue::mark_closed_last(rt, &self.queue, pass, end, announced) {
+                Ok(change) => {
+                    self.filled.tell(change);
+                    return;
+                }
+                Err(full) => full.wait(rt),
             }
-            key.wait(rt);
         }
         unreachable!()
     }
@@ -153,9 +159,9 @@ impl JobChannel {
         ensures taken { IfSome result (λ parcel. HasTaken (view pass.old) parcel (view pass.new)) }
         ensures empty { result ≡ None → view pass.new ≡ view pass.old }
     {
-        match job_queue::take_one(rt, &self.queue, pass) {
-            Some(parcel) => {
-                self.emptied.notify_one();
+        match job_queue::take_one_first(rt, &self.queue, pass) {
+            Some((parcel, change)) => {
+                self.emptied.tell(change);
                 Some(parcel)
             }
             None => None,
@@ -192,11 +198,14 @@ impl JobChannel {
             if let Some(parcel) = self.take_soon(rt, pass) {
                 return parcel;
             }
-            let key = self.filled.prepare_wait();
-            if let Some(parcel) = self.try_take(rt, pass) {
-                return parcel;
+            let announced = self.filled.announce();
+            match job_queue::take_one_last(rt, &self.queue, pass, announced) {
+                Ok((parcel, change)) => {
+                    self.emptied.tell(change);
+                    return parcel;
+                }
+                Err(empty) => empty.wait(rt),
             }
-            key.wait(rt);
         }
         unreachable!()
     }

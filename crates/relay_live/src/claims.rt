@@ -3,9 +3,9 @@ ghost use Rattle.std.specs.Prelude.{◌≡◌, ◌≢◌, ◌<◌, IfOk};
 ghost use Rattle.id_history.specs.declared.claims.Take.TheVariants as takes;
 ghost use Rattle.relay_live.specs.Settling.{SettlesJob};
 
-use crossbeam_utils::sync::EventCount;
 use cyc_token::Token;
 use id_history::{Shard, Take};
+use job_queue::{Crowd, Looked};
 use live_jobs::{CountedDesk, Posted, Unsettled};
 use nntp_text::MsgId;
 use std::alloc::AllocError;
@@ -18,7 +18,7 @@ use std::sync::{Mutex, Wait};
 pub(crate) struct Claims {
     pub(crate) shard: Mutex<Shard>,
     // Told of each article whose storing ended.
-    ended: EventCount,
+    ended: Crowd,
 }
 
 impl Claims {
@@ -26,7 +26,7 @@ impl Claims {
     pub(crate) fn over(shard: Shard) -> Claims {
         Claims {
             shard: Mutex::new(shard),
-            ended: EventCount::new(),
+            ended: Crowd::new(),
         }
     }
 
@@ -56,19 +56,30 @@ impl Claims {
         ensures { IfOk result (λ take. take ≢ takes.Held) }
     {
         for _ in rt.forever() {
-            // Announced before the look, so that no end of a storing falls between.
-            let key = self.ended.prepare_wait();
-            match self.take(rt, id, session)? {
-                Take::Held => key.wait(rt),
+            let (take, looked) = self.take_last(rt, id, session)?;
+            match take {
+                Take::Held => looked.wait(rt),
                 answer => return Ok(answer),
             }
         }
         unreachable!()
     }
 
+    // As `take`, as the last look of one who may wait then.
+    fn take_last<R: Wait>(
+        &self,
+        rt: &R,
+        id: &MsgId,
+        session: u64,
+    ) -> Result<(Take, Looked<'_>), AllocError> {
+        let (mut shard, looked) = self.ended.lock_last(rt, &self.shard);
+        Ok((shard.take(id, session)?, looked))
+    }
+
     pub(crate) fn forget<R: Wait>(&self, rt: &R, id: &MsgId, session: u64) {
-        self.shard.lock(rt).forget(id, session);
-        self.ended.notify_all();
+        let mut shard = self.shard.lock(rt);
+        shard.forget(id, session);
+        self.ended.unlock(shard);
     }
 
     /// Settles under this lock and then the desk's (`live_jobs::settle`).
@@ -86,7 +97,7 @@ impl Claims {
     {
         let posted = live_jobs::settle(rt, &self.shard, desk, share, article);
         if posted.is_some() {
-            self.ended.notify_all();
+            self.ended.tell();
         }
         posted
     }

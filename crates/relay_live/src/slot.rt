@@ -2,7 +2,7 @@
 ghost use Rattle.std.specs.Prelude.{◌≡◌, IfSome};
 ghost use Rattle.relay_live.specs.Slots.{after_tell, told_to, left_by};
 
-use crossbeam_utils::sync::EventCount;
+use job_queue::Crowd;
 use live_jobs::{JobAnswer, LOOKS};
 use live_store::StorePremises;
 use std::sync::{Mutex, Wait};
@@ -13,7 +13,7 @@ use std::thread;
 pub struct Slot<J: StorePremises> {
     answer: Mutex<Option<JobAnswer<J>>>,
     // Told of each answer that is put.
-    filled: EventCount,
+    filled: Crowd,
 }
 
 impl<J: StorePremises> Slot<J> {
@@ -21,15 +21,16 @@ impl<J: StorePremises> Slot<J> {
     pub fn new() -> Slot<J> {
         Slot {
             answer: Mutex::new(None),
-            filled: EventCount::new(),
+            filled: Crowd::new(),
         }
     }
 
     /// Puts what became of a job of the end's. Where an answer of a later job stands there nobody
     /// waits for this one, and it is dropped.
     pub fn tell<R: Wait>(&self, rt: &R, answer: JobAnswer<J>) {
-        put(&mut self.answer.lock(rt), answer);
-        self.filled.notify_all();
+        let mut held = self.answer.lock(rt);
+        put(&mut held, answer);
+        self.filled.unlock(held);
     }
 
     /// Waits until a writer has told what became of the end's job of this number, and takes that.
@@ -41,11 +42,12 @@ impl<J: StorePremises> Slot<J> {
             if let Some(answer) = self.take_soon(rt, number) {
                 return answer;
             }
-            let key = self.filled.prepare_wait();
-            if let Some(answer) = self.try_take(rt, number) {
+            let (mut held, looked) = self.filled.lock_last(rt, &self.answer);
+            if let Some(answer) = take(&mut held, number) {
                 return answer;
             }
-            key.wait(rt);
+            drop(held);
+            looked.wait(rt);
         }
         unreachable!()
     }

@@ -14,19 +14,19 @@ try_often-requires-clause-open g c =
     (subst (λ (j : Handed). IsOpen j.end (view c.args.pass.now)) (sym c.loop.invariant.2)
     c.requires.open)
 
-pub try_hand_over-requires-clause-pass : goal.try_hand_over-requires-clause-pass
-try_hand_over-requires-clause-pass g c = c.try_often.ensures.pass
+pub hand_over_last-requires-clause-pass : goal.hand_over_last-requires-clause-pass
+hand_over_last-requires-clause-pass g c = c.try_often.ensures.pass
 
-pub try_hand_over-requires-clause-open : goal.try_hand_over-requires-clause-open
-try_hand_over-requires-clause-open g c =
+pub hand_over_last-requires-clause-open : goal.hand_over_last-requires-clause-open
+hand_over_last-requires-clause-open g c =
     subst (λ (j : Handed). IsOpen j.end (view c.try_often.new.pass))
     (sym c.in-Err.ensures.full.0) c.try_often.ensures.open
 
 pub loop-preserved : goal.loop-preserved
 loop-preserved g c =
     let once = c.in-Err.ensures.full in
-    let again = c.in-Err-try_hand_over.ensures.full in (
-      c.try_hand_over.ensures.pass,
+    let again = c.in-Err-hand_over_last.ensures.full in (
+      c.hand_over_last.ensures.pass,
       again.1 ∙ once.1 ∙ c.loop.invariant.1,
       again.0 ∙ once.0 ∙ c.loop.invariant.2,
     )
@@ -44,16 +44,16 @@ returns-in-Ok g c =
           c.in-Ok.ensures.taken);
     }
 
-pub returns-in-Ok-try_hand_over : goal.returns-in-Ok-try_hand_over
-returns-in-Ok-try_hand_over g c =
+pub returns-in-Ok-hand_over_last : goal.returns-in-Ok-hand_over_last
+returns-in-Ok-hand_over_last g c =
     let inv = c.loop.invariant in
     let once = c.in-Err.ensures.full in
-    let told = c.try_hand_over.ensures in
-    let after = view c.try_hand_over.new.pass in
+    let told = c.hand_over_last.ensures in
+    let after = view c.hand_over_last.new.pass in
     record {
       pass = told.pass;
       «open» = subst (λ (j : Handed). IsOpen j.end after) (once.0 ∙ inv.2) told.open;
       taken = subst (λ before. HasHanded before (parcels.Job c.args.job) after) (once.1 ∙ inv.1)
           (subst (λ j. HasHanded (view c.try_often.new.pass) (parcels.Job j) after)
-          (once.0 ∙ inv.2) c.in-Ok-try_hand_over.ensures.taken);
+          (once.0 ∙ inv.2) c.in-Ok-hand_over_last.ensures.taken);
     }

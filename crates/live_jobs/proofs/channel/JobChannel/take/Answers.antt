@@ -9,17 +9,16 @@ take_soon-requires-clause-pass g c = c.loop.invariant.0
 pub take_soon-requires-clause-writer : goal.take_soon-requires-clause-writer
 take_soon-requires-clause-writer g c = subst OfWriter (sym c.loop.invariant.1) c.requires.writer
 
-pub try_take-requires-clause-pass : goal.try_take-requires-clause-pass
-try_take-requires-clause-pass g c = c.take_soon.ensures.pass
+pub take_one_last-requires-clause-pass : goal.take_one_last-requires-clause-pass
+take_one_last-requires-clause-pass g c = c.take_soon.ensures.pass
 
-pub try_take-requires-clause-writer : goal.try_take-requires-clause-writer
-try_take-requires-clause-writer g c = c.take_soon.ensures.writer
+pub take_one_last-requires-clause-writer : goal.take_one_last-requires-clause-writer
+take_one_last-requires-clause-writer g c = c.take_soon.ensures.writer
 
 pub loop-preserved : goal.loop-preserved
 loop-preserved g c = (
-  c.try_take.ensures.pass,
-  c.try_take.ensures.empty c.in_default-try_take.is ∙ c.take_soon.ensures.empty c.in_default.is
-      ∙ c.loop.invariant.1,
+  c.take_one_last.ensures.pass,
+  c.in-Err.ensures.empty ∙ c.take_soon.ensures.empty c.in_default.is ∙ c.loop.invariant.1,
 )
 
 pub returns-in-Some-take_soon : goal.returns-in-Some-take_soon
@@ -30,11 +29,11 @@ returns-in-Some-take_soon g c = record {
       c.loop.invariant.1 c.in-Some-take_soon.ensures.taken;
 }
 
-pub returns-in-Some-try_take : goal.returns-in-Some-try_take
-returns-in-Some-try_take g c = record {
-  pass = c.try_take.ensures.pass;
-  writer = c.try_take.ensures.writer;
-  taken = subst (λ before. HasTaken before c.in-Some-try_take.parcel (view c.try_take.new.pass))
+pub returns-in-Ok : goal.returns-in-Ok
+returns-in-Ok g c = record {
+  pass = c.take_one_last.ensures.pass;
+  writer = c.take_one_last.ensures.writer;
+  taken = subst (λ before. HasTaken before c.in-Ok.parcel (view c.take_one_last.new.pass))
       (c.take_soon.ensures.empty c.in_default.is ∙ c.loop.invariant.1)
-      c.in-Some-try_take.ensures.taken;
+      c.in-Ok.ensures.taken;
 }
