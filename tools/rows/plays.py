@@ -4,6 +4,7 @@ import select
 import socket
 import string
 import threading
+import time
 from concurrent.futures import ThreadPoolExecutor
 
 from peers import BEFORE, GREETING, Client, Wrong, block, cut_to, kept
@@ -72,6 +73,33 @@ def sixty_two(row):
         raise Wrong(f"{live} articles are there at the end, where the buffer holds two")
     waiting = min(2, len(first))
     row.counts.update(gained=len(first), waiting=waiting, overwritten=len(first) - waiting)
+
+
+def stop_in_replies(row):
+    """p2, whose replies are large, reads all the time while the relay is told to stop: little until
+    it has been told, so that most are written then, and the rest at once. All that it sent in one
+    write is answered whole, the tokens of its feed too."""
+    client, relay = row.clients["p2"], row.programs[""]
+    reply = b"220 0 <y@x>\r\n" + kept("y", 900_000).encode() + b".\r\n"
+    token = f"@01{0:02X}{0:08X}{0:08X}{len(kept('y', 900_000)):08X}@"
+    queue = f"290 Queue follows\r\n0\r\n1 {token}\r\n.\r\n".encode()
+    client.send(b"ARTICLE <y@x>\r\n" * 40 + b"XTAKE 5\r\n" + b"ARTICLE <y@x>\r\n" * 20)
+    wanted = reply * 40 + queue + reply * 20
+    found = bytearray(client.socket.recv(1))
+    row.start("stop", "stop {dir}")
+    end = time.monotonic() + row.given.patience
+    while "stopping" not in relay.told(relay.err):
+        if time.monotonic() > end:
+            raise Wrong("it hasn't told that it stops")
+        found += client.socket.recv(30_000)
+        time.sleep(0.01)
+    try:
+        while piece := client.socket.recv(1 << 20):
+            found += piece
+    except ConnectionError as error:
+        raise Wrong(f"the connection broke after {len(found)} octets: {error}") from None
+    if found != wanted:
+        raise Wrong(f"{len(found)} octets of {len(wanted)}, {found.count(b'220 0')} replies of 60")
 
 
 CYCBUFF = b"cycbuff:A:a.buf:4\nmetacycbuff:G:A\n"
@@ -193,4 +221,5 @@ PLAYS = {
     "large-files": large_files,
     "each-start": each_start,
     "cut-answers": cut_answers,
+    "stop-in-replies": stop_in_replies,
 }

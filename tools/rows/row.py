@@ -5,7 +5,9 @@ import os
 import re
 import resource
 import shutil
+import signal
 import socket
+import threading
 import time
 from collections import Counter, namedtuple
 
@@ -59,7 +61,7 @@ FILES = ("file", "folder", "pipe", "link", "symlink", "mode", "cut", "poke", "re
          "holds")
 
 # The lines that set something of the program while it runs.
-SHARES = ("clock", "stall", "stalled", "release", "fails", "peers")
+SHARES = ("clock", "later", "pause", "pauses", "stall", "stalled", "release", "fails", "peers")
 
 # The users of programs that may have a few threads alone: each program has one of its own, since the
 # system counts a user's.
@@ -240,10 +242,14 @@ class Row:
         word, _, more = rest.partition(" ")
         if name == "clock":
             self.shared.set(clock=int(rest) + 1)
+        elif name == "later":
+            self.shared.set(later=int(rest))
+        elif name == "pause":
+            self.shared.pause(*rest.split())
         elif name == "stall":
             self.shared.stall(word, more)
-        elif name == "stalled":
-            self.see_stalled()
+        elif name in ("stalled", "pauses"):
+            self.see_come(name)
         elif name == "release":
             self.shared.release()
         elif name == "fails":
@@ -252,10 +258,10 @@ class Row:
             takes = int(more) + 1 if more else 0
             self.shared.set(takes=takes, breaks=word == "break", octets=word == "octets")
 
-    def see_stalled(self):
-        """A call that has to wait has come."""
+    def see_come(self, name):
+        """A call that has to wait has come, or a thread that has to pause."""
         end = time.monotonic() + self.given.patience
-        while not self.shared.get("stalled"):
+        while not self.shared.get(name):
             if time.monotonic() > end:
                 raise Wrong(f"nothing waits after {self.given.patience} seconds")
             time.sleep(0.001)
@@ -306,6 +312,27 @@ class Row:
             used = {int(it) for it in os.listdir(f"/proc/{pid}/fd")}
             count = [it for it in range(len(used) + int(count) + 1) if it not in used][int(count)]
         resource.prlimit(pid, kind, (int(count) if count else most, most))
+
+    def see_told(self, count, line):
+        """The relay has told so many such lines of what happens, soon."""
+        end = time.monotonic() + self.given.patience
+        relay, line = self.programs[""], self.text(line)
+        while (found := sum(is_line(it, line) for it in relay.told(relay.err))) < int(count):
+            if time.monotonic() > end:
+                raise Wrong(f"told {found} times")
+            time.sleep(0.01)
+
+    def pulse(self, seconds):
+        """From here on the relay is stopped and goes on again and again, until it has ended."""
+        process = self.programs[""].process
+
+        def beat():
+            while process.poll() is None:
+                for sign, pause in ((signal.SIGSTOP, 0.02), (signal.SIGCONT, seconds)):
+                    process.send_signal(sign)
+                    time.sleep(pause)
+
+        threading.Thread(target=beat, daemon=True).start()
 
     def see_taken(self, program):
         """Where the program says that a port of the row's own is taken, the row isn't wrong."""
@@ -512,6 +539,10 @@ class Row:
             self.make_fault(REFUSE_MODES="1")
         elif line == "narrow":
             self.make_fault(ROWS_NARROW="1")
+        elif name == "tells":
+            self.see_told(*rest.split(" ", 1))
+        elif name == "pulses":
+            self.pulse(float(rest))
         elif line == "flows":
             self.programs[""].flows()
         elif name in ("files", "octets"):

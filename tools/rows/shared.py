@@ -21,7 +21,8 @@ SHARING = r"""
 #include <unistd.h>
 
 static struct {
-    uint64_t clock, writes, reads, stalled, fails, takes, breaks, octets;
+    uint64_t clock, writes, reads, stalled, fails, takes, breaks, octets, later, yields, pause, whose,
+        pauses;
     char file[64];
 } *shared;
 
@@ -40,8 +41,13 @@ __attribute__((constructor)) static void share(void) {
 #define NOW(what) __atomic_load_n(&shared->what, __ATOMIC_SEQ_CST)
 
 int clock_gettime(clockid_t clock, struct timespec *time) {
-    if (!shared || clock != CLOCK_REALTIME || !NOW(clock))
-        return syscall(SYS_clock_gettime, clock, time);
+    int failed;
+    if (!shared || clock != CLOCK_REALTIME || !NOW(clock)) {
+        failed = syscall(SYS_clock_gettime, clock, time);
+        if (!failed && shared && clock == CLOCK_MONOTONIC)
+            time->tv_sec += NOW(later);
+        return failed;
+    }
     time->tv_sec = NOW(clock) - 1;
     time->tv_nsec = 0;
     return 0;
@@ -79,6 +85,24 @@ static int fails(int file, uint64_t *waits) {
     return 1;
 }
 
+/* What a thread is by what it did last, and how often it gave way to others since then. */
+enum { OTHER, WRITER, SESSION };
+static __thread uint64_t kind, gave_way;
+
+static void does(uint64_t what) {
+    kind = what;
+    gave_way = 0;
+}
+
+int sched_yield(void) {
+    gave_way++;
+    if (shared && gave_way == NOW(yields) && kind == NOW(whose)) {
+        __atomic_add_fetch(&shared->pauses, 1, __ATOMIC_SEQ_CST);
+        usleep(1000 * NOW(pause));
+    }
+    return syscall(SYS_sched_yield);
+}
+
 ssize_t pread64(int file, void *octets, size_t count, off_t place) {
     if (shared && fails(file, &shared->reads))
         return -1;
@@ -86,6 +110,7 @@ ssize_t pread64(int file, void *octets, size_t count, off_t place) {
 }
 
 ssize_t pwrite64(int file, const void *octets, size_t count, off_t place) {
+    does(WRITER);
     if (shared && fails(file, &shared->writes))
         return -1;
     return syscall(SYS_pwrite64, file, octets, count, place);
@@ -136,6 +161,7 @@ static int is_interrupted(void) {
 }
 
 ssize_t recv(int file, void *octets, size_t count, int flags) {
+    does(SESSION);
     if (shared && NOW(octets) && is_peer(file)) {
         if (is_interrupted())
             return -1;
@@ -147,6 +173,7 @@ ssize_t recv(int file, void *octets, size_t count, int flags) {
 ssize_t send(int file, const void *octets, size_t count, int flags) {
     uint64_t left;
     narrow(file);
+    does(SESSION);
     if (!shared || !is_peer(file))
         return syscall(SYS_sendto, file, octets, count, flags, 0, 0);
     if (NOW(octets)) {
@@ -168,7 +195,10 @@ ssize_t send(int file, const void *octets, size_t count, int flags) {
     return syscall(SYS_sendto, file, octets, count, flags, 0, 0);
 }
 """
-NUMBERS = ("clock", "writes", "reads", "stalled", "fails", "takes", "breaks", "octets")
+NUMBERS = ("clock", "writes", "reads", "stalled", "fails", "takes", "breaks", "octets", "later",
+           "yields", "pause", "whose", "pauses")
+# Whose pauses those are that a row asks for.
+WHOSE = {"others": 0, "writers": 1, "sessions": 2}
 # The octets of a number, and of the end of a path behind them.
 SIZE, END = 8, 64
 
@@ -194,6 +224,12 @@ class Shared:
         place = SIZE * len(NUMBERS)
         self.room[place : place + END] = f"/{file}".encode().ljust(END, b"\0")
         self.set(**{word: 1, "stalled": 0})
+
+    def pause(self, whose, times, milliseconds):
+        """Each thread of these pauses when it gives way so many times in a row, from here on."""
+        self.set(yields=0, pauses=0)
+        self.set(whose=WHOSE[whose], pause=int(milliseconds))
+        self.set(yields=int(times))
 
     def release(self):
         self.set(writes=0, reads=0)

@@ -1,5 +1,7 @@
 //! A connection of a peer, which waits in parts.
-ghost use Rattle.std.specs.Prelude.{◌↔◌, IsTrue};
+ghost use Rattle.std.specs.Prelude.{◌≡◌, ◌<◌, ◌↔◌, ℕ, IfErr, IfSome, IsErrAnd, IsTrue, Err, Ok};
+ghost use Rattle.std.specs.Prelude.{None, Some};
+ghost use Rattle.std.specs.Io.{WritesAtMost};
 ghost use Rattle.std.specs.IoError.{error_kind};
 ghost use Rattle.live_wire.specs.Waits.{IsLate, IsWait};
 
@@ -11,7 +13,7 @@ use std::time::{Clock, Duration, Instant};
 
 /// How many milliseconds a wait for a peer takes at once. Between two waits a line looks whether it
 /// is to stop.
-pub(crate) const PART: u64 = 500;
+const PART: u64 = 500;
 
 /// How many such parts make a second.
 const PARTS_A_SECOND: u32 = 2;
@@ -19,8 +21,8 @@ const PARTS_A_SECOND: u32 = 2;
 /// How many milliseconds a wait takes at once after the session has ended, or is to stop.
 const LATE_PART: u64 = 100;
 
-/// How many writes a line still makes once it is to stop, each of such a part at most.
-const LATE_WRITES: u32 = 8;
+/// How many such parts in a row a write waits once it is to stop, while nothing goes.
+const LATE_PARTS: u32 = 30;
 
 /// For how many milliseconds what a peer sends on is read and dropped once its session has ended.
 const DROPPING: u64 = 5_000;
@@ -35,16 +37,15 @@ const MOST_DROPPED: usize = 1 << 20;
 const DROPPED_AT_ONCE: usize = 4_096;
 
 /// One side of a peer's connection. It waits for its peer in parts of a second: it reads the end of
-/// the input once the relay is to stop or the peer has been silent for too many of them, and a
-/// write fails then.
+/// the input once the relay is to stop or the peer has been silent for too many of them. A write
+/// fails once the peer has taken nothing for too many of them, which are fewer once the relay is to
+/// stop, or once the time is up that lines have then.
 #[derive(Drop)]
 pub struct Line<'a> {
     stream: TcpStream,
     stop: &'a Stop,
     /// How many parts in a row it waits for its peer.
     parts: u32,
-    /// How many writes it still makes once it is to stop.
-    late: u32,
 }
 
 impl<'a> Line<'a> {
@@ -60,18 +61,15 @@ impl<'a> Line<'a> {
         stream.set_write_timeout(Some(Duration::from_millis(PART)))?;
         let other = stream.try_clone()?;
         let parts = patience.saturating_mul(PARTS_A_SECOND);
-        let late = LATE_WRITES;
         let reader = Line {
             stream,
             stop,
             parts,
-            late,
         };
         let writer = Line {
             stream: other,
             stop,
             parts,
-            late,
         };
         Ok((reader, writer))
     }
@@ -84,6 +82,24 @@ impl<'a> Line<'a> {
         self.stream
             .set_read_timeout(Some(Duration::from_millis(LATE_PART)))?;
         self.drop_rest(clock, &Instant::now(clock)?)
+    }
+
+    /// Writes once, once it is to stop. Only parts of the wait in which nothing went are counted,
+    /// so that a peer that takes what it is sent is sent all of it, until the time is up.
+    fn write_late(&mut self, buf: &[u8]) -> io::Result<usize>
+        ensures { WritesAtMost result buf.now }
+    {
+        self.stream
+            .set_write_timeout(Some(Duration::from_millis(LATE_PART)))?;
+        for _ in 0..LATE_PARTS {
+            if self.stop.is_over() {
+                return Ok(0);
+            }
+            if let Some(answer) = came_of(self.stream.write(buf)) {
+                return answer;
+            }
+        }
+        Ok(0)
     }
 
     /// Drops what the peer still sends, until its last octet or for as long as that may take.
@@ -114,12 +130,7 @@ impl<'a> Line<'a> {
     /// the wait has passed; `None` at the end of the input.
     fn drop_some(&self) -> io::Result<Option<usize>> {
         let mut room = [0; DROPPED_AT_ONCE];
-        match (&self.stream).read(&mut room) {
-            Ok(0) => Ok(None),
-            Ok(octets) => Ok(Some(octets)),
-            Err(error) if is_wait(&error) => Ok(Some(0)),
-            Err(error) => Err(error),
-        }
+        dropped_in((&self.stream).read(&mut room))
     }
 }
 
@@ -129,9 +140,8 @@ impl Read for Line<'_> {
             if self.stop.is_asked() {
                 return Ok(0);
             }
-            match self.stream.read(buf) {
-                Err(error) if is_late(&error) => {}
-                answer => return answer,
+            if let Some(answer) = came_of(self.stream.read(buf)) {
+                return answer;
             }
         }
         Ok(0)
@@ -142,16 +152,10 @@ impl Write for Line<'_> {
     fn write(&mut self, buf: &[u8]) -> io::Result<usize> {
         for _ in 0..self.parts {
             if self.stop.is_asked() {
-                if self.late == 0 {
-                    return Ok(0);
-                }
-                self.late -= 1;
-                self.stream
-                    .set_write_timeout(Some(Duration::from_millis(LATE_PART)))?;
+                return self.write_late(buf);
             }
-            match self.stream.write(buf) {
-                Err(error) if is_late(&error) && !self.stop.is_asked() => {}
-                answer => return answer,
+            if let Some(answer) = came_of(self.stream.write(buf)) {
+                return answer;
             }
         }
         Ok(0)
@@ -159,6 +163,34 @@ impl Write for Line<'_> {
 
     fn flush(&mut self) -> io::Result<()> {
         Ok(())
+    }
+}
+
+/// What came of a try to read or to write: none where a part of the wait has passed, and nothing
+/// came or went.
+fn came_of(answer: io::Result<usize>) -> Option<io::Result<usize>>
+    ensures late { (result ≡ None) ↔ IsErrAnd answer (λ error. IsLate (error_kind error)) }
+    ensures came { IfSome result (λ came. came ≡ answer) }
+{
+    match answer {
+        Err(error) if is_late(&error) => None,
+        other => Some(other),
+    }
+}
+
+/// How many octets were dropped by a read, none where a part of its wait has passed or a signal
+/// came first; `None` at the end of the input. The error is the read's.
+fn dropped_in(answer: io::Result<usize>) -> io::Result<Option<usize>>
+    ensures end { answer ≡ Ok 0 → result ≡ Ok None }
+    ensures some { (n : ℕ) → answer ≡ Ok n → 0 < n → result ≡ Ok (Some n) }
+    ensures wait { IfErr answer (λ error. IsWait (error_kind error) → result ≡ Ok (Some 0)) }
+    ensures failed { IfErr result (λ failure. answer ≡ Err failure) }
+{
+    match answer {
+        Ok(0) => Ok(None),
+        Ok(octets) => Ok(Some(octets)),
+        Err(error) if is_wait(&error) => Ok(Some(0)),
+        Err(error) => Err(error),
     }
 }
 

@@ -3,15 +3,21 @@ ghost use Rattle.std.specs.Prelude.{◌≡◌, IfOk};
 ghost use Rattle.live_wire.specs.Ports.{left_of};
 
 use crate::connections::Connections;
-use crate::line::{Line, PART, is_wait};
+use crate::line::{Line, is_wait};
 use crate::stop::Stop;
 use crate::wire::{RecordingReader, RecordingWriter};
+use libc::net::{POLLIN, poll};
+use libc::types::pollfd;
 use std::net::{Ipv4Addr, Net, SocketAddr, TcpListener, TcpStream};
-use std::os::fd::OwnedFd;
+use std::os::fd::AsRawFd;
 use std::sync::Wait;
 use std::sync::atomic::{AtomicBool, Ordering};
 use std::time::{Clock, Duration};
 use std::{io, thread};
+
+/// How many milliseconds it waits for a connection at once. Between two waits it looks whether it
+/// is to stop.
+const PART: i32 = 500;
 
 /// How many milliseconds it waits after a connection could not be taken, and between two looks
 /// whether all ports are served.
@@ -63,7 +69,8 @@ impl<'a> Port<'a> {
         ensures { IfOk result (λ port. left_of port ≡ connections) }
     {
         let listener = TcpListener::bind(net, SocketAddr::from((address, port)))?;
-        wait_in_parts(&listener)?;
+        // Of several ends behind it that find the same connection one gets it.
+        listener.set_nonblocking(true)?;
         stop.count_made();
         Ok(Port {
             listener,
@@ -102,10 +109,26 @@ impl<'a> Port<'a> {
         }
     }
 
-    /// Takes one connection, or none where that fails or none has come for a part of a wait.
+    /// Takes one connection, where one has come that no other end behind this port has taken.
     fn accept(&self) -> io::Result<(Line<'a>, Line<'a>)> {
         let (stream, _peer) = self.listener.accept()?;
         Line::both(stream, self.stop, self.patience)
+    }
+
+    /// Waits until a connection has come, or a part of the wait has passed: whether one has come.
+    /// The end of the wait is a moment of the machine's clock: where the program is stopped and
+    /// goes on it comes no later. Where the wait of `accept` is interrupted it begins anew.
+    fn has_one<C: Clock>(&self, clock: &C) -> bool {
+        let mut ready = [pollfd {
+            fd: self.listener.as_raw_fd(),
+            events: POLLIN,
+            revents: 0,
+        }];
+        let count = poll(&mut ready, PART);
+        if count < 0 {
+            thread::sleep(clock, Duration::from_millis(PAUSE));
+        }
+        count > 0
     }
 
     /// Waits until all ports are served, then for a connection, both in parts; none comes once it
@@ -117,6 +140,9 @@ impl<'a> Port<'a> {
             }
             if !self.stop.have_all_begun() {
                 thread::sleep(rt, Duration::from_millis(PAUSE));
+                continue;
+            }
+            if !self.has_one(rt) {
                 continue;
             }
             match self.accept() {
@@ -146,13 +172,6 @@ impl<'a> Port<'a> {
         }
         eprintln!(rt; "waiting port={} for=descriptors", self.number()?)
     }
-}
-
-/// Lets the listener wait in parts of a second. The time is the socket's own, and stays when the
-/// other descriptor of it, by which it is set, is closed.
-fn wait_in_parts(listener: &TcpListener) -> io::Result<()> {
-    let socket = TcpStream::from(OwnedFd::from(listener.try_clone()?));
-    socket.set_read_timeout(Some(Duration::from_millis(PART)))
 }
 
 /// Whether the machine or the program has no further descriptor.

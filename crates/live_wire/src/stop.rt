@@ -1,5 +1,10 @@
 //! The word by which all ports of a relay are told to end.
+ghost use Rattle.std.specs.Prelude.{◌≤◌, ◌+◌, ◌↔◌, IsTrue};
+
 use std::sync::atomic::{AtomicBool, AtomicU64, Ordering};
+
+/// For how many seconds lines still write what they owe once it was asked.
+const LATE_SECONDS: u64 = 8;
 
 /// How many seconds pass at least between two lines that tell of want of descriptors.
 const BETWEEN_LINES: u64 = 60;
@@ -8,6 +13,10 @@ const BETWEEN_LINES: u64 = 60;
 /// asked once, and for good; and how many of them are there.
 pub struct Stop {
     asked: AtomicBool,
+    /// The second after that in which that was seen, 0 before that.
+    seen: AtomicU64,
+    /// Whether so much time has passed since then that no line writes any more.
+    over: AtomicBool,
     /// How many ports were made.
     made: AtomicU64,
     /// How many of them are served.
@@ -21,6 +30,8 @@ impl Drop for Stop {
     fn drop(self) {
         let Stop {
             asked: _,
+            seen: _,
+            over: _,
             made: _,
             begun: _,
             told: _,
@@ -33,6 +44,8 @@ impl Stop {
     pub fn new() -> Stop {
         Stop {
             asked: AtomicBool::new(false),
+            seen: AtomicU64::new(0),
+            over: AtomicBool::new(false),
             made: AtomicU64::new(0),
             begun: AtomicU64::new(0),
             told: AtomicU64::new(0),
@@ -47,6 +60,28 @@ impl Stop {
     /// Whether anybody has asked.
     pub fn is_asked(&self) -> bool {
         self.asked.load(Ordering::SeqCst)
+    }
+
+    /// Is told which second it is, again and again. By that it knows when the time is up that lines
+    /// have, once it was asked.
+    pub fn pass(&self, second: u64) {
+        if !self.is_asked() {
+            return;
+        }
+        let now = second.saturating_add(1);
+        let seen = self
+            .seen
+            .compare_exchange(0, now, Ordering::SeqCst, Ordering::SeqCst);
+        if let Err(first) = seen {
+            if have_passed(first, LATE_SECONDS, now) {
+                self.over.store(true, Ordering::SeqCst);
+            }
+        }
+    }
+
+    /// Whether the time is up that lines have once it was asked.
+    pub(crate) fn is_over(&self) -> bool {
+        self.over.load(Ordering::SeqCst)
     }
 
     /// Counts a port that was made.
@@ -67,12 +102,22 @@ impl Stop {
     /// Whether want of descriptors may be told of in this second: once a minute, by one port.
     pub(crate) fn may_tell(&self, second: u64) -> bool {
         let told = self.told.load(Ordering::SeqCst);
-        if told != 0 && second < told.saturating_add(BETWEEN_LINES) {
+        let now = second.saturating_add(1);
+        if told != 0 && !have_passed(told, BETWEEN_LINES, now) {
             return false;
         }
-        let now = second.saturating_add(1);
         self.told
             .compare_exchange(told, now, Ordering::SeqCst, Ordering::SeqCst)
             .is_ok()
+    }
+}
+
+/// Whether so many seconds have passed between these two.
+fn have_passed(first: u64, seconds: u64, now: u64) -> bool
+    ensures { IsTrue result ↔ (first + seconds ≤ now) }
+{
+    match first.checked_add(seconds) {
+        Some(end) => end <= now,
+        None => false,
     }
 }

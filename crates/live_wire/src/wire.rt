@@ -1,6 +1,9 @@
 //! Readers and writers that tell their octets.
-ghost use Rattle.std.specs.Prelude.{◌≡◌, ◌≤◌, ◌<◌, ◌+◌, ◌++◌, ℕ, List, [], length, take, drop};
-ghost use Rattle.std.specs.Prelude.{IfOk, OnErr, OnOk, IfErr, IfNone, IfSome, Option};
+ghost use Rattle.std.specs.Prelude.{◌≡◌, ◌≢◌, ◌≤◌, ◌<◌, ◌+◌, ◌++◌, ℕ, List, []};
+ghost use Rattle.std.specs.Prelude.{IfOk, OnErr, OnOk, IfErr, IfNone, IfSome, Option, Ok, Some};
+ghost use Rattle.std.specs.Prelude.{None, length, take, drop};
+ghost use Rattle.std.specs.IoError.{error_kind};
+ghost use Rattle.std.specs.declared.io.ErrorKind.TheVariants.{Interrupted};
 ghost use Rattle.std.specs.Io.KnownBytes.{ReadConsumes, WriteAppends};
 ghost use Rattle.live_wire.specs.Wire.{heard_of, said_of};
 
@@ -158,7 +161,19 @@ fn say_on<W: Says>(writer: &mut W, octets: &Vec<u8>, from: usize) -> Option<usiz
         × (W.said writer.new ≡ W.said writer.old ++ take n (drop from octets.now.items))) }
     ensures none { IfNone result (W.said writer.new ≡ W.said writer.old) }
 {
-    match writer.say(octets, from) {
+    went(writer.say(octets, from))
+}
+
+/// How many octets went in a write, none where a signal came first. `None` where it failed, or
+/// went no further.
+fn went(answer: io::Result<usize>) -> Option<usize>
+    ensures some { (n : ℕ) → answer ≡ Ok n → 0 < n → result ≡ Some n }
+    ensures no_further { answer ≡ Ok 0 → result ≡ None }
+    ensures interrupted { IfErr answer (λ error. error_kind error ≡ Interrupted
+        → result ≡ Some 0) }
+    ensures failed { IfErr answer (λ error. error_kind error ≢ Interrupted → result ≡ None) }
+{
+    match answer {
         Ok(n) if n > 0 => Some(n),
         Ok(_) => None,
         Err(error) if error.kind() == ErrorKind::Interrupted => Some(0),

@@ -2,17 +2,20 @@
 use crate::socket_place::{Identity, listen_in, take_away};
 use crate::teller::Teller;
 use crate::words::{LONGEST, Word, word_of};
+use libc::net::{POLLIN, poll};
+use libc::types::pollfd;
 use std::alloc::Global;
 use std::fs::Files;
 use std::io::{ErrorKind, Read};
 use std::net::Net;
-use std::os::fd::OwnedFd;
+use std::os::fd::AsRawFd;
 use std::os::unix::net::{UnixListener, UnixStream};
+use std::sync::atomic::{AtomicBool, Ordering};
 use std::time::{Clock, Duration};
 use std::{io, thread};
 
 /// How many milliseconds it waits at once for whoever asks.
-const PART: u64 = 100;
+const PART: i32 = 100;
 
 /// How many milliseconds it waits at once for his word, and until he takes what he is told.
 const HIS_PART: u64 = 250;
@@ -21,14 +24,16 @@ const HIS_PART: u64 = 250;
 const HIS_PARTS: usize = 4;
 
 /// How many milliseconds it waits after nobody could be heard for another cause, as where the
-/// machine has no further descriptor. While it waits for whoever asks it has one for him.
+/// machine has no further descriptor.
 const PAUSE: u64 = 10;
 
 /// The socket, while the relay is served.
 pub struct Control {
-    pub(crate) listener: UnixListener,
+    listener: UnixListener,
     /// Which file it is.
-    pub(crate) identity: Identity,
+    identity: Identity,
+    /// Whether nobody is waited for any more.
+    is_closed: AtomicBool,
 }
 
 // Written out, so that no crate above proves anew how each part is let go.
@@ -37,6 +42,7 @@ impl Drop for Control {
         let Control {
             listener: _,
             identity: _,
+            is_closed: _,
         } = self;
     }
 }
@@ -46,15 +52,48 @@ impl Control {
     /// relay is served in the folder, or what stands there is no socket, it can't be had.
     pub fn listen<R: Files + Net>(rt: &R, alloc: Global, folder: &str) -> io::Result<Control> {
         let control = listen_in(rt, alloc, folder)?;
-        match wait_in_parts(&control.listener, PART) {
+        match control.listener.set_nonblocking(true) {
             Ok(()) => Ok(control),
             Err(error) => Err(error),
         }
     }
 
+    /// The socket that listens and is this file.
+    pub(crate) fn over(listener: UnixListener, identity: Identity) -> Control {
+        Control {
+            listener,
+            identity,
+            is_closed: AtomicBool::new(false),
+        }
+    }
+
+    /// Waits until somebody asks, or a part of the wait has passed: whether somebody asks. The end
+    /// of the wait is a moment of the machine's clock: where the program is stopped and goes on it
+    /// comes no later. Where the wait of `accept` is interrupted it begins anew.
+    fn has_one<C: Clock>(&self, clock: &C) -> bool {
+        let mut ready = [pollfd {
+            fd: self.listener.as_raw_fd(),
+            events: POLLIN,
+            revents: 0,
+        }];
+        let part = if self.is_closed.load(Ordering::SeqCst) {
+            0
+        } else {
+            PART
+        };
+        let count = poll(&mut ready, part);
+        if count < 0 {
+            thread::sleep(clock, Duration::from_millis(PAUSE));
+        }
+        count > 0
+    }
+
     /// What is asked for next, and by whom: none where nobody has asked for a part of a second, or
     /// what was asked for is no word; then he is told so.
     pub fn next_word<C: Clock>(&self, clock: &C) -> Option<(Word, Teller)> {
+        if !self.has_one(clock) {
+            return None;
+        }
         let stream = match self.listener.accept() {
             Ok((stream, _address)) => stream,
             Err(error) => {
@@ -79,19 +118,7 @@ impl Control {
     /// still be heard, and nobody is waited for.
     pub fn close<R: Files>(&self, rt: &R, alloc: Global, folder: &str) {
         let _left = take_away(rt, alloc, folder, self.identity);
-        let _same = wait_in_parts(&self.listener, 1);
-    }
-}
-
-/// Lets the listener wait in parts of so many milliseconds. The time is the socket's own, and stays
-/// when the other descriptor of it, by which it is set, is closed.
-fn wait_in_parts(listener: &UnixListener, part: u64) -> io::Result<()> {
-    match listener.try_clone() {
-        Ok(other) => {
-            let socket = UnixStream::from(OwnedFd::from(other));
-            socket.set_read_timeout(Some(Duration::from_millis(part)))
-        }
-        Err(error) => Err(error),
+        self.is_closed.store(true, Ordering::SeqCst);
     }
 }
 

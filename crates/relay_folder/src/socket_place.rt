@@ -82,7 +82,7 @@ fn listen_at<R: Files + Net>(rt: &R, there: &str, path: &str) -> io::Result<Cont
     rt.set_permissions(there, Permissions::from_mode(MODE))?;
     rt.hard_link(there, path)?;
     match identity_at(rt, path) {
-        Some(identity) => Ok(Control { listener, identity }),
+        Some(identity) => Ok(Control::over(listener, identity)),
         None => Err(io::Error::from(ErrorKind::NotFound)),
     }
 }
