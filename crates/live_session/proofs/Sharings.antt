@@ -448,11 +448,3 @@ pub fault_found : (token : Token) (read : Result OneRead Fault) → IfErr read (
     → IfErr (ones_found read) (IsReadFault token)
 fault_found token (Ok one) fault = tt
 fault_found token (Err one) fault = fault
-
--- the reads of a first block begin anew
-pub front_begun : (own : Option (Where Record)) (k : ℕ) (gathered : List ℕ) → k ≡ 0
-    → IsFrontOf own k gathered → IsFrontOf None k gathered
-front_begun None k gathered first front = front
-front_begun (Some w) k gathered first (inl none) = inl none
-front_begun (Some w) k gathered first (inr some) =
-    inl (first, some ∙ subst (λ n. take (chunk_size * n) (text_in w) ≡ []) (sym first) refl)
