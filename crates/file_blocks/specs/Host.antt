@@ -1,5 +1,5 @@
 -- What was asked of a file of the machine.
-use Rattle.std.specs.Prelude.{◌+◌, ℕ, List, [], ◌∷◌, Bool, true, false}
+use Rattle.std.specs.Prelude.{◌+◌, ℕ, List, [], ◌∷◌, Bool, true, false, IsTrue}
 use Rattle.file_blocks.specs.declared.host.HeldFile.{HeldFile}
 use Rattle.file_blocks.specs.declared.host.HostFile.{HostFile}
 use Rattle.file_blocks.specs.declared.host.Identity.{Identity}
@@ -21,3 +21,7 @@ unfoldable pub failed_in : List (ℕ × Bool) → ℕ
 failed_in [] = 0
 failed_in ((place, true) ∷ calls) = failed_in calls + 1
 failed_in ((place, false) ∷ calls) = failed_in calls
+
+-- the device was had take all that was written to the file
+abbrev pub IsFlushed : HostFile → Type 0
+IsFlushed file = IsTrue file.flushed

@@ -1,5 +1,5 @@
 -- What a store of runs holds.
-use Rattle.std.specs.Prelude.{◌≡◌, ◌≢◌, ◌⊎◌, ◌+◌, ◌-◌, ◌<◌, ◌≤◌, ℕ, List, slice_set, IsTrue}
+use Rattle.std.specs.Prelude.{◌≡◌, ◌≢◌, ◌⊎◌, ◌+◌, ◌-◌, ◌<◌, ◌≤◌, ℕ, Bool, List, slice_set, IsTrue}
 use Rattle.std.specs.Prelude.{Result, OnErr, OnOk}
 use Rattle.cyc_block.specs.Store.{block_at, ChangesOnly}
 use Rattle.file_blocks.specs.Blocks.{blocks_of, heads_of}
@@ -21,6 +21,10 @@ count_of store = store.count
 -- how often the store was asked
 abbrev pub asked_of : {F : Type 0} → FileBlocks F → ℕ
 asked_of store = store.asked
+
+-- whether no buffer was found in the file before it was one of blocks
+abbrev pub was_blank : {F : Type 0} → FileBlocks F → Bool
+was_blank store = store.blank
 
 -- the blocks that were taken and aren't written yet
 abbrev pub gathered_of : {F : Type 0} → FileBlocks F → List (List ℕ)

@@ -1,8 +1,9 @@
 //! Files that are long enough for their blocks, and where in a file blocks begin.
-ghost use Rattle.std.specs.Prelude.{◌≡◌, ◌+◌, ◌*◌, ◌↔◌, [], All, IfOk, IsTrue};
+ghost use Rattle.std.specs.Prelude.{◌≡◌, ◌≢◌, ◌+◌, ◌*◌, ◌↔◌, [], false, All, IfOk, IsTrue};
+ghost use Rattle.std.specs.Prelude.{OnErr, OnOk};
 ghost use Rattle.news_terms.specs.HeadBlocks.{head_blocks};
 ghost use Rattle.file_blocks.specs.Blocks.{IsBlank, octets_at};
-ghost use Rattle.file_blocks.specs.Fitted.{count_of, file_of};
+ghost use Rattle.file_blocks.specs.Fitted.{count_of, file_of, was_blank};
 ghost use Rattle.file_blocks.specs.Host.{asked_of, held_identity, identity_of};
 
 use crate::file::RunFile;
@@ -15,34 +16,66 @@ pub struct FittedFile<F = HostFile> {
     file: F,
     /// For how many blocks it has room.
     count: u32,
+    /// Whether no buffer was found in it.
+    blank: bool,
 }
 
 impl<F: RunFile> FittedFile<F> {
-    /// A file that has room for n blocks and their head blocks.
+    /// A file that has room for n blocks and their head blocks, into which nobody has looked.
     pub fn new(file: F, n: u32) -> FittedFile<F>
         ensures file { file_of result ≡ file }
         ensures count { count_of result ≡ n }
+        ensures blank { was_blank result ≡ false }
     {
-        FittedFile { file, count: n }
+        FittedFile {
+            file,
+            count: n,
+            blank: false,
+        }
     }
 
-    /// The file, and for how many blocks it has room.
-    pub fn into_parts(self) -> (F, u32)
+    /// The file, for how many blocks it has room, and whether no buffer was found in it.
+    pub fn into_parts(self) -> (F, u32, bool)
         ensures file { result.0 ≡ file_of self }
         ensures count { result.1 ≡ count_of self }
+        ensures blank { result.2 ≡ was_blank self }
     {
-        (self.file, self.count)
+        (self.file, self.count, self.blank)
+    }
+
+    /// Looks into the file whether no buffer was kept there. In one that can't be read a buffer may
+    /// have been.
+    pub fn look(&mut self)
+        ensures blank { F.honest (file_of self.old)
+            → F.failures (file_of self.new) ≡ F.failures (file_of self.old)
+            → (IsTrue (was_blank self.new)
+            ↔ IsBlank (count_of self.old) (F.held (file_of self.old))) }
+        ensures unread { F.failures (file_of self.new) ≢ F.failures (file_of self.old)
+            → was_blank self.new ≡ false }
+        ensures count { count_of self.new ≡ count_of self.old }
+        ensures same { F.honest (file_of self.old)
+            → F.held (file_of self.new) ≡ F.held (file_of self.old) }
+        ensures honest { F.honest (file_of self.old) → F.honest (file_of self.new) }
+    {
+        match self.is_blank() {
+            Ok(blank) => self.blank = blank,
+            Err(_) => self.blank = false,
+        }
     }
 
     /// Whether no buffer was kept in the file: each octet of its first block and of its first head
     /// block is 0, as in a file that was just made.
-    pub fn is_blank(&mut self) -> Result<bool, DeviceFailed>
+    fn is_blank(&mut self) -> Result<bool, DeviceFailed>
         ensures blank { F.honest (file_of self.old) → IfOk result (λ blank. IsTrue blank
             ↔ IsBlank (count_of self.old) (F.held (file_of self.old))) }
         ensures count { count_of self.new ≡ count_of self.old }
         ensures same { F.honest (file_of self.old)
             → F.held (file_of self.new) ≡ F.held (file_of self.old) }
         ensures honest { F.honest (file_of self.old) → F.honest (file_of self.new) }
+        ensures failed { OnErr result (F.failures (file_of self.new)
+            ≡ F.failures (file_of self.old) + 1) }
+        ensures no_failure { OnOk result (F.failures (file_of self.new)
+            ≡ F.failures (file_of self.old)) }
     {
         let block = self.is_zero_at(0)?;
         let head = self.is_zero_at(place_of(self.count))?;
@@ -57,6 +90,8 @@ impl<F: RunFile> FittedFile<F> {
         ensures same { F.honest self.old.file
             → F.held self.new.file ≡ F.held self.old.file }
         ensures honest { F.honest self.old.file → F.honest self.new.file }
+        ensures failed { OnErr result (F.failures self.new.file ≡ F.failures self.old.file + 1) }
+        ensures no_failure { OnOk result (F.failures self.new.file ≡ F.failures self.old.file) }
     {
         let mut octets = [0; BLOCK_OCTETS];
         self.file.read(place, &mut octets)?;

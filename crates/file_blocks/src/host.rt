@@ -4,6 +4,7 @@ ghost use Rattle.std.specs.Prelude.{◌↔◌, IfErr, IfOk, IsOk, IsTrue, OnErr,
 ghost use Rattle.std.specs.Fs.{file_type, IsFile};
 ghost use Rattle.file_blocks.specs.declared.host.Unusable.TheVariants as unusable;
 ghost use Rattle.file_blocks.specs.Host.{asked_of, failed_in, held_identity, identity_of};
+ghost use Rattle.file_blocks.specs.Host.{IsFlushed};
 
 use crate::file::RunFile;
 use cyc_block::{BLOCK_OCTETS, DeviceFailed};
@@ -101,6 +102,7 @@ impl HeldFile {
             file,
             identity,
             asked: Log::new(),
+            flushed: false,
         })
     }
 }
@@ -112,6 +114,8 @@ pub struct HostFile {
     identity: Identity,
     /// The place of each call, and whether it failed.
     asked: Log<u64, bool>,
+    /// Whether the device was had take all that was written.
+    flushed: bool,
 }
 
 impl HostFile {
@@ -123,6 +127,25 @@ impl HostFile {
         }
     }
 
+    /// The same, which is noted until more is written.
+    pub fn flush_noted(&mut self) -> Result<(), DeviceFailed>
+        ensures flushed { OnOk result (IsFlushed self.new) }
+        ensures failed { OnErr result (¬ IsFlushed self.new) }
+        ensures asked { asked_of self.new ≡ asked_of self.old }
+        ensures same { identity_of self.new ≡ identity_of self.old }
+    {
+        match self.flush() {
+            Ok(()) => {
+                self.flushed = true;
+                Ok(())
+            }
+            Err(failed) => {
+                self.flushed = false;
+                Err(failed)
+            }
+        }
+    }
+
     /// Notes the answer of a call at a place, and says whether it failed.
     fn answer(&mut self, place: u64, answer: io::Result<()>) -> Result<(), DeviceFailed>
         ensures answer { is_err result ≡ is_err answer }
@@ -131,6 +154,7 @@ impl HostFile {
             ≡ failed_in (asked_of self.old) + 1) }
         ensures no_failure { OnOk result (failed_in (asked_of self.new)
             ≡ failed_in (asked_of self.old)) }
+        ensures flushed { IsFlushed self.new ↔ IsFlushed self.old }
     {
         self.asked = self.asked.and(&place, &answer.is_err());
         match answer {
@@ -170,7 +194,10 @@ impl RunFile for HostFile {
             ≡ failed_in (asked_of self.old) + 1) }
         ensures no_failure { OnOk result (failed_in (asked_of self.new)
             ≡ failed_in (asked_of self.old)) }
+        // What is written may be in memory alone.
+        ensures unflushed { ¬ IsFlushed self.new }
     {
+        self.flushed = false;
         let answer = self.file.write_all_at(octets, place);
         self.answer(place, answer)
     }

@@ -31,6 +31,8 @@ pub struct FileBlocks<F = HostFile> {
     pub(crate) ahead: Run,
     /// What is expected to be read next.
     pub(crate) course: Course,
+    /// Whether no buffer was found in the file before it was one of blocks.
+    pub(crate) blank: bool,
     ghost few: { count < 2 ^ 32 },
     ghost aside_some: { IsTrue set_aside → 0 < gathered.count },
     ghost gathered_within: { gathered.first + gathered.count ≤ count },
@@ -48,6 +50,7 @@ impl<F: Drop> Drop for FileBlocks<F> {
             set_aside: _,
             ahead: _,
             course: _,
+            blank: _,
         } = self;
     }
 }
@@ -55,10 +58,12 @@ impl<F: Drop> Drop for FileBlocks<F> {
 impl<F: RunFile> FileBlocks<F> {
     ghost use Rattle.file_blocks.specs.Store.{asked_of, count_of, file_of, gathered_of};
     ghost use Rattle.file_blocks.specs.Store.{IsHonest, AsksFile, KeepsBlocks, IsSetAside};
+    ghost use Rattle.file_blocks.specs.Store.{was_blank};
 
-    /// The first n blocks of a file, and their head blocks; nothing is gathered. All memory is
-    /// taken here: 65,536 octets for what is gathered, and as many for what is read at once.
-    pub fn new(alloc: Global, file: F, n: u32) -> Result<FileBlocks<F>, AllocError>
+    /// The first n blocks of a file, and their head blocks, in which no buffer was found, or one
+    /// may have been; nothing is gathered. All memory is taken here: 65,536 octets for what is
+    /// gathered, and as many for what is read at once.
+    pub fn new(alloc: Global, file: F, n: u32, blank: bool) -> Result<FileBlocks<F>, AllocError>
     where
         F: Drop,
         ensures file { IfOk result (λ store. file_of store ≡ file) }
@@ -67,6 +72,7 @@ impl<F: RunFile> FileBlocks<F> {
         ensures asked { IfOk result (λ store. asked_of store ≡ 0) }
         ensures aside { IfOk result (λ store. ¬ IsSetAside store) }
         ensures honest { IfOk result (λ store. F.honest file → IsHonest F.RunFile store) }
+        ensures blank { IfOk result (λ store. was_blank store ≡ blank) }
     {
         Ok(FileBlocks {
             gathered: Run::new(alloc)?,
@@ -76,7 +82,15 @@ impl<F: RunFile> FileBlocks<F> {
             count: n,
             asked: Tally::new(),
             course: Course::new(),
+            blank,
         })
+    }
+
+    /// Whether no buffer was found in the file before it was one of blocks.
+    pub fn was_blank(&self) -> bool
+        ensures { result ≡ was_blank self.now }
+    {
+        self.blank
     }
 
     /// Writes what is gathered, set aside or not, in one call of the file. After a failure it is as
@@ -94,7 +108,8 @@ impl<F: RunFile> FileBlocks<F> {
 }
 
 impl FileBlocks<HostFile> {
-    ghost use Rattle.file_blocks.specs.Store.{asked_of, count_of, file_of, gathered_of};
+    ghost use Rattle.file_blocks.specs.Store.{asked_of, count_of, file_of, gathered_of, was_blank};
+    ghost use Rattle.file_blocks.specs.Host.{IsFlushed};
 
     /// The blocks of a file that was made long enough for them. All memory that it ever takes is
     /// taken here, as by `new`.
@@ -103,14 +118,26 @@ impl FileBlocks<HostFile> {
         ensures file { IfOk result (λ store. file_of store ≡ fitted_file.file_of fitted) }
         ensures gathered { IfOk result (λ store. gathered_of store ≡ []) }
         ensures asked { IfOk result (λ store. asked_of store ≡ 0) }
+        ensures blank { IfOk result (λ store. was_blank store ≡ fitted_file.was_blank fitted) }
     {
-        let (file, count) = fitted.into_parts();
-        FileBlocks::new(alloc, file, count)
+        let (file, count, blank) = fitted.into_parts();
+        FileBlocks::new(alloc, file, count, blank)
     }
 
     /// Has the device take all that was written to the file, which what is gathered is not.
     pub fn sync(&self) -> Result<(), DeviceFailed> {
         self.file.flush()
+    }
+
+    /// The same, which is noted until more is written.
+    pub fn sync_noted(&mut self) -> Result<(), DeviceFailed>
+        ensures flushed { OnOk result (IsFlushed (file_of self.new)) }
+        ensures failed { OnErr result (¬ IsFlushed (file_of self.new)) }
+        ensures count { count_of self.new ≡ count_of self.old }
+        ensures asked { asked_of self.new ≡ asked_of self.old }
+        ensures gathered { gathered_of self.new ≡ gathered_of self.old }
+    {
+        self.file.flush_noted()
     }
 }
 

@@ -1,3 +1,5 @@
+pub mod Files
+pub mod Keeping
 pub mod Origin
 pub mod Place
 pub mod Words

@@ -22,3 +22,8 @@ begins_from false false None = Starts []
 abbrev pub origin_view : Origin → Beginning
 origin_view origins.Formatted = Formats
 origin_view (origins.Stopped text) = Starts text.items
+
+-- a relay begins from nothing
+abbrev pub IsFormatted : Origin → Type 0
+IsFormatted origins.Formatted = Unit {0}
+IsFormatted (origins.Stopped text) = ⊥

@@ -1,4 +1,8 @@
 //! Asking a relay that is served.
+ghost use Rattle.std.specs.Prelude.{◌↔◌, IsTrue};
+ghost use Rattle.std.specs.IoError.{error_kind};
+ghost use Rattle.relay_folder.specs.Files.{IsEnd};
+
 use crate::socket_place::{NAME, path_in};
 use crate::words::Word;
 use std::alloc::Global;
@@ -46,7 +50,9 @@ fn told_by(alloc: Global, mut stream: &UnixStream, word: Word) -> io::Result<Vec
 }
 
 /// Whether it ended before it had heard the word.
-fn is_end(error: &io::Error, word: Word) -> bool {
+fn is_end(error: &io::Error, word: Word) -> bool
+    ensures { IsTrue result ↔ IsEnd word (error_kind error.now) }
+{
     match word {
         Word::Stop => matches!(error.kind(), ErrorKind::ConnectionReset),
         Word::Report => false,

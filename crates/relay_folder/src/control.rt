@@ -1,4 +1,8 @@
 //! The socket of a relay that is served.
+ghost use Rattle.std.specs.Prelude.{◌↔◌, IsTrue};
+ghost use Rattle.std.specs.IoError.{error_kind};
+ghost use Rattle.relay_folder.specs.Files.{IsWait};
+
 use crate::socket_place::{Identity, listen_in, take_away};
 use crate::teller::Teller;
 use crate::words::{LONGEST, Word, word_of};
@@ -147,7 +151,9 @@ fn hear(stream: &UnixStream) -> io::Result<Option<Word>> {
 }
 
 /// Whether a part of a wait has passed, and nothing came.
-fn is_wait(error: &io::Error) -> bool {
+fn is_wait(error: &io::Error) -> bool
+    ensures { IsTrue result ↔ IsWait (error_kind error.now) }
+{
     matches!(
         error.kind(),
         ErrorKind::WouldBlock | ErrorKind::TimedOut | ErrorKind::Interrupted

@@ -1,5 +1,8 @@
 //! The history's file in a folder of the machine.
-ghost use Rattle.std.specs.Prelude.{None};
+ghost use Rattle.std.specs.Prelude.{◌≡◌, ◌≢◌, None, Err, Ok, false, []};
+ghost use Rattle.std.specs.IoError.{error_kind};
+ghost use Rattle.std.specs.declared.io.ErrorKind.TheVariants as kinds;
+ghost use Rattle.relay_folder.specs.Files.{HasNoFlush};
 ghost use Rattle.relay_folder.specs.Place.{Nothing};
 
 use crate::history_place::HistoryPlace;
@@ -65,6 +68,8 @@ impl<R: Files<File = File>> HistoryPlace for HostHistory<'_, R> {
 
     ghost beside = { λ history. Nothing };
 
+    ghost lasting = { λ history. [] };
+
     ghost honest = { λ history. ⊥ };
 
     fn read(&mut self, alloc: Global) -> io::Result<Option<Vec<u8>>> {
@@ -96,11 +101,11 @@ impl<R: Files<File = File>> HistoryPlace for HostHistory<'_, R> {
 
     fn put_in_place(&mut self) -> io::Result<()> {
         self.written = None;
-        let renamed = self.rt.rename(self.beside.as_str(), self.path.as_str());
-        if renamed.is_ok() {
-            flush_folder(self.rt, self.folder);
-        }
-        renamed
+        self.rt.rename(self.beside.as_str(), self.path.as_str())
+    }
+
+    fn flush_names(&mut self) -> io::Result<()> {
+        flush_folder(self.rt, self.folder)
     }
 }
 
@@ -131,27 +136,61 @@ fn is_file_at<R: Files>(rt: &R, path: &str) -> io::Result<bool> {
                 Err(io::Error::from(ErrorKind::InvalidInput))
             }
         }
-        Err(error) => match error.kind() {
-            ErrorKind::NotFound => Ok(false),
-            _ => Err(error),
-        },
+        Err(error) => unseen(error),
+    }
+}
+
+/// What is told of a path at which nothing could be looked at: only of one that isn't there, that
+/// nothing stands at it.
+fn unseen(error: io::Error) -> io::Result<bool>
+    ensures none { error_kind error ≡ kinds.NotFound → result ≡ Ok false }
+    ensures told { error_kind error ≢ kinds.NotFound → result ≡ Err error }
+{
+    match error.kind() {
+        ErrorKind::NotFound => Ok(false),
+        _ => Err(error),
     }
 }
 
 /// Takes away the file at a path, where one is there.
 fn take_away<R: Files>(rt: &R, path: &str) -> io::Result<()> {
     match rt.remove_file(path) {
-        Err(error) => match error.kind() {
-            ErrorKind::NotFound => Ok(()),
-            _ => Err(error),
-        },
         Ok(()) => Ok(()),
+        Err(error) => unremoved(error),
     }
 }
 
-/// Has the device take the names of a folder, where its file system does that.
-fn flush_folder<R: Files<File = File>>(rt: &R, folder: &str) {
-    if let Ok(opened) = File::open(rt, folder) {
-        let _unasked = opened.sync_all();
+/// What is told of a file that couldn't be taken away: only one that isn't there is away.
+fn unremoved(error: io::Error) -> io::Result<()>
+    ensures none { error_kind error ≡ kinds.NotFound → result ≡ Ok tt }
+    ensures told { error_kind error ≢ kinds.NotFound → result ≡ Err error }
+{
+    match error.kind() {
+        ErrorKind::NotFound => Ok(()),
+        _ => Err(error),
+    }
+}
+
+/// Has the device take the names of a folder.
+fn flush_folder<R: Files<File = File>>(rt: &R, folder: &str) -> io::Result<()> {
+    let flushed = match File::open(rt, folder) {
+        Ok(opened) => opened.sync_all(),
+        Err(error) => Err(error),
+    };
+    match flushed {
+        Ok(()) => Ok(()),
+        Err(error) => unflushed(error),
+    }
+}
+
+/// What is told of a folder that couldn't be flushed. One that its owner may not read, or whose
+/// file system has no such flush, is as flushed as it can be.
+fn unflushed(error: io::Error) -> io::Result<()>
+    ensures none { HasNoFlush (error_kind error) → result ≡ Ok tt }
+    ensures told { ¬ HasNoFlush (error_kind error) → result ≡ Err error }
+{
+    match error.kind() {
+        ErrorKind::PermissionDenied | ErrorKind::InvalidInput | ErrorKind::Unsupported => Ok(()),
+        _ => Err(error),
     }
 }

@@ -1,4 +1,8 @@
 //! The place of a relay's socket in its folder.
+ghost use Rattle.std.specs.Prelude.{◌≡◌, ◌↔◌, IsTrue};
+ghost use Rattle.std.specs.IoError.{error_kind};
+ghost use Rattle.std.specs.declared.io.ErrorKind.TheVariants as kinds;
+
 use crate::control::Control;
 use std::alloc::{AllocError, Global};
 use std::fs::{Files, Permissions};
@@ -67,11 +71,22 @@ fn clear<R: Files + Net>(rt: &R, path: &str) -> io::Result<()> {
     }
     match UnixStream::connect(rt, path) {
         Ok(_living) => Err(io::Error::from(ErrorKind::AddrInUse)),
-        Err(error) => match error.kind() {
-            ErrorKind::ConnectionRefused => rt.remove_file(path),
-            _ => Err(error),
-        },
+        Err(error) => {
+            if is_left(&error) {
+                rt.remove_file(path)
+            } else {
+                Err(error)
+            }
+        }
     }
+}
+
+/// Whether nobody listens at a socket with which no connection could be made. Where that has
+/// another cause, as that it is another user's, a relay may.
+fn is_left(error: &io::Error) -> bool
+    ensures { IsTrue result ↔ (error_kind error.now ≡ kinds.ConnectionRefused) }
+{
+    matches!(error.kind(), ErrorKind::ConnectionRefused)
 }
 
 /// Makes the socket in a folder of the owner alone, and gives it its name in the relay's folder

@@ -1,6 +1,7 @@
-mod PeerSources
 mod FileFaults
+mod Founds
 mod Kept
+mod PeerSources
 mod Rows
 mod ServeFaults
 mod Sizes

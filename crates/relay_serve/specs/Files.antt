@@ -1,8 +1,11 @@
 -- The files of the buffers (docs/FORMATS.md, cycbuff.conf).
-use Rattle.std.specs.Prelude.{◌≡◌, ℕ, Any, Some, slice_get, string_bytes}
+use Rattle.std.specs.Prelude.{◌≡◌, ℕ, Any, IsTrue, Some, slice_get, string_bytes}
 use Rattle.std.specs.Str.Lossy.{utf8_lossy}
 use Rattle.file_blocks.specs.Host.{held_identity}
+use Rattle.file_blocks.specs.Store.{was_blank}
 use Rattle.file_blocks.specs.declared.host.HeldFile.{HeldFile}
+use Rattle.file_blocks.specs.declared.host.HostFile.{HostFile}
+use Rattle.file_blocks.specs.declared.store.FileBlocks.{FileBlocks}
 use Rattle.relay_conf.specs.declared.cycbuff.BufferConf.{BufferConf}
 use Rattle.relay_conf.specs.declared.settings.Buffers.{Buffers}
 use Rattle.relay_report.specs.declared.fault.ServeError.{ServeError}
@@ -39,3 +42,7 @@ SharesFile file other = held_identity file ≡ held_identity other
 -- they are two files
 abbrev pub DifferentFiles : (file other : HeldFile) → Type 0
 DifferentFiles file other = ¬ SharesFile file other
+
+-- no buffer was found in the file of a store
+abbrev pub WasBlank : FileBlocks HostFile → Type 0
+WasBlank store = IsTrue (was_blank store)

@@ -1,6 +1,8 @@
 pub mod Figures
 pub mod Files
+pub mod Gates
 pub mod History
+pub mod Keeping
 pub mod Lives
 pub mod Moments
 pub mod Ports

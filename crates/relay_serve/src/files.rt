@@ -1,9 +1,8 @@
 //! The files of the buffers (docs/FORMATS.md, cycbuff.conf).
 ghost use Rattle.std.specs.Prelude.{◌≡◌, ◌↔◌, length, map, All, AllPairs, Any, IfErr, IfOk};
 ghost use Rattle.std.specs.Prelude.{IsSome, IsTrue, MatchBool};
-ghost use Rattle.file_blocks.specs.Fitted.{count_of as blocks_counted};
 ghost use Rattle.relay_serve.specs.Files.{HasReason, IsFaultAt, IsFaultOf, IsFileFault};
-ghost use Rattle.relay_serve.specs.Files.{DifferentFiles, SharesFile};
+ghost use Rattle.relay_serve.specs.Files.{DifferentFiles, SharesFile, WasBlank};
 ghost use Rattle.file_blocks.specs.Store.{count_of};
 
 use crate::reasons::reason_of;
@@ -181,56 +180,55 @@ fn is_one_of(file: &HeldFile, others: &[HeldFile]) -> bool
 }
 
 /// A store in the file of each buffer, of its blocks, in the order of the buffers, which writes and
-/// reads runs of them, and whether no buffer was kept in any: each file is made as long as that
-/// takes, and its last block is tried. The error is want of memory, or the first file with which
-/// that can't be done.
+/// reads runs of them: each file is made as long as that takes, its last block is tried, and it is
+/// looked whether a buffer was kept there. The error is want of memory, or the first file with
+/// which that can't be done.
 pub(crate) fn fit_files(
     alloc: Global,
     settings: &Buffers,
     files: Vec<HeldFile>,
-) -> Result<(Vec<FileBlocks>, bool), ServeError>
+) -> Result<Vec<FileBlocks>, ServeError>
     requires count { length files.items ≡ length settings.now.buffers.items }
-    ensures blocks { IfOk result (λ fitted. map count_of fitted.0.items
+    ensures blocks { IfOk result (λ stores. map count_of stores.items
         ≡ map (λ buffer. buffer.blocks) settings.now.buffers.items) }
     ensures fault { IfErr result (IsFileFault settings.now) }
 {
     let mut stores = Vec::with_capacity(alloc, settings.buffers.len())?;
     let mut rest = files.into_iter();
-    let mut blank = true;
     for buffer in &settings.buffers {
         let Some(file) = rest.next() else {
             unreachable!()
         };
-        let (store, is_blank) = fit_file(alloc, buffer, file)?;
-        blank &= is_blank;
+        let store = fit_file(alloc, buffer, file)?;
         stores.push_reserved(store);
     }
-    Ok((stores, blank))
+    Ok(stores)
 }
 
-/// The store in the file of a buffer, and whether no buffer was kept in it.
-fn fit_file(
-    alloc: Global,
-    buffer: &BufferConf,
-    file: HeldFile,
-) -> Result<(FileBlocks, bool), ServeError>
-    ensures blocks { IfOk result (λ fitted. count_of fitted.0 ≡ buffer.now.blocks) }
+/// The store in the file of a buffer, into which was looked.
+fn fit_file(alloc: Global, buffer: &BufferConf, file: HeldFile) -> Result<FileBlocks, ServeError>
+    ensures blocks { IfOk result (λ store. count_of store ≡ buffer.now.blocks) }
     ensures fault { IfErr result (IsFaultOf buffer.now) }
 {
     match FittedFile::of_held(file, buffer.blocks) {
         Ok(mut file) => {
-            let is_blank = is_blank(&mut file);
-            Ok((FileBlocks::of_fitted(alloc, file)?, is_blank))
+            file.look();
+            Ok(FileBlocks::of_fitted(alloc, file)?)
         }
         Err(refused) => Err(unfit(alloc, buffer, &refused)),
     }
 }
 
-/// Whether no buffer was kept in a file, as far as that can be read.
-fn is_blank(file: &mut FittedFile) -> bool
-    ensures count { blocks_counted file.new ≡ blocks_counted file.old }
+/// Whether no buffer was found in any of the files.
+pub(crate) fn are_blank(stores: &[FileBlocks]) -> bool
+    ensures { IsTrue result ↔ All WasBlank stores.now }
 {
-    file.is_blank().unwrap_or(false)
+    for store in stores {
+        if !store.was_blank() {
+            return false;
+        }
+    }
+    true
 }
 
 /// The fault of the file of a buffer that can't be used so.

@@ -1,4 +1,7 @@
 //! The gate of a relay that is served.
+ghost use Rattle.std.specs.Prelude.{◌≡◌, Some};
+ghost use Rattle.relay_serve.specs.Gates.{finish_word, told_text};
+
 use live_session::{Command, Finish, Gate};
 use live_wire::Tally;
 use relay_conf::Peer;
@@ -69,6 +72,8 @@ impl<'a> PeerCounts<'a> {
 struct Told(Tally);
 
 impl Display for Told {
+    ghost output = { λ told. Some (told_text told.0) };
+
     fn fmt<W: fmt::Write>(&self, formatter: &mut Formatter<W>) -> fmt::Result {
         let Tally {
             accepted,
@@ -112,7 +117,9 @@ impl<'a> CountingGate<'a> {
 }
 
 /// How a session ended, in one word.
-fn word_of(finish: Finish) -> &'static str {
+fn word_of(finish: Finish) -> &'static str
+    ensures { result.now ≡ finish_word finish }
+{
     match finish {
         Finish::Quit => "Quit",
         Finish::Broken => "Broken",

@@ -1,6 +1,7 @@
 //! The history of a relay is read and kept (docs/FORMATS.md, History file).
-ghost use Rattle.std.specs.Prelude.{◌≡◌, Some, IfErr, IfOk, OnErr, OnOk};
-ghost use Rattle.relay_folder.specs.Origin.{begins_from, origin_view};
+ghost use Rattle.std.specs.Prelude.{◌≡◌, ◌⊎◌, ◌∷◌, [], Some, IfErr, IfOk, IsTrue, OnErr, OnOk};
+ghost use Rattle.relay_folder.specs.Keeping.{IsNotKept, IsNotTakenAway};
+ghost use Rattle.relay_folder.specs.Origin.{begins_from, origin_view, IsFormatted};
 ghost use Rattle.relay_serve.specs.History.{IsOriginFault, kept_by};
 ghost use Rattle.relay_serve.specs.Running.{IsStopFault};
 ghost use Rattle.relay_report.specs.declared.fault.ServeError.TheVariants as faults;
@@ -22,9 +23,13 @@ pub(crate) fn begun_from<P: HistoryPlace>(
 ) -> Result<Origin, ServeError>
     ensures origin { P.honest place.old → IfOk result (λ origin.
         origin_view origin ≡ begins_from fresh blank (P.kept place.old)) }
+    // From nothing only where that is asked for, or no buffer was kept, whatever the place gives.
+    ensures formatted { IfOk result (λ origin. IsFormatted origin
+        → IsTrue fresh ⊎ IsTrue blank) }
     ensures kept { P.honest place.old → OnOk result (P.kept place.new
         ≡ kept_by fresh (P.kept place.old)) }
-    ensures same { P.honest place.old → OnErr result (P.kept place.new ≡ P.kept place.old) }
+    ensures refused { P.honest place.old
+        → OnErr result (IsNotTakenAway P.HistoryPlace place.old place.new) }
     ensures fault { IfErr result IsOriginFault }
 {
     match origin_of(alloc, place, fresh, blank) {
@@ -46,7 +51,10 @@ fn unread(kind: ErrorKind) -> ServeError
 /// Keeps the history of a relay that was stopped.
 pub(crate) fn keep_history<P: HistoryPlace>(place: &mut P, text: &[u8]) -> Result<(), ServeError>
     ensures kept { P.honest place.old → OnOk result (P.kept place.new ≡ Some text.now) }
-    ensures same { P.honest place.old → OnErr result (P.kept place.new ≡ P.kept place.old) }
+    ensures lasts { P.honest place.old
+        → OnOk result (P.lasting place.new ≡ Some text.now ∷ []) }
+    ensures refused { P.honest place.old
+        → OnErr result (IsNotKept P.HistoryPlace text.now place.old place.new) }
     ensures fault { IfErr result (λ error. error ≡ faults.Stop stops.History) }
     ensures stop { IfErr result IsStopFault }
 {

@@ -6,12 +6,14 @@
 //! runs a relay in threads over any stores, and says what was counted once all threads have ended.
 #![tactic(auto)]
 
+mod begun;
 mod clock;
 mod desk;
 mod figures;
 mod files;
 mod gate;
 mod history;
+mod keeping;
 mod lives;
 mod ports;
 mod reasons;
@@ -20,6 +22,7 @@ mod serving;
 mod side_thread;
 mod starting;
 mod streams;
+mod synced;
 mod watched;
 
 pub use serving::serve_on;

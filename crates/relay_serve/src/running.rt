@@ -11,6 +11,7 @@ ghost use Rattle.relay_serve.specs.Running.{ended_as};
 ghost use Rattle.relay_serve.specs.Running.{channel_count, unbegun_as};
 ghost use Rattle.relay_report.specs.declared.fault.ServeError.TheVariants as faults;
 
+use crate::begun::{Beginning, Looked};
 use crate::clock::MachineClock;
 use crate::desk::Desk;
 use crate::files::unformatted;
@@ -47,15 +48,6 @@ pub(crate) struct Finished<S> {
     pub stopped: Stopped<S>,
 }
 
-/// What a relay begins over.
-#[derive(Drop)]
-pub(crate) struct Beginning<S> {
-    /// The store of each buffer, in their order.
-    pub stores: Vec<S>,
-    /// From nothing, or from what it was stopped with.
-    pub origin: Origin,
-}
-
 /// What the texts and the posts of a relay are recorded in.
 #[derive(Drop)]
 pub(crate) struct Records<'a> {
@@ -85,7 +77,7 @@ pub(crate) struct Surroundings<'a, R> {
 /// want of memory, of random numbers, or of a thread, or the file of a buffer whose device failed
 /// when it was formatted; what was served before stands, and nothing is counted.
 pub(crate) fn run_relay<
-    S: BlockStore + Drop + Send,
+    S: BlockStore + Looked + Drop + Send,
     J: StorePremises + Send + Sync,
     L: Ledger + Send + Sync,
     R: Threads + Wait + Clock + Eprint + RandomSource + Sync,
@@ -146,7 +138,7 @@ pub(crate) fn run_relay<
 
 /// What so many ends share over these stores, from nothing or from what it was stopped with: then
 /// nothing is written until it is known that it starts.
-fn begun_by<S: BlockStore + Drop, J: StorePremises, L: Ledger, R: RandomSource + Wait>(
+fn begun_by<S: BlockStore + Looked + Drop, J: StorePremises, L: Ledger, R: RandomSource + Wait>(
     rt: &R,
     alloc: Global,
     config: &Config,
@@ -168,7 +160,11 @@ fn begun_by<S: BlockStore + Drop, J: StorePremises, L: Ledger, R: RandomSource +
     ensures unbegun { IfErr result (IsUnbegun ⟦<S as BlockStore>⟧ config.now
         beginning.stores.items beginning.origin) }
 {
-    let Beginning { stores, origin } = beginning;
+    let Beginning {
+        stores,
+        origin,
+        fresh: _,
+    } = beginning;
     match origin {
         Origin::Formatted => match Shared::new(rt, alloc, config, stores, book, ends) {
             Ok(shared) => Ok(shared),

@@ -6,23 +6,23 @@ ghost use Rattle.relay_serve.specs.Running.{IsServeFault, IsStopFault};
 ghost use Rattle.relay_report.specs.Serve.{AreOf, ServeGives};
 ghost use Rattle.file_blocks.specs.Store.{count_of};
 
+use crate::begun::{Beginning, Unbegun, begin_over};
 use crate::clock::MachineClock;
 use crate::desk::Desk;
 use crate::files::{fit_files, hold_files};
 use crate::gate::CountingGate;
-use crate::history::{begun_from, keep_history};
+use crate::keeping::keep_finished;
 use crate::ports::open_ports;
-use crate::running::{Beginning, Finished, Records, Surroundings, channels_of, run_relay};
+use crate::running::{Finished, Records, Surroundings, channels_of, run_relay};
 use crate::streams::fill_streams;
-use crate::watched::{Watched, watch_all};
+use crate::watched::{Watched, watch};
 use file_blocks::FileBlocks;
 use live_store::ArticleLog;
 use live_wire::{Port, Stop};
 use relay_conf::Config;
-use relay_core::Stopped;
 use relay_folder::{Control, HistoryPlace, HostHistory, Origin};
 use relay_live::PeerSource;
-use relay_report::{ServeError, StopFault, Totals, print_totals};
+use relay_report::{ServeError, Totals, print_totals};
 use std::alloc::Global;
 use std::fs::{File, Files};
 use std::io::{ErrorKind, Write};
@@ -174,11 +174,10 @@ where
 {
     let files = hold_files(rt, alloc, &config.buffers, asked.folder)?;
     let peer_sources = open_ports(rt, alloc, &config.relay, asked.sessions, stop)?;
-    let (stores, blank) = fit_files(alloc, &config.buffers, files)?;
+    let stores = fit_files(alloc, &config.buffers, files)?;
     let unbegun = Unbegun {
         stores,
         fresh: asked.fresh,
-        blank,
     };
     Ok((unbegun, peer_sources))
 }
@@ -186,16 +185,6 @@ where
 /// Tells that a relay is served, at so many ports, over so many buffers.
 fn tell_serving<R: Eprint>(rt: &R, ports: usize, buffers: usize) {
     let _lost = eprintln!(rt; "serving ports={ports} buffers={buffers}");
-}
-
-/// What a relay may begin over, before it is known from what.
-#[derive(Drop)]
-struct Unbegun {
-    stores: Vec<FileBlocks>,
-    /// Whether it is asked to begin from nothing.
-    fresh: bool,
-    /// Whether no buffer was kept in any file.
-    blank: bool,
 }
 
 /// How a relay is had from outside.
@@ -226,20 +215,15 @@ where
     requires few { length access.peer_sources.items < 2 ^ 62 }
     ensures { ServeGives config.now result (W.contents writer.old) (W.contents writer.new) }
 {
-    let origin = match begun_from(alloc, history, unbegun.fresh, unbegun.blank) {
-        Ok(origin) => origin,
+    let begun = match begin_over(alloc, history, unbegun) {
+        Ok(begun) => begun,
         Err(error) => {
             drop(access);
-            drop(unbegun);
             return Err(error);
         }
     };
-    tell_start(rt, &origin);
-    let beginning = Beginning {
-        stores: unbegun.stores,
-        origin,
-    };
-    let finished = run_watched(rt, alloc, config, beginning, access)?;
+    tell_start(rt, &begun.origin);
+    let finished = run_watched(rt, alloc, config, begun, access)?;
     let totals = keep_finished(history, finished)?;
     tell_counted(rt, &totals);
     let printed = print_totals(alloc, &totals, writer);
@@ -282,14 +266,13 @@ where
     ensures fault { IfErr result (IsServeFault config.now) }
 {
     let register = ArticleLog::new(alloc)?;
-    let Beginning { stores, origin } = beginning;
-    let stores = watch_all(rt, &config.buffers, stores)?;
+    let beginning = watch(rt, &config.buffers, beginning)?;
     let clock = MachineClock::new(rt);
     run_relay::<Watched<'a, FileBlocks, R>, Brand, Brand, R>(
         rt,
         alloc,
         config,
-        Beginning { stores, origin },
+        beginning,
         Records {
             register: &register,
             blank: Blank::new(channels_of(config) as u64),
@@ -301,45 +284,4 @@ where
             side: access.desk,
         },
     )
-}
-
-/// Keeps what a relay that has run was stopped with, and gives its totals, where there was memory
-/// for them.
-fn keep_finished<R, H: HistoryPlace>(
-    history: &mut H,
-    finished: Finished<Watched<'_, FileBlocks, R>>,
-) -> Result<Totals, ServeError>
-    ensures totals { IfOk result (λ totals. finished.entry.totals ≡ Ok totals) }
-    ensures fault { IfErr result IsStopFault }
-{
-    let Finished {
-        counted: _,
-        totals,
-        stopped,
-    } = finished;
-    let kept = keep_stopped(history, &stopped);
-    drop(stopped);
-    match kept {
-        Ok(()) => Ok(totals?),
-        Err(error) => {
-            drop(totals);
-            Err(error)
-        }
-    }
-}
-
-/// Keeps what a relay was stopped with. The history comes last: it is not to speak of blocks that
-/// the devices haven't got.
-fn keep_stopped<R, H: HistoryPlace>(
-    history: &mut H,
-    stopped: &Stopped<Watched<'_, FileBlocks, R>>,
-) -> Result<(), ServeError>
-    ensures fault { IfErr result IsStopFault }
-{
-    for store in &stopped.stores {
-        if store.sync().is_err() {
-            return Err(ServeError::Stop(StopFault::Device));
-        }
-    }
-    keep_history(history, &stopped.history)
 }

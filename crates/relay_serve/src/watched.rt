@@ -1,10 +1,13 @@
 //! A store whose failures are told.
-ghost use Rattle.std.specs.Prelude.{◌≡◌, IfOk, length, map};
-ghost use Rattle.relay_serve.specs.Watched.{store_in};
+ghost use Rattle.std.specs.Prelude.{◌≡◌, ◌<◌, IfOk, Some, length, map, slice_get};
+ghost use Rattle.relay_conf.specs.declared.cycbuff.BufferConf.{BufferConf};
+ghost use Rattle.relay_serve.specs.Watched.{name_in, store_in};
 
+use crate::begun::{Beginning, Looked};
+use crate::synced::Synced;
 use cyc_block::{BLOCK_OCTETS, BlockStore, DeviceFailed};
 use file_blocks::FileBlocks;
-use relay_conf::{BufferConf, Buffers};
+use relay_conf::Buffers;
 use std::alloc::AllocError;
 use std::str;
 use std::time::Clock;
@@ -23,7 +26,8 @@ pub(crate) struct Watched<'a, S, R> {
 impl<'a, S, R: Clock + Eprint> Watched<'a, S, R> {
     /// A store of which no failure was told.
     fn new(rt: &'a R, name: &'a [u8], store: S) -> Watched<'a, S, R>
-        ensures { store_in result ≡ store }
+        ensures store { store_in result ≡ store }
+        ensures name { name_in result ≡ name.now }
     {
         Watched {
             store,
@@ -66,10 +70,18 @@ impl<'a, S, R: Clock + Eprint> Watched<'a, S, R> {
     }
 }
 
-impl<R> Watched<'_, FileBlocks, R> {
-    /// Has the device take all that was written to the file.
-    pub(crate) fn sync(&self) -> Result<(), DeviceFailed> {
-        self.store.sync()
+impl<S: Looked, R> Looked for Watched<'_, S, R> {
+    ghost was_blank = { λ watched. S.was_blank watched.store };
+}
+
+impl<R> Synced for Watched<'_, FileBlocks, R> {
+    ghost use Rattle.file_blocks.specs.Host.{IsFlushed};
+    ghost use Rattle.file_blocks.specs.Store.{file_of};
+
+    ghost is_synced = { λ watched. IsFlushed (file_of watched.store) };
+
+    fn sync(&mut self) -> Result<(), DeviceFailed> {
+        self.store.sync_noted()
     }
 }
 
@@ -109,14 +121,43 @@ impl<S: BlockStore, R: Clock + Eprint> BlockStore for Watched<'_, S, R> {
     }
 }
 
+/// What a relay begins over, each store watched by the name of its buffer.
+pub(crate) fn watch<'a, S: BlockStore + Looked + Drop, R: Clock + Eprint>(
+    rt: &'a R,
+    settings: &'a Buffers,
+    beginning: Beginning<S>,
+) -> Result<Beginning<Watched<'a, S, R>>, AllocError>
+    requires count { length beginning.stores.items ≡ length settings.now.buffers.items }
+    ensures stores { IfOk result (λ watched.
+        map store_in watched.stores.items ≡ beginning.stores.items) }
+    ensures names { IfOk result (λ watched. map name_in watched.stores.items
+        ≡ map (λ buffer. buffer.name) settings.now.buffers.items) }
+    ensures origin { IfOk result (λ watched. watched.origin ≡ beginning.origin) }
+    ensures fresh { IfOk result (λ watched. watched.fresh ≡ beginning.fresh) }
+{
+    let Beginning {
+        stores,
+        origin,
+        fresh,
+    } = beginning;
+    let stores = watch_all(rt, settings, stores)?;
+    Ok(Beginning {
+        stores,
+        origin,
+        fresh,
+    })
+}
+
 /// Each store, watched by the name of its buffer.
-pub(crate) fn watch_all<'a, S: BlockStore + Drop, R: Clock + Eprint>(
+fn watch_all<'a, S: BlockStore + Drop, R: Clock + Eprint>(
     rt: &'a R,
     settings: &'a Buffers,
     stores: Vec<S>,
 ) -> Result<Vec<Watched<'a, S, R>>, AllocError>
     requires count { length stores.items ≡ length settings.now.buffers.items }
     ensures stores { IfOk result (λ all. map store_in all.items ≡ stores.items) }
+    ensures names { IfOk result (λ all. map name_in all.items
+        ≡ map (λ buffer. buffer.name) settings.now.buffers.items) }
 {
     let mut all = Vec::with_capacity(*stores.allocator(), stores.len())?;
     for store in stores {
@@ -127,9 +168,14 @@ pub(crate) fn watch_all<'a, S: BlockStore + Drop, R: Clock + Eprint>(
 }
 
 /// The name of the buffer of this number.
-fn name_at(settings: &Buffers, number: usize) -> &[u8] {
+fn name_at(settings: &Buffers, number: usize) -> &[u8]
+    requires { number < length settings.now.buffers.items }
+    ensures { (buffer : BufferConf)
+        × (slice_get settings.now.buffers.items number ≡ Some buffer)
+        × (result.now ≡ buffer.name) }
+{
     match settings.buffers.get(number) {
-        Some(BufferConf { name, .. }) => name.as_slice(),
-        None => b"?",
+        Some(buffer) => buffer.name.as_slice(),
+        None => unreachable!(),
     }
 }

@@ -7,8 +7,8 @@ use Rattle.relay_serve.proofs.Starts.{unrun_serves}
 use Rattle.relay_serve.proofs.serving.run_watched.Goals as goal
 
 -- there is a store for each buffer,
-pub watch_all-requires : goal.watch_all-requires
-watch_all-requires g c = record {
+pub watch-requires : goal.watch-requires
+watch-requires g c = record {
   count = same_count count_of (λ buffer. buffer.blocks) c.args.beginning.stores.items
       c.args.config.now.buffers.buffers.items c.requires.stores;
 }
@@ -18,7 +18,7 @@ pub run_relay-requires-clause-stores : goal.run_relay-requires-clause-stores
 run_relay-requires-clause-stores g c κs within =
     watched_sizes _
     ∙ ap (λ (stores : List (FileBlocks HostFile)). map count_of stores)
-    c.in_ok-stores.ensures.stores
+    c.in_ok-beginning.ensures.stores
     ∙ c.requires.stores
 
 pub returns-clause-fault : goal.returns-clause-fault

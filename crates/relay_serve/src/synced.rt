@@ -1,0 +1,27 @@
+//! Stores whose devices are had take what was written.
+ghost use Rattle.std.specs.Prelude.{All, Any, OnErr, OnOk};
+
+use cyc_block::DeviceFailed;
+
+/// A store of which is known whether its device has what was written.
+pub(crate) trait Synced {
+    /// The device was had take all that was written, and has said that it did.
+    ghost is_synced: { Self → Type 0 };
+
+    /// Has the device take all that was written.
+    fn sync(&mut self) -> Result<(), DeviceFailed>
+        ensures synced { OnOk result (is_synced self.new) }
+        ensures failed { OnErr result (¬ is_synced self.new) };
+}
+
+/// Has the device of each store take all that was written, one after the other, up to the first
+/// that fails.
+pub(crate) fn sync_all<S: Synced>(stores: &mut [S]) -> Result<(), DeviceFailed>
+    ensures synced { OnOk result (All S.is_synced stores.new) }
+    ensures failed { OnErr result (Any (λ store. ¬ S.is_synced store) stores.new) }
+{
+    for store in stores.iter_mut() {
+        store.sync()?;
+    }
+    Ok(())
+}
