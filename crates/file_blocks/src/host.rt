@@ -7,11 +7,17 @@ ghost use Rattle.file_blocks.specs.Host.{asked_of, failed_in, held_identity, ide
 ghost use Rattle.file_blocks.specs.Host.{IsFlushed};
 
 use crate::file::RunFile;
-use cyc_block::{BLOCK_OCTETS, DeviceFailed};
+use cyc_block::{BLOCK_OCTETS, DeviceFailed, are_zeros};
 use http_server::Log;
 use std::fs::{File, Files, Metadata, OpenOptions, TryLockError};
 use std::os::unix::fs::{FileExt, MetadataExt};
 use std::{fs, io};
+
+/// How many octets are read at once to see whether a file has zeros alone.
+const PIECE: usize = 65_536;
+
+/// How many such pieces are read at most: no file is longer.
+const MOST_PIECES: u64 = 1 << 47;
 
 /// Why a file can't be used, in the order of trial.
 #[derive(Drop)]
@@ -85,6 +91,23 @@ impl HeldFile {
         ensures { IsTrue result ↔ (held_identity self.now ≡ held_identity other.now) }
     {
         self.identity == other.identity
+    }
+
+    /// Whether the file has no other octet than 0, as one that was just made or made longer.
+    pub fn is_zeros(&self) -> Result<bool, Unusable> {
+        let mut room = [0; PIECE];
+        let mut place: u64 = 0;
+        for _ in 0..MOST_PIECES {
+            let count = self.file.read_at(&mut room, place)?;
+            if count == 0 {
+                return Ok(true);
+            }
+            if !are_zeros(&room[..count]) {
+                return Ok(false);
+            }
+            place = place.saturating_add(count as u64);
+        }
+        Ok(false)
     }
 
     /// The file, which has so many octets afterwards, or more: it is made longer with zeros where

@@ -1,0 +1,2 @@
+pub mod AddedLines
+pub mod AddedOver

@@ -1,0 +1,4 @@
+pub mod Choosing
+pub mod Flushing
+pub mod Making
+pub mod Telling
