@@ -1,3 +1,4 @@
+pub mod Addings
 pub mod Asks
 pub mod Checks
 pub mod CommandLines

@@ -2,12 +2,14 @@
 use Rattle.std.proofs.Common.{ℕ, Bool, List, Option, Result, Ok, Err}
 use denote.Ref.{Bor, MutBor}
 use Rattle.relay_conf.specs.declared.settings.Config.{Config}
+use Rattle.relay_adding.specs.Telling.{AddsRightly}
 use Rattle.relay_report.specs.Serve.{AnswersRightly}
 use Rattle.relay_report.specs.declared.fault.ServeError.{ServeError}
+use Rattle.relay_command.specs.Adding.{Adding, HandedTo}
 use Rattle.relay_command.specs.Ask.{Asking}
 use Rattle.clap.specs.Words.{Text}
 use Rattle.clap.specs.declared.error.Error.{Error}
-use Rattle.relay_command.specs.CommandLine.{Asked, Checks, Drills, Explains, Reports, Serves}
+use Rattle.relay_command.specs.CommandLine.{Adds, Asked, Checks, Drills, Explains, Reports, Serves}
 use Rattle.relay_command.specs.CommandLine.{IsAskedBy, Stops, Tells}
 use Rattle.relay_command.specs.Run.{Performs, RunGives}
 use Rattle.relay_command.specs.Serving.{Handed, Serving}
@@ -17,13 +19,19 @@ use Rattle.relay_command.specs.declared.failure.Failure.TheVariants as failures
 module _ {W : Type 0} (contents : W → Option (List ℕ))
     (post : Bor Config → Bor (List ℕ) → Option ℕ → Bool → MutBor W
     → Result (Unit {0}) ServeError → MutBor W → Type 0)
-    (rightly : AnswersRightly contents post) (asking : Asking) where
+    (rightly : AnswersRightly contents post)
+    (add_post : Bor Config → Bor (List ℕ) → MutBor W → Result (Unit {0}) ServeError → MutBor W
+    → Type 0)
+    (adds_rightly : AddsRightly contents add_post) (asking : Asking) where
   abbrev serving : Serving
   serving = Handed contents post
 
+  abbrev adding : Adding
+  adding = HandedTo contents add_post
+
   -- Nothing that the words ask for fails as words that ask for nothing do.
   never_words : (a : Asked) (error : Error) (input before after : Option (List ℕ))
-      → Performs serving asking a (Err (failures.Words error)) input before after → ⊥
+      → Performs serving adding asking a (Err (failures.Words error)) input before after → ⊥
   never_words (Drills folder script) error input before after does = does
   never_words (Checks folder) error input before after does = does
   never_words (Explains folder question) error input before after does = does
@@ -31,12 +39,13 @@ module _ {W : Type 0} (contents : W → Option (List ℕ))
   never_words (Serves folder sessions fresh) error input before after does = does
   never_words (Stops folder) error input before after does = does
   never_words (Reports folder) error input before after does = does
+  never_words (Adds folder) error input before after does = does
 
   -- What the words ask for was done, or failed.
   pub ran : (words : List Text) (a : Asked) (result : Result (Unit {0}) Failure)
       (input before after : Option (List ℕ)) → IsAskedBy words a
-      → Performs serving asking a result input before after
-      → RunGives serving asking words result input before after
+      → Performs serving adding asking a result input before after
+      → RunGives serving adding asking words result input before after
   ran words a (Ok done) input before after is does = (a, is, does)
   ran words a (Err (failures.Words error)) input before after is does =
       absurd (never_words a error input before after does)

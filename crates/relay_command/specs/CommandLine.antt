@@ -36,6 +36,9 @@ pub data Asked : Type 0 where
   Stops : (folder : List ℕ) → Asked
   -- to print the report of the relay that is served in a folder
   Reports : (folder : List ℕ) → Asked
+  -- to make the files of the buffers that the configuration in a folder has behind those of the
+  -- relay that was stopped there
+  Adds : (folder : List ℕ) → Asked
 
 -- a job as the words ask for it
 abbrev pub asked : Job → Asked
@@ -46,10 +49,15 @@ asked (jobs.Token text) = Tells (string_bytes text)
 asked (jobs.Serve folder sessions fresh) = Serves (string_bytes folder) sessions fresh
 asked (jobs.Stop folder) = Stops (string_bytes folder)
 asked (jobs.Report folder) = Reports (string_bytes folder)
+asked (jobs.Add folder) = Adds (string_bytes folder)
 
 -- a word that has to be there
 abbrev pub needed : Text → Rule
 needed name = record (new_rule name) { required = true; action = Some Set }
+
+-- `add-buffer DIR`
+abbrev pub add_words : App
+add_words = with_rule (new_app (codes "add-buffer")) (needed (codes "DIR"))
 
 -- `check DIR`
 abbrev pub check_words : App
@@ -104,8 +112,8 @@ version_words =
 -- the words of what is done with a configuration alone, which no relay serves
 abbrev pub unserved_words : App
 unserved_words =
-    with_subcommand (with_subcommand (with_subcommand version_words check_words.top)
-    drill_words.top) explain_words.top
+    with_subcommand (with_subcommand (with_subcommand (with_subcommand version_words
+    add_words.top) check_words.top) drill_words.top) explain_words.top
 
 -- the words that there are
 abbrev pub program_words : App
@@ -150,6 +158,7 @@ asked_by (Some met) =
     else if bytes_eq met.0 (codes "serve") then serves_by met.1
     else if bytes_eq met.0 (codes "stop") then Stops (word_given (codes "DIR") met.1)
     else if bytes_eq met.0 (codes "report") then Reports (word_given (codes "DIR") met.1)
+    else if bytes_eq met.0 (codes "add-buffer") then Adds (word_given (codes "DIR") met.1)
     else Drills (word_given (codes "DIR") met.1) (word_given (codes "SCRIPT") met.1)
 
 -- the words have a fault of this kind, by clap's reading of them; to ask for help or the version is

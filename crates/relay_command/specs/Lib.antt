@@ -1,3 +1,4 @@
+pub mod Adding
 pub mod Ask
 pub mod Check
 pub mod CommandLine

@@ -5,10 +5,11 @@ use Rattle.clap.specs.Words.{Text}
 use Rattle.relay_conf.specs.declared.settings.Config.{Config}
 use Rattle.relay_drill.specs.Drill.{DrillGives}
 use Rattle.relay_drill.specs.declared.fault.DrillError.{DrillError}
+use Rattle.relay_command.specs.Adding.{Adding}
 use Rattle.relay_command.specs.Ask.{Asking, AsksIn}
 use Rattle.relay_command.specs.Check.{CheckGives, HasError, IsIn}
 use Rattle.relay_command.specs.CommandLine.{Asked, Drills, Checks, Explains, Tells, Serves}
-use Rattle.relay_command.specs.CommandLine.{Stops, Reports}
+use Rattle.relay_command.specs.CommandLine.{Adds, Stops, Reports}
 use Rattle.relay_command.specs.CommandLine.{IsAskedBy, IsRefusedBy}
 use Rattle.relay_command.specs.Explain.{ExplainsFolder}
 use Rattle.relay_command.specs.Files.{CannotBeRead}
@@ -19,6 +20,7 @@ use Rattle.relay_command.specs.declared.ask.Request.TheVariants.{Stop, Report}
 use Rattle.relay_command.specs.declared.failure.Failure.{Failure}
 use Rattle.relay_command.specs.declared.failure.Failure.TheVariants.{Words, Check, Drill, Serve}
 use Rattle.relay_command.specs.declared.failure.Failure.TheVariants.{Token, Ask}
+use Rattle.relay_adding.specs.Telling.{AddGives}
 use Rattle.relay_report.specs.Serve.{ServeGives}
 use Rattle.relay_report.specs.declared.fault.ServeError.{ServeError}
 
@@ -91,6 +93,26 @@ ServesFolder serving folder sessions fresh (Err (Check error)) before after =
     HasError folder error × Keeps before after
 ServesFolder serving folder sessions fresh (Err failure) before after = ⊥
 
+-- What adding the buffers answers that the configuration in a folder has behind the others: what
+-- came is what adding comes to with that configuration and that folder, and what adding buffers of
+-- the configuration gives.
+abbrev pub AddsIn : Adding → (folder : List ℕ) → Result (Unit {0}) ServeError
+    → (before after : Option (List ℕ)) → Type 0
+AddsIn adding folder result before after =
+    (config : Config) × IsIn folder config × adding config folder result before after
+    × AddGives config result before after
+
+-- what was to be added with the configuration in a folder was, or failed so; where the
+-- configuration is at fault, nothing was added or written
+abbrev pub AddsFolder : Adding → (folder : List ℕ) → Result (Unit {0}) Failure
+    → (before after : Option (List ℕ)) → Type 0
+AddsFolder adding folder (Ok done) before after = AddsIn adding folder (Ok done) before after
+AddsFolder adding folder (Err (Serve error)) before after =
+    AddsIn adding folder (Err error) before after
+AddsFolder adding folder (Err (Check error)) before after =
+    HasError folder error × Keeps before after
+AddsFolder adding folder (Err failure) before after = ⊥
+
 -- what the relay of a folder was asked for it told, or that failed so; no configuration is read
 abbrev pub AsksFolder : Asking → (folder : List ℕ) → Request → Result (Unit {0}) Failure
     → (before after : Option (List ℕ)) → Type 0
@@ -102,28 +124,30 @@ AsksFolder asking folder request (Err failure) before after = ⊥
 
 -- what was asked for is done, or failed with a failure of its own; only a drill reads standard
 -- input
-abbrev pub Performs : Serving → Asking → Asked → Result (Unit {0}) Failure
+abbrev pub Performs : Serving → Adding → Asking → Asked → Result (Unit {0}) Failure
     → (input before after : Option (List ℕ)) → Type 0
-Performs serving asking (Drills folder script) result input before after =
+Performs serving adding asking (Drills folder script) result input before after =
     DrillsFolder folder script result input before after
-Performs serving asking (Checks folder) result input before after =
+Performs serving adding asking (Checks folder) result input before after =
     ChecksFolder folder result before after
-Performs serving asking (Explains folder question) result input before after =
+Performs serving adding asking (Explains folder question) result input before after =
     ExplainsFolder folder question result before after
-Performs serving asking (Tells text) result input before after =
+Performs serving adding asking (Tells text) result input before after =
     TellsText text result before after
-Performs serving asking (Serves folder sessions fresh) result input before after =
+Performs serving adding asking (Serves folder sessions fresh) result input before after =
     ServesFolder serving folder sessions fresh result before after
-Performs serving asking (Stops folder) result input before after =
+Performs serving adding asking (Stops folder) result input before after =
     AsksFolder asking folder Stop result before after
-Performs serving asking (Reports folder) result input before after =
+Performs serving adding asking (Reports folder) result input before after =
     AsksFolder asking folder Report result before after
+Performs serving adding asking (Adds folder) result input before after =
+    AddsFolder adding folder result before after
 
 -- what the words ask for is done or failed; or they ask for nothing, and nothing was written
-abbrev pub RunGives : Serving → Asking → List Text → Result (Unit {0}) Failure
+abbrev pub RunGives : Serving → Adding → Asking → List Text → Result (Unit {0}) Failure
     → (input before after : Option (List ℕ)) → Type 0
-RunGives serving asking words (Err (Words error)) input before after =
+RunGives serving adding asking words (Err (Words error)) input before after =
     IsRefusedBy words error × Keeps before after
-RunGives serving asking words result input before after =
+RunGives serving adding asking words result input before after =
     (asked : Asked) × IsAskedBy words asked
-    × Performs serving asking asked result input before after
+    × Performs serving adding asking asked result input before after

@@ -45,6 +45,9 @@ pub enum Job {
     Stop(String),
     /// To print the report of the relay that is served in this folder.
     Report(String),
+    /// To make the files of the buffers that the configuration in this folder, or the built-in one,
+    /// has behind those of the relay that was stopped there.
+    Add(String),
 }
 
 /// Reads the words, the program's name first. Without further words they ask for a drill.
@@ -105,6 +108,9 @@ fn job_named(alloc: Global, name: &str, given: &ArgMatches<'_>) -> Result<Job, A
     }
     if is(name, "report") {
         return Ok(Job::Report(folder));
+    }
+    if is(name, "add-buffer") {
+        return Ok(Job::Add(folder));
     }
     drilling(alloc, given, folder)
 }

@@ -62,7 +62,8 @@ pub enum Failure {
     Drill(DrillError),
     /// A token is not told.
     Token(TokenFault),
-    /// A relay was not served to its end, or its report not written.
+    /// A relay was not served to its end, or its report not written; or buffers were not added to
+    /// one, or what was added is not told.
     Serve(ServeError),
     /// A relay that is served can't be asked, or what it told is not written.
     Ask(AskError),

@@ -1,12 +1,13 @@
 //! What the program does with its words (docs/PROTOCOL.md, Program): it runs a drill, says what a
 //! configuration has, what it does, or what a token stands for, has a relay served on ports, or
-//! asks one that is served to end or for its report; and why it ends where it fails, with the
-//! status.
+//! buffers added to one that was stopped, or asks one that is served to end or for its report; and
+//! why it ends where it fails, with the status.
 //!
 //! The words decide which of these is done, on which streams and with which failure (`run`). Where
-//! the words and the streams come from is the program's, and so is what serves and what asks.
+//! the words and the streams come from is the program's, and so is what serves, adds and asks.
 #![tactic(auto)]
 
+mod add;
 mod ask;
 mod check;
 mod command_line;

@@ -1,5 +1,6 @@
 //! Doing what the words ask for (docs/PROTOCOL.md, Program).
 ghost use Rattle.std.specs.Prelude.{◌≡◌, ◌⊎◌, map, bytes_eq, codes, string_bytes, IfOk, IfErr};
+ghost use Rattle.relay_command.specs.Adding.{HandedTo};
 ghost use Rattle.relay_command.specs.Ask.{Answered};
 ghost use Rattle.relay_command.specs.CommandLine.{asked};
 ghost use Rattle.std.specs.Vec.Iter.{into_iter_items};
@@ -8,10 +9,12 @@ ghost use Rattle.relay_command.specs.Failure.{unbegun_as};
 ghost use Rattle.relay_command.specs.Gathered.{RunsGathered};
 ghost use Rattle.relay_command.specs.Run.{DrillsFolder, DrillsScript, Performs, RunGives};
 ghost use Rattle.relay_command.specs.Serving.{Handed};
+ghost use Rattle.relay_adding.specs.Telling.{AddsRightly};
 ghost use Rattle.relay_report.specs.Serve.{AnswersRightly};
 ghost use Rattle.relay_command.specs.declared.failure.Failure.TheVariants as failures;
 ghost use Rattle.relay_command.specs.declared.failure.Unbegun.TheVariants as begin;
 
+use crate::add::add_in;
 use crate::ask::{Request, ask_in};
 use crate::check::check;
 use crate::command_line::{Job, read_words};
@@ -69,55 +72,65 @@ fn unread(kind: ErrorKind) -> Unbegun
 /// input; what is printed where nothing fails goes to standard output by `writer`, and is handed on
 /// to its end before a failure is told. `rt` has the files, and seeds the core's hasher; `serve` is
 /// asked to serve a relay on ports: with its configuration, the folder of its files, after how many
-/// connections each port ends, and whether all buffers are formatted. `ask` is asked what the relay
-/// tells that is served in a folder.
-pub fn run<S: Files + RandomSource, R: Read, W: Write + Drop, V, A>(
+/// connections each port ends, and whether all buffers are formatted. `add` is asked to add buffers
+/// to the relay that was stopped in a folder: with its configuration, and the folder. `ask` is asked
+/// what the relay tells that is served in a folder.
+pub fn run<S: Files + RandomSource, R: Read, W: Write + Drop, V, D, A>(
     rt: &S,
     alloc: Global,
     words: &[String],
     reader: &mut R,
     writer: &mut BufWriter<W>,
     serve: V,
+    add: D,
     ask: A,
 ) -> Result<(), Failure>
 where
     V: FnOnce(&Config, &str, Option<u32>, bool, &mut BufWriter<W>) -> Result<(), ServeError>,
+    D: FnOnce(&Config, &str, &mut BufWriter<W>) -> Result<(), ServeError>,
     A: FnOnce(&str, Request) -> io::Result<Vec<u8>>,
     requires called { V.IsAlwaysCallable serve }
+    requires added { D.IsAlwaysCallable add }
     requires asked { A.IsAlwaysCallable ask }
     requires rightly { AnswersRightly (writer_contents W.contents) (V.post serve) }
+    requires adds_rightly { AddsRightly (writer_contents W.contents) (D.post add) }
     ensures { RunsGathered (Handed (writer_contents W.contents) (V.post serve))
-        (Answered (A.post ask)) (map string_bytes words.now) result (R.remaining reader.old)
+        (HandedTo (writer_contents W.contents) (D.post add)) (Answered (A.post ask)) (map string_bytes words.now) result (R.remaining reader.old)
         (writer_contents W.contents writer.old) (W.contents (writer_inner writer.new))
         (writer_buffer writer.new) }
 {
-    let ran = obey(rt, alloc, words, reader, writer, serve, ask);
+    let ran = obey(rt, alloc, words, reader, writer, serve, add, ask);
     hand_on(ran, writer)
 }
 
 /// Does what the words ask for.
-fn obey<S: Files + RandomSource, R: Read, W: Write, V, A>(
+fn obey<S: Files + RandomSource, R: Read, W: Write, V, D, A>(
     rt: &S,
     alloc: Global,
     words: &[String],
     reader: &mut R,
     writer: &mut W,
     serve: V,
+    add: D,
     ask: A,
 ) -> Result<(), Failure>
 where
     V: FnOnce(&Config, &str, Option<u32>, bool, &mut W) -> Result<(), ServeError>,
+    D: FnOnce(&Config, &str, &mut W) -> Result<(), ServeError>,
     A: FnOnce(&str, Request) -> io::Result<Vec<u8>>,
     requires called { V.IsAlwaysCallable serve }
+    requires added { D.IsAlwaysCallable add }
     requires asked { A.IsAlwaysCallable ask }
     requires rightly { AnswersRightly W.contents (V.post serve) }
-    ensures { RunGives (Handed W.contents (V.post serve)) (Answered (A.post ask))
+    requires adds_rightly { AddsRightly W.contents (D.post add) }
+    ensures { RunGives (Handed W.contents (V.post serve)) (HandedTo W.contents (D.post add))
+        (Answered (A.post ask))
         (map string_bytes words.now) result (R.remaining reader.old) (W.contents writer.old)
         (W.contents writer.new) }
 {
     match read_words(alloc, words) {
         Ok(job) => {
-            let done = perform(rt, alloc, &job, reader, writer, serve, ask);
+            let done = perform(rt, alloc, &job, reader, writer, serve, add, ask);
             drop(job);
             done
         }
@@ -126,22 +139,27 @@ where
 }
 
 /// Does what is asked for.
-fn perform<S: Files + RandomSource, R: Read, W: Write, V, A>(
+fn perform<S: Files + RandomSource, R: Read, W: Write, V, D, A>(
     rt: &S,
     alloc: Global,
     job: &Job,
     reader: &mut R,
     writer: &mut W,
     serve: V,
+    add: D,
     ask: A,
 ) -> Result<(), Failure>
 where
     V: FnOnce(&Config, &str, Option<u32>, bool, &mut W) -> Result<(), ServeError>,
+    D: FnOnce(&Config, &str, &mut W) -> Result<(), ServeError>,
     A: FnOnce(&str, Request) -> io::Result<Vec<u8>>,
     requires called { V.IsAlwaysCallable serve }
+    requires added { D.IsAlwaysCallable add }
     requires asked { A.IsAlwaysCallable ask }
     requires rightly { AnswersRightly W.contents (V.post serve) }
-    ensures { Performs (Handed W.contents (V.post serve)) (Answered (A.post ask))
+    requires adds_rightly { AddsRightly W.contents (D.post add) }
+    ensures { Performs (Handed W.contents (V.post serve)) (HandedTo W.contents (D.post add))
+        (Answered (A.post ask))
         (asked job.now) result (R.remaining reader.old) (W.contents writer.old)
         (W.contents writer.new) }
 {
@@ -157,6 +175,7 @@ where
         } => serve_in(rt, alloc, folder, *sessions, *fresh, writer, serve),
         Job::Stop(folder) => ask_in(alloc, folder, Request::Stop, writer, ask),
         Job::Report(folder) => ask_in(alloc, folder, Request::Report, writer, ask),
+        Job::Add(folder) => add_in(rt, alloc, folder, writer, add),
     }
 }
 

@@ -53,6 +53,13 @@ const SERVED: Word = Word {
     kind: Kind::Needed,
 };
 
+/// The folder of a relay that was stopped.
+const STOPPED: Word = Word {
+    name: "DIR",
+    told: "The folder in which the relay was served",
+    kind: Kind::Needed,
+};
+
 /// The script of a drill.
 const SCRIPT: Word = Word {
     name: "SCRIPT",
@@ -97,6 +104,11 @@ const TEXT: Word = Word {
 
 /// The commands, in the order of the help.
 const COMMANDS: &[Words] = &[
+    Words {
+        name: "add-buffer",
+        does: "Makes the files of the buffers that were added behind the others",
+        words: &[STOPPED],
+    },
     Words {
         name: "check",
         does: "Reads a configuration and says what it has",

@@ -1,3 +1,4 @@
+mod AddFaults
 mod FileFaults
 mod Founds
 mod Kept

@@ -1,3 +1,4 @@
+pub mod Adding
 pub mod Figures
 pub mod Files
 pub mod Gates

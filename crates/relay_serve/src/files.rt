@@ -232,7 +232,7 @@ pub(crate) fn are_blank(stores: &[FileBlocks]) -> bool
 }
 
 /// The fault of the file of a buffer that can't be used so.
-fn unfit(alloc: Global, buffer: &BufferConf, refused: &Unusable) -> ServeError
+pub(crate) fn unfit(alloc: Global, buffer: &BufferConf, refused: &Unusable) -> ServeError
     ensures { IsFaultOf buffer.now result }
 {
     match reason_of(refused) {

@@ -39,7 +39,7 @@ pub(crate) fn begun_from<P: HistoryPlace>(
 }
 
 /// Why it isn't known what a relay begins from.
-fn unread(kind: ErrorKind) -> ServeError
+pub(crate) fn unread(kind: ErrorKind) -> ServeError
     ensures { IsOriginFault result }
 {
     match kind {

@@ -4,8 +4,11 @@
 //! by which it is asked, runs the relay over them until it is told to stop, from nothing or from
 //! what it was stopped with, keeps what the next start needs, and writes the report. `run_relay`
 //! runs a relay in threads over any stores, and says what was counted once all threads have ended.
+//!
+//! `add_on` adds buffers to a relay that was stopped (docs/PROTOCOL.md, `add-buffer`).
 #![tactic(auto)]
 
+mod adding;
 mod begun;
 mod clock;
 mod desk;
@@ -21,8 +24,10 @@ mod running;
 mod serving;
 mod side_thread;
 mod starting;
+mod stop_number;
 mod streams;
 mod synced;
 mod watched;
 
+pub use adding::add_on;
 pub use serving::serve_on;

@@ -1,5 +1,5 @@
 use Rattle.std.proofs.Common.{◌∙◌, ap, sym}
-use Rattle.relay_command.specs.CommandLine.{Checks, Stops, Reports}
+use Rattle.relay_command.specs.CommandLine.{Adds, Checks, Stops, Reports}
 use Rattle.relay_command.proofs.command_line.job_named.Goals as goal
 
 pub returns-then-is-2 : goal.returns-then-is-2
@@ -40,6 +40,17 @@ returns-then-is-6 c =
     let report = sym c.is-6.ensures ∙ c.if-is-6.true in
     rw (check, explain, token, serve, stop, report) (ap Reports c.in_ok-folder.ensures)
 
+pub returns-then-is-7 : goal.returns-then-is-7
+returns-then-is-7 c =
+    let token = sym c.is.ensures ∙ c.if-is.false in
+    let check = sym c.is-2.ensures ∙ c.if-is-2.false in
+    let explain = sym c.is-3.ensures ∙ c.if-is-3.false in
+    let serve = sym c.is-4.ensures ∙ c.if-is-4.false in
+    let stop = sym c.is-5.ensures ∙ c.if-is-5.false in
+    let report = sym c.is-6.ensures ∙ c.if-is-6.false in
+    let add = sym c.is-7.ensures ∙ c.if-is-7.true in
+    rw (check, explain, token, serve, stop, report, add) (ap Adds c.in_ok-folder.ensures)
+
 pub returns : goal.returns
 returns c =
     let token = sym c.is.ensures ∙ c.if-is.false in
@@ -48,4 +59,6 @@ returns c =
     let serve = sym c.is-4.ensures ∙ c.if-is-4.false in
     let stop = sym c.is-5.ensures ∙ c.if-is-5.false in
     let report = sym c.is-6.ensures ∙ c.if-is-6.false in
-    rw (check, explain, token, serve, stop, report, ← c.in_ok-folder.ensures) c.drilling.ensures
+    let add = sym c.is-7.ensures ∙ c.if-is-7.false in
+    rw (check, explain, token, serve, stop, report, add, ← c.in_ok-folder.ensures)
+    c.drilling.ensures

@@ -13,7 +13,7 @@ pub returns-in-Ok : goal.returns-in-Ok
 returns-in-Ok g c =
     let post = λ (folder : Bor (List ℕ)) (request : Request) (answer : Result (Vec ℕ) Error).
     g.A.FnOnce.post c.args.ask (folder, (request, tt)) answer in
-    ran g.W.Write.contents _ c.requires.rightly (Answered post)
+    ran g.W.Write.contents _ c.requires.rightly _ c.requires.adds_rightly (Answered post)
     (map string_bytes c.args.words.now) (asked c.in-Ok.job) c.perform-done.result
     (g.R.Read.remaining c.args.reader.now) (g.W.Write.contents c.args.writer.now)
     (g.W.Write.contents c.perform-done.new.writer) c.in-Ok.ensures c.perform-done.ensures
