@@ -106,6 +106,8 @@ impl<S: BlockStore + Drop, J: StorePremises, L: Ledger> Shared<S, J, L> {
     ghost use Rattle.relay_live.specs.Starting.{HasStopOf, IsNotStarted, StartsShared, WereStopped};
     ghost use Rattle.relay_live.specs.Stopping.{AreShutWith, IsUnshut, ShutsParts};
     ghost use Rattle.relay_core.specs.Stopping.{next_stop};
+    ghost use Rattle.relay_live.specs.Locked.{number_of};
+    ghost use Rattle.relay_model.specs.Run.{shard_of};
 
     /// What so many ends share over these stores, the i-th for buffer i, before anything has come.
     /// All memory that no message-id takes is taken here. Each buffer's head block says that it may
@@ -318,8 +320,15 @@ impl<S: BlockStore + Drop, J: StorePremises, L: Ledger> Shared<S, J, L> {
         self.last.lock(rt).next()
     }
 
-    /// The shard that has the message-id.
+    /// The shard that has the message-id, behind its lock.
+    fn shard(&self, id: &MsgId) -> &LockedShard
+        ensures { number_of result.now ≡ shard_of id.now }
+    {
+        &self.shards[id_history::shard_of(id)]
+    }
+
+    /// The shard that has the message-id, with those who wait for it.
     pub(crate) fn claims(&self, id: &MsgId) -> &Claims {
-        self.shards[id_history::shard_of(id)].lock()
+        self.shard(id).lock()
     }
 }
