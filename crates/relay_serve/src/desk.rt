@@ -104,6 +104,7 @@ impl<'a> Desk<'a> {
             }
             self.answer(rt, relay);
             let second = second_of(rt);
+            self.stop.pass(second);
             if second.saturating_sub(last_round) >= BETWEEN_ROUNDS {
                 relay.forget(rt);
                 last_round = second;
