@@ -8,12 +8,12 @@ use Rattle.std.proofs.lemmas.List.Sums.{fold_push}
 use Rattle.news_terms.specs.Places.{Buffer, Group, Place, Extent, next_place, with_extent}
 use Rattle.news_terms.specs.Places.{extents_after, extents, front_past, front_after, on_line}
 
--- what holds of no size, and of one size more, holds of every list of sizes
-pub by_push : (P : List ℕ → Type 0) → P [] → ((xs : List ℕ) (x : ℕ) → P xs → P (xs ++ x ∷ []))
-    → (xs : List ℕ) → P xs
-by_push P none more xs = from [] none xs
+-- what holds of an empty list, and of one element more behind, holds of every list
+pub by_push : {X : Type 0} (P : List X → Type 0) → P []
+    → ((xs : List X) (x : X) → P xs → P (xs ++ x ∷ [])) → (xs : List X) → P xs
+by_push {X} P none more xs = from [] none xs
   where
-    from : (front : List ℕ) → P front → (rest : List ℕ) → P (front ++ rest)
+    from : (front : List X) → P front → (rest : List X) → P (front ++ rest)
     from front holds [] = subst P (sym (append-nil front)) holds
     from front holds (x ∷ rest) =
         subst P (append_assoc front (x ∷ []) rest)

@@ -2,8 +2,12 @@ pub mod ArticleFaults
 pub mod ArticleReadings
 pub mod Bitmaps
 pub mod BlockLemmas
+pub mod BufferArticles
 pub mod Choices
 pub mod CivilTimes
+pub mod CourseLaws
+pub mod CoursePositions
+pub mod CoursesOfSizes
 pub mod EmptyLines
 pub mod ExpressionFaults
 pub mod ExpressionReadings

@@ -3,6 +3,8 @@ pub mod ArticleTexts
 pub mod BlockImage
 pub mod Blocks
 pub mod Command
+pub mod CourseExamples
+pub mod Courses
 pub mod Dates
 pub mod Fronts
 pub mod HeadBlocks

@@ -10,6 +10,7 @@
 pub mod articles;
 pub mod classes;
 pub mod commands;
+pub mod courses;
 pub mod cutting;
 pub mod dates;
 pub mod fronts;

@@ -3,7 +3,7 @@
 -- (docs/PROTOCOL.md, Store and Rings). All that is begun is in a cycle that a token has room for,
 -- so these numbers have a bound.
 use Rattle.std.specs.Prelude.{◌≡◌, ℕ, zero, suc, ◌+◌, ◌≤◌, length, All, slice_get, Some}
-use Rattle.news_terms.specs.Places.{Group, Extent, extents, last_cycle}
+use Rattle.news_terms.specs.Places.{Group, Extent, last_cycle}
 use Rattle.relay_model.specs.State.{State}
 use Rattle.relay_model.specs.Terms.{Terms}
 use Rattle.relay_model.specs.World.{World, Writer, Idle, Popped, Writing, Finished, Failed, Settled}
@@ -36,7 +36,7 @@ sum_below f (suc n) = sum_below f n + f n
 
 -- how many articles all groups began
 abbrev pub all_begun : Terms → State → ℕ
-all_begun w σ = sum_below (λ g. length (σ.begun g)) (length w.groups)
+all_begun w σ = sum_below (λ g. length (σ.begun g).articles) (length w.groups)
 
 -- how many articles the writers of all groups have that may be accepted yet
 abbrev pub all_to_settle : Terms → World → ℕ
@@ -55,7 +55,7 @@ IsInTime one = one.place.cycle ≤ last_cycle
 -- many as the texts that are whole; and each feed gained at most as many tokens as were accepted
 pub record IsCounted (w : Terms) (x : World) : Type 0 where
   pub in_time : (g : ℕ) (group : Group) → slice_get w.groups g ≡ Some group
-      → All IsInTime (extents group (x.state.begun g))
+      → All IsInTime (x.state.begun g).articles
   pub settled : length x.state.accepted + all_to_settle w x ≤ all_begun w x.state
   pub stored : length x.state.accepted + all_to_accept w x ≤ length x.state.kept
   pub gained : (f : ℕ) → length (x.state.feed f).gained ≤ length x.state.accepted

@@ -1,7 +1,9 @@
 -- Fetch: what an article's token gives (docs/PROTOCOL.md, Fronts and liveness, Reading).
-use Rattle.std.specs.Prelude.{ℕ, ◌+◌, ◌==◌, ◌||◌, nat_lt, nat_le, List, [], ◌∷◌, ◌++◌, find, Option}
+use Rattle.std.specs.Prelude.{ℕ, ◌+◌, ◌==◌, ◌&&◌, ◌||◌, nat_lt, nat_le, Bool, List, [], ◌∷◌, ◌++◌}
+use Rattle.std.specs.Prelude.{◌≡◌, find, Option}
 use Rattle.std.specs.Prelude.{None, Some, option_map, unwrap_or, if◌then◌else◌}
-use Rattle.news_terms.specs.Places.{Buffer, Group, Extent, extents, front_after, on_line, size_of}
+use Rattle.news_terms.specs.Courses.{Course}
+use Rattle.news_terms.specs.Places.{Buffer, Group, Extent, IsGone, front_after, on_line, size_of}
 use Rattle.news_terms.specs.Token.{Token, same_token}
 use Rattle.relay_model.specs.State.{State, Kept}
 use Rattle.relay_model.specs.Terms.{Terms}
@@ -18,9 +20,9 @@ pub data Fetched : Type 0 where
   NotRead : Fetched
 
 -- the articles that all groups began, group by group
-abbrev pub extents_from : ℕ → List Group → (ℕ → List ℕ) → List Extent
+abbrev pub extents_from : ℕ → List Group → (ℕ → Course) → List Extent
 extents_from g [] begun = []
-extents_from g (group ∷ groups) begun = extents group (begun g) ++ extents_from (g + 1) groups begun
+extents_from g (group ∷ groups) begun = (begun g).articles ++ extents_from (g + 1) groups begun
 
 -- the front of a buffer: where its next article can begin at the earliest
 abbrev pub front_of : Terms → State → Buffer → ℕ
@@ -29,6 +31,18 @@ front_of w σ buffer = front_after buffer (extents_from 0 w.groups σ.begun)
 -- the buffer that a token names
 abbrev pub buffer_of : Terms → Token → Option Buffer
 buffer_of w token = find (λ buffer. buffer.number == token.buffer) w.buffers
+
+-- the front of the buffer that the token names has passed its place
+pub record IsGoneToken (w : Terms) (σ : State) (token : Token) : Type 0 where
+  pub buffer : Buffer
+  pub named : buffer_of w token ≡ Some buffer
+  pub gone : IsGone buffer.blocks (front_of w σ buffer)
+      (on_line buffer.blocks token.cycle token.first)
+
+-- the text lies at this cycle and block of the buffer
+abbrev pub is_at : ℕ → ℕ → ℕ → Kept → Bool
+is_at buffer cycle first kept =
+    kept.token.buffer == buffer && kept.token.cycle == cycle && kept.token.first == first
 
 -- the text of the first article that is whole under this token, which agrees in all five parts
 abbrev pub text_under : List Kept → Token → Option (List ℕ)

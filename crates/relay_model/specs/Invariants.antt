@@ -3,8 +3,9 @@
 use Rattle.std.specs.Prelude.{true, false, ◌≡◌, ℕ, ◌+◌, ◌≤◌, ◌<◌, ◌^◌, Bool, List, length, All}
 use Rattle.std.specs.Prelude.{count_by, bytes_eq, slice_get, Option, None, Some, if◌then◌else◌}
 use Rattle.news_terms.specs.Article.{Article, IsArticleText}
+use Rattle.news_terms.specs.Courses.{IsLaid}
 use Rattle.news_terms.specs.Fronts.{FitsGroup}
-use Rattle.news_terms.specs.Places.{Group, size_of}
+use Rattle.news_terms.specs.Places.{Extent, Group, size_of}
 use Rattle.relay_model.specs.Awaited.{IsAwaited}
 use Rattle.relay_model.specs.Claims.{Accepted, Storing}
 use Rattle.relay_model.specs.Claims.{Stage, Waiting, Begun, Whole}
@@ -118,10 +119,12 @@ pub record IsKeptRight (one : Kept) : Type 0 where
   pub is_read : IsArticleText one.text read
   pub length_of : one.token.length ≡ length one.text
 
--- all sizes begun fit, and all articles that are stored, held or kept are sound
+-- all articles begun fit and lie where they may, and all that are stored, held or kept are sound
 pub record IsSized (w : Terms) (σ : State) : Type 0 where
   pub begun : (g : ℕ) (group : Group) → slice_get w.groups g ≡ Some group
-      → All (λ size. (1 ≤ size) × FitsGroup group size) (σ.begun g)
+      → All (λ (one : Extent). (1 ≤ one.size) × FitsGroup group one.size) (σ.begun g).articles
+  pub laid : (g : ℕ) (group : Group) → slice_get w.groups g ≡ Some group
+      → IsLaid group (σ.begun g)
   pub storing : (id : List ℕ) (s : ℕ) (article : Accepted) (stage : Stage)
       → σ.claim id ≡ Storing s article stage → IsSoundArticle w article
   pub held_one : (s : ℕ) (session : Session) (article : Accepted) → σ.session s ≡ Some session

@@ -2,6 +2,7 @@ pub mod Asks
 pub mod Awaited
 pub mod Claims
 pub mod Counted
+pub mod Crash
 pub mod Fetches
 pub mod Figures
 pub mod Hears

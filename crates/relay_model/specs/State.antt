@@ -1,7 +1,10 @@
 -- The state of the relay (docs/PROTOCOL.md, Claims, Sessions, Store): what it knows, keeps and has
 -- promised, with all that it ever began, stored and gained.
-use Rattle.std.specs.Prelude.{ℕ, ◌==◌, List, [], Option, None, bytes_eq, if◌then◌else◌}
+use Rattle.std.specs.Prelude.{ℕ, ◌==◌, nat_eq, List, [], map, filter, Option, None, bytes_eq}
+use Rattle.std.specs.Prelude.{if◌then◌else◌}
+use Rattle.std.specs.List.{list_any}
 use Rattle.news_terms.specs.Command.{Part}
+use Rattle.news_terms.specs.Courses.{Course, first_course}
 use Rattle.news_terms.specs.Token.{Token}
 use Rattle.relay_model.specs.Claims.{Accepted, Claim, Unknown}
 
@@ -65,8 +68,8 @@ pub record Session : Type 0 where
 pub record State : Type 0 where
   -- what is known of each message-id
   pub claim : List ℕ → Claim
-  -- of each group the sizes of the articles begun, in order
-  pub begun : ℕ → List ℕ
+  -- of each group the articles begun, in order, each with its place; and whose turn it is
+  pub begun : ℕ → Course
   -- the texts that are whole, in the order in which they became so
   pub kept : List Kept
   pub feed : ℕ → Feed
@@ -75,6 +78,12 @@ pub record State : Type 0 where
   pub session : ℕ → Option Session
   -- the number of the newest session
   pub newest : Option ℕ
+
+-- the tokens of the accepted articles that are permitted for this feed, in the order of acceptance
+abbrev pub tokens_for : ℕ → List (Token × List ℕ) → List Token
+tokens_for feed accepted =
+    map (λ (one : Token × List ℕ). one.0)
+    (filter (λ (one : Token × List ℕ). list_any (nat_eq feed) one.1) accepted)
 
 -- f, but v at the message-id k
 abbrev pub put_id : {A : Type 0} → (List ℕ → A) → List ℕ → A → List ℕ → A
@@ -89,7 +98,7 @@ abbrev pub empty_state : State
 empty_state =
     record {
       claim = λ id. Unknown;
-      begun = λ group. [];
+      begun = λ group. first_course;
       kept = [];
       feed = λ feed. record { gained = []; passed = 0; taken = 0 };
       accepted = [];

@@ -3,7 +3,8 @@
 use Rattle.std.specs.Prelude.{◌≡◌, ℕ, ◌≤◌, ◌<◌, ◌+◌, nat_eq, List, [], ◌∷◌, ◌++◌, length, slice_get}
 use Rattle.std.specs.Prelude.{option_and_then, Option, None, Some, if◌then◌else◌}
 use Rattle.std.specs.List.{list_any}
-use Rattle.news_terms.specs.Places.{Place, next_place, size_of, last_cycle}
+use Rattle.news_terms.specs.Courses.{Course, course_next, place_next}
+use Rattle.news_terms.specs.Places.{Group, Place, size_of, last_cycle}
 use Rattle.news_terms.specs.Token.{Token}
 use Rattle.relay_model.specs.Claims.{Claim, Unknown, Storing, Stored, Stage, Waiting, Begun, Failed}
 use Rattle.relay_model.specs.Claims.{Whole}
@@ -22,7 +23,7 @@ job_size job = size_of (length job.article.text)
 -- (docs/PROTOCOL.md, Groups and writers)
 abbrev pub place_for : Terms → State → Job → Option Place
 place_for w σ job =
-    option_and_then (λ group. next_place group (σ.begun job.article.group) (job_size job))
+    option_and_then (λ group. place_next group (σ.begun job.article.group) (job_size job))
     (slice_get w.groups job.article.group)
 
 -- the token of a job's article at a place
@@ -44,8 +45,13 @@ staged job stage = Storing job.session job.article stage
 abbrev pub with_stage : State → Job → Stage → State
 with_stage σ job stage = record σ { claim = put_id σ.claim job.id (staged job stage) }
 
--- Begin: a text that waits has its place, where a token has room for the cycle; its size joins
--- those that its group began. From here on all that the new front passes is gone.
+-- the course of a group with one article more, where there is such a group
+abbrev pub begun_in : Option Group → Course → ℕ → Course
+begun_in None course size = course
+begun_in (Some group) course size = course_next group course size
+
+-- Begin: a text that waits has its place, where a token has room for the cycle; it joins what its
+-- group began. From here on all that the new front passes is gone.
 pub record Begins (w : Terms) (σ : State) (job : Job) (token : Token) (σ' : State) : Type 0 where
   pub place : Place
   pub waiting : σ.claim job.id ≡ staged job Waiting
@@ -53,7 +59,9 @@ pub record Begins (w : Terms) (σ : State) (job : Job) (token : Token) (σ' : St
   pub in_time : place.cycle ≤ last_cycle
   pub named : token ≡ token_at job place
   pub after : σ' ≡ record (with_stage σ job (Begun token)) {
-    begun = put_at σ.begun job.article.group (σ.begun job.article.group ++ job_size job ∷ []);
+    begun = put_at σ.begun job.article.group
+        (begun_in (slice_get w.groups job.article.group) (σ.begun job.article.group)
+        (job_size job));
   }
 
 -- its place would be in a cycle that no token has room for
