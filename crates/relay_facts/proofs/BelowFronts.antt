@@ -4,7 +4,7 @@ use Rattle.std.proofs.Common.{sym, arith, le_of_eq, le_trans, lt_of_lt_of_le}
 use Rattle.news_terms.specs.Places.{Place, last_cycle, on_line, size_of}
 use Rattle.news_terms.specs.Settings.{IsSoundBuffer}
 use Rattle.news_terms.specs.Token.{Token, IsToken}
-use Rattle.news_terms.proofs.FrontLaws.{next_ends}
+use Rattle.news_terms.proofs.CourseLaws.{next_ends}
 use Rattle.relay_model.specs.Invariants.{IsSized}
 use Rattle.relay_model.specs.OnRecord.{IsBelow}
 use Rattle.relay_model.specs.State.{State, Job}
@@ -57,10 +57,10 @@ new_fits w sound σ job place facts in_time =
     short n few = omega (arith, few)
 
 -- the new token is below the front once its article is begun
-pub new_below : (w : Terms) → IsSound w → (σ : State) (job : Job) (place : Place)
+pub new_below : (w : Terms) → IsSound w → (σ : State) → IsSized w σ → (job : Job) (place : Place)
     → BeginFacts w σ job place → place.cycle ≤ last_cycle
-    → IsBelow w (WithSize σ job.article.group (job_size job)) (token_at job place)
-new_below w sound σ job place facts in_time = record {
+    → IsBelow w (WithSize w σ job.article.group (job_size job)) (token_at job place)
+new_below w sound σ sized job place facts in_time = record {
   buffer = place.buffer;
   named = place_named w sound σ job place facts;
   fits = new_fits w sound σ job place facts in_time;
@@ -69,7 +69,7 @@ new_below w sound σ job place facts in_time = record {
   below =
       le_trans (behind (on_line place.buffer.blocks place.cycle place.first) (job_size job)
       facts.sound.some)
-      (le_of_eq (sym (front_then w sound σ job place facts)));
+      (le_of_eq (sym (front_then w sound σ sized job place facts)));
 }
   where
     behind : (n size : ℕ) → 1 ≤ size → n < n + size

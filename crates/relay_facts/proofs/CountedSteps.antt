@@ -3,7 +3,8 @@ use Rattle.std.proofs.Common.{◌≡◌, ◌+◌, ◌-◌, ◌≤◌, ℕ, zero,
 use Rattle.std.proofs.Common.{length, All, Option, None, Some, slice_get, refl, sym, ap}
 use Rattle.std.proofs.Common.{subst, arith, le_of_eq, nat_lt, zero-le}
 use Rattle.std.proofs.lemmas.List.Elements.{All-nil}
-use Rattle.news_terms.specs.Places.{Buffer, Group, extents}
+use Rattle.news_terms.specs.Courses.{Course}
+use Rattle.news_terms.specs.Places.{Buffer, Group}
 use Rattle.news_terms.specs.Token.{Token}
 use Rattle.relay_model.specs.Asks.{Ask, Rests, GoesOn, Says, Leaves, Offers, Looks, Reads}
 use Rattle.relay_model.specs.Asks.{TakesQueue, Refuses, Takes, Pushes, LooksInSlot, Releases, Ends}
@@ -33,7 +34,7 @@ pub counted_as : (w : Terms) (x y : World) → ((g : ℕ) → y.state.begun g �
     → IsCounted w x → IsCounted w y
 counted_as w x y begun accepted kept gained fewer less counted = record {
   in_time = λ g group there.
-      subst (λ sizes. All IsInTime (extents group sizes))
+      subst (λ (course : Course). All IsInTime course.articles)
       (sym (begun g)) (counted.in_time g group there);
   settled = omega (
     arith,
@@ -41,8 +42,8 @@ counted_as w x y begun accepted kept gained fewer less counted = record {
     ap length accepted,
     sums_ordered (λ g. to_settle (y.work.writer g)) (λ g. to_settle (x.work.writer g))
         (length w.groups) (λ k below. fewer k),
-    sums_same (λ g. length (y.state.begun g)) (λ g. length (x.state.begun g)) (length w.groups)
-        (λ k below. ap length (begun k)),
+    sums_same (λ g. length (y.state.begun g).articles) (λ g. length (x.state.begun g).articles)
+        (length w.groups) (λ k below. ap (λ (course : Course). length course.articles) (begun k)),
   );
   stored = omega (
     arith,

@@ -5,11 +5,13 @@ use Rattle.std.proofs.Common.{ap, subst, arith, le_of_eq, le_refl, zero-le, nat_
 use Rattle.std.proofs.Common.{option_and_then}
 use Rattle.std.specs.List.{list_any}
 use Rattle.std.proofs.lemmas.Bool.{cond_both}
+use Rattle.std.proofs.lemmas.List.{length_push}
 use Rattle.std.proofs.lemmas.List.Elements.{All-push}
 use Rattle.std.proofs.lemmas.Option.{slice_get_within}
-use Rattle.news_terms.specs.Places.{Group, extents, next_place}
+use Rattle.news_terms.specs.Courses.{Course, place_next}
+use Rattle.news_terms.specs.Places.{Group}
 use Rattle.news_terms.specs.Token.{Token}
-use Rattle.news_terms.proofs.Extents.{extents_push}
+use Rattle.relay_model.specs.Claims.{Waiting}
 use Rattle.relay_model.specs.Counted.{IsCounted, IsInTime, to_settle, to_accept, sum_below}
 use Rattle.relay_model.specs.Invariants.{IsAt, IsSoundArticle, job_at}
 use Rattle.relay_model.specs.State.{State, Feed, Job, put_at}
@@ -19,8 +21,9 @@ use Rattle.relay_model.specs.World.{Forgotten, IsKept, HasFailed, with_failures}
 use Rattle.relay_model.specs.Writers.{Writes, NoJob, Pops, HasBegun, FindsWorn, WritesBlock}
 use Rattle.relay_model.specs.Writers.{FailsToWrite, HasStored, Settles, Closes, Forgets, TellsKept}
 use Rattle.relay_model.specs.Writers.{TellsFailed, Begins, Stores, Accepts}
-use Rattle.relay_model.specs.Writers.{writer_at, popped, answered, gaining, job_size}
+use Rattle.relay_model.specs.Writers.{writer_at, popped, answered, gaining, job_size, begun_in}
 use Rattle.relay_facts.proofs.CountedSteps.{counted_as}
+use Rattle.relay_facts.proofs.LaidCourses.{begun_in_articles}
 use Rattle.relay_facts.proofs.Orderly.{IsOrderly}
 use Rattle.relay_facts.proofs.Places.{at_stage, IsStoredFor}
 use Rattle.relay_facts.proofs.Puts.{put_at_both, put_at_here, put_at_there}
@@ -76,20 +79,22 @@ settling f w x g next within =
           (λ h other. ap f (put_at_there x.work.writer g next h other)),
     )
 
--- one more size begun: the sum is one more
-beginning : (w : Terms) (begun : ℕ → List ℕ) (g size : ℕ) → g < length w.groups
-    → sum_below (λ h. length (put_at begun g (begun g ++ size ∷ []) h)) (length w.groups)
-    ≡ sum_below (λ h. length (begun h)) (length w.groups) + 1
-beginning w begun g size within =
-    let here : length (put_at begun g (begun g ++ size ∷ []) g) ≡ length (begun g ++ size ∷ []) =
-    ap length (put_at_here begun g (begun g ++ size ∷ []) g refl) in
+-- one more article begun: the sum is one more
+beginning : (w : Terms) (begun : ℕ → Course) (g : ℕ) (course : Course) → g < length w.groups
+    → length course.articles ≡ length (begun g).articles + 1
+    → sum_below (λ h. length (put_at begun g course h).articles) (length w.groups)
+    ≡ sum_below (λ h. length (begun h).articles) (length w.groups) + 1
+beginning w begun g course within more =
+    let here : length (put_at begun g course g).articles ≡ length course.articles =
+    ap (λ (one : Course). length one.articles) (put_at_here begun g course g refl) in
     omega (
       arith,
       here,
-      length-append (begun g) (size ∷ []),
-      sums_but (λ h. length (put_at begun g (begun g ++ size ∷ []) h)) (λ h. length (begun h)) g
-          (length w.groups) within
-          (λ h other. ap length (put_at_there begun g (begun g ++ size ∷ []) h other)),
+      more,
+      sums_but (λ h. length (put_at begun g course h).articles)
+          (λ h. length (begun h).articles) g (length w.groups) within
+          (λ h other. ap (λ (one : Course). length one.articles)
+          (put_at_there begun g course h other)),
     )
 
 -- it begins the job
@@ -100,8 +105,8 @@ begun_counted w x g job token τ has begins orderly counted =
     subst (λ ρ. IsCounted w (writer_at x ρ g (Writing job token 0))) (sym begins.after)
     (record {
       in_time = λ h group there.
-          put_at_both (λ sizes. All IsInTime (extents group sizes)) x.state.begun group_of
-          (x.state.begun group_of ++ job_size job ∷ []) h
+          put_at_both (λ (course : Course). All IsInTime course.articles) x.state.begun group_of
+          after h
           (λ e. one_more group (ap (slice_get w.groups) (sym e) ∙ there))
           (λ other. counted.in_time h group there);
       settled = omega (
@@ -109,8 +114,8 @@ begun_counted w x g job token τ has begins orderly counted =
         counted.settled,
         settling to_settle w x g (Writing job token 0) within,
         ap to_settle has,
-        beginning w x.state.begun group_of (job_size job) (subst (λ n. n < length w.groups)
-            (sym at.0) within),
+        beginning w x.state.begun group_of after
+            (subst (λ n. n < length w.groups) (sym at.0) within) more,
       );
       stored = omega (
         arith,
@@ -130,15 +135,37 @@ begun_counted w x g job token τ has begins orderly counted =
     within : g < length w.groups
     within = writer_within w x orderly g job (ap job_at has)
 
+    after : Course
+    after = begun_in (slice_get w.groups group_of) (x.state.begun group_of) (job_size job)
+
+    -- its group is there, and the article's place is the next of its course
+    sound : IsSoundArticle w job.article
+    sound = orderly.sized.storing job.id job.session job.article Waiting begins.waiting
+
+    next_in : (group : Group) → slice_get w.groups group_of ≡ Some group
+        → place_next group (x.state.begun group_of) (job_size job) ≡ Some begins.place
+    next_in group there =
+        ap (option_and_then (λ one. place_next one (x.state.begun group_of) (job_size job)))
+        (sym there) ∙ begins.next
+
+    longer : (group : Group) → slice_get w.groups group_of ≡ Some group
+        → after.articles ≡ (x.state.begun group_of).articles
+        ++ record { place = begins.place; size = job_size job } ∷ []
+    longer group there =
+        begun_in_articles w.groups group_of group (x.state.begun group_of) (job_size job)
+        begins.place there (next_in group there)
+
+    more : length after.articles ≡ length (x.state.begun group_of).articles + 1
+    more =
+        ap length (longer sound.group sound.there)
+        ∙ length_push (x.state.begun group_of).articles
+        (record { place = begins.place; size = job_size job })
+
     one_more : (group : Group) → slice_get w.groups group_of ≡ Some group
-        → All IsInTime (extents group (x.state.begun group_of ++ job_size job ∷ []))
+        → All IsInTime after.articles
     one_more group there =
-        let next : next_place group (x.state.begun group_of) (job_size job) ≡ Some begins.place =
-        ap (option_and_then (λ one. next_place one (x.state.begun group_of) (job_size job)))
-        (sym there) ∙ begins.next in
-        subst (All IsInTime)
-        (sym (extents_push group (x.state.begun group_of) (job_size job) begins.place next))
-        (All-push IsInTime (extents group (x.state.begun group_of))
+        subst (All IsInTime) (sym (longer group there))
+        (All-push IsInTime (x.state.begun group_of).articles
         (record { place = begins.place; size = job_size job })
         (counted.in_time group_of group there) begins.in_time)
 

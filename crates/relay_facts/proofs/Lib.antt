@@ -12,6 +12,7 @@ pub mod Errands
 pub mod Found
 pub mod GroupFronts
 pub mod Judged
+pub mod LaidCourses
 pub mod Moves
 pub mod NamedBuffers
 pub mod OnRecord

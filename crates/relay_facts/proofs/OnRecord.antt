@@ -130,7 +130,7 @@ claim_put w σ τ rises is k new claims fits id =
 begun_below : (w : Terms) → IsSound w → (σ τ : State) (job : Job) (token : Token)
     → Begins w σ job token τ → IsSized w σ → IsBelow w τ token
 begun_below w sound σ τ job token begins sized =
-    let new = new_below w sound σ job begins.place (begin_facts w σ τ job token begins sized)
+    let new = new_below w sound σ sized job begins.place (begin_facts w σ τ job token begins sized)
     begins.in_time in
     subst (IsBelow w τ) (sym begins.named)
     (subst (λ ρ. IsBelow w ρ (token_at job begins.place)) (sym begins.after)

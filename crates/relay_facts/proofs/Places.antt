@@ -5,7 +5,7 @@ use Rattle.std.proofs.Common.{option_and_then, slice_get}
 use Rattle.std.proofs.lemmas.List.Elements.{All-head, All-tail, All-nil, All-cons}
 use Rattle.std.proofs.lemmas.List.Sums.{sum_by-cons}
 use Rattle.std.proofs.lemmas.Option.{none-some, same_Some}
-use Rattle.news_terms.specs.Places.{next_place}
+use Rattle.news_terms.specs.Courses.{place_next}
 use Rattle.relay_model.specs.Claims.{Stage, Waiting, Begun, Whole}
 use Rattle.relay_model.specs.Claims as claims
 use Rattle.relay_model.specs.Invariants.{IsPlaced, IsAt, WaitsAs, is_of, in_hand, in_hand_of}
@@ -61,7 +61,7 @@ pub worn_on : (w : Terms) (σ τ : State) (job : Job) → τ.claim job.id ≡ σ
 worn_on w σ τ job e b worn = record {
   place = worn.place;
   waiting = e ∙ worn.waiting;
-  next = ap (λ begun. option_and_then (λ group. next_place group begun (job_size job))
+  next = ap (λ begun. option_and_then (λ group. place_next group begun (job_size job))
       (slice_get w.groups job.article.group)) b
       ∙ worn.next;
   past = worn.past;

@@ -96,6 +96,8 @@ stopped_orderly w v same x failures newest free idle orderly = record {
   sized = record {
     begun = λ g group there. orderly.sized.begun g group
         (ap (λ groups. slice_get groups g) (sym same.groups) ∙ there);
+    laid = λ g group there. orderly.sized.laid g group
+        (ap (λ groups. slice_get groups g) (sym same.groups) ∙ there);
     storing = λ id s article stage e. absurd (none_stored x idle id s article stage e);
     held_one = λ s session article. holds session article (x.state.session s);
     kept = orderly.sized.kept;

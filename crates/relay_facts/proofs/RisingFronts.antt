@@ -1,26 +1,26 @@
 -- No step lowers the front of a buffer.
-use Rattle.std.proofs.Common.{◌≡◌, ◌∙◌, ℕ, ◌+◌, ◌≤◌, ◌==◌, [], ◌∷◌, ◌++◌, find}
+use Rattle.std.proofs.Common.{◌≡◌, ◌∙◌, ℕ, ◌+◌, ◌≤◌, ◌==◌, find}
 use Rattle.std.proofs.Common.{slice_get, option_and_then, Some, ◌⊎◌, inl, inr, refl, sym, ap, subst}
 use Rattle.std.proofs.Common.{le_of_eq, le_trans, le-add_right}
 use Rattle.std.proofs.lemmas.Bool.{cases_eq}
-use Rattle.std.proofs.lemmas.List.Elements.{All-weaker}
 use Rattle.std.proofs.lemmas.Option.{same_Some}
-use Rattle.news_terms.specs.Fronts.{FitsGroup, IsAmongBuffers}
-use Rattle.news_terms.specs.Places.{Buffer, Place, next_place, extents, front_after, on_line}
+use Rattle.news_terms.specs.Fronts.{IsAmongBuffers}
+use Rattle.news_terms.specs.Courses.{Course, place_next}
+use Rattle.news_terms.specs.Places.{Buffer, Place, front_after, on_line}
 use Rattle.news_terms.specs.Token.{Token}
-use Rattle.news_terms.proofs.Extents.{front_here}
-use Rattle.news_terms.proofs.FrontLaws.{next_among, next_at_or_past}
+use Rattle.news_terms.proofs.CourseLaws.{front_moves, next_among, next_past}
 use Rattle.relay_model.specs.Claims.{Waiting}
 use Rattle.relay_model.specs.Fetches.{front_of}
 use Rattle.relay_model.specs.Invariants.{IsSized, IsSoundArticle}
 use Rattle.relay_model.specs.State.{State, Job, put_at}
 use Rattle.relay_model.specs.Terms.{Terms}
-use Rattle.relay_model.specs.Writers.{Begins, job_size}
+use Rattle.relay_model.specs.Writers.{Begins, begun_in, job_size}
 use Rattle.news_terms.specs.Settings.{IsBufferAt}
 use Rattle.relay_facts.specs.Sound.{IsSound}
 use Rattle.relay_facts.proofs.BufferCount.{own_numbers}
 use Rattle.relay_facts.proofs.Puts.{put_at_here}
 use Rattle.relay_facts.proofs.GroupFronts.{front_in_group, front_elsewhere}
+use Rattle.relay_facts.proofs.LaidCourses.{begun_in_articles, laid_begun}
 use Rattle.relay_facts.proofs.Moves.{Moves}
 use Rattle.relay_facts.proofs.Moves as moves
 use Rattle.relay_facts.proofs.NamedBuffers.{Named, named_number, named_in_group}
@@ -29,7 +29,7 @@ use Rattle.relay_facts.proofs.NamedBuffers.{Named, named_number, named_in_group}
 -- one of the group's buffers
 pub record BeginFacts (w : Terms) (σ : State) (job : Job) (place : Place) : Type 0 where
   pub sound : IsSoundArticle w job.article
-  pub next : next_place sound.group (σ.begun job.article.group) (job_size job) ≡ Some place
+  pub next : place_next sound.group (σ.begun job.article.group) (job_size job) ≡ Some place
   pub index : ℕ
   pub among : slice_get sound.group.buffers index ≡ Some place.buffer
 
@@ -39,9 +39,9 @@ pub begin_facts : (w : Terms) (σ τ : State) (job : Job) (token : Token)
 begin_facts w σ τ job token begins sized =
     let sound : IsSoundArticle w job.article =
     sized.storing job.id job.session job.article Waiting begins.waiting in
-    let next : next_place sound.group (σ.begun job.article.group) (job_size job)
+    let next : place_next sound.group (σ.begun job.article.group) (job_size job)
     ≡ Some begins.place =
-    sym (ap (option_and_then (λ group. next_place group (σ.begun job.article.group)
+    sym (ap (option_and_then (λ group. place_next group (σ.begun job.article.group)
     (job_size job))) sound.there)
     ∙ begins.next in
     let among : IsAmongBuffers sound.group begins.place =
@@ -69,42 +69,46 @@ pub begins_past : (w : Terms) → IsSound w → (σ : State) → IsSized w σ �
 begins_past w sound σ sized job place facts =
     let group = facts.sound.group in
     le_trans
-    (le_of_eq (front_in_group w sound σ job.article.group facts.index place.buffer
+    (le_of_eq (front_in_group w sound σ sized.laid job.article.group facts.index place.buffer
     (place_at w σ job place facts)))
-    (next_at_or_past group (own_numbers w sound job.article.group group facts.sound.there)
-    (σ.begun job.article.group)
-    (All-weaker (λ size. (1 ≤ size) × FitsGroup group size) (FitsGroup group) (λ size is. is.1)
-    (σ.begun job.article.group) (sized.begun job.article.group group facts.sound.there))
-    (job_size job) place facts.next).past
+    (next_past group (σ.begun job.article.group)
+    (own_numbers w sound job.article.group group facts.sound.there)
+    (sized.laid job.article.group group facts.sound.there) (job_size job) place facts.next)
 
--- the state in which one more size was begun
-abbrev pub WithSize : State → ℕ → ℕ → State
-WithSize σ g size = record σ { begun = put_at σ.begun g (σ.begun g ++ size ∷ []) }
+-- the state in which one more article was begun
+abbrev pub WithSize : Terms → State → ℕ → ℕ → State
+WithSize w σ g size =
+    record σ { begun = put_at σ.begun g (begun_in (slice_get w.groups g) (σ.begun g) size) }
 
 -- the front of its buffer is past its last block then
-pub front_then : (w : Terms) → IsSound w → (σ : State) (job : Job) (place : Place)
+pub front_then : (w : Terms) → IsSound w → (σ : State) → IsSized w σ → (job : Job) (place : Place)
     → BeginFacts w σ job place
-    → front_of w (WithSize σ job.article.group (job_size job)) place.buffer
+    → front_of w (WithSize w σ job.article.group (job_size job)) place.buffer
     ≡ on_line place.buffer.blocks place.cycle place.first + job_size job
-front_then w sound σ job place facts =
-    front_in_group w sound (WithSize σ job.article.group (job_size job)) job.article.group
-    facts.index place.buffer (place_at w σ job place facts)
-    ∙ ap (λ sizes. front_after place.buffer (extents facts.sound.group sizes))
-    (put_at_here σ.begun job.article.group (σ.begun job.article.group ++ job_size job ∷ [])
-    job.article.group refl)
-    ∙ front_here facts.sound.group (σ.begun job.article.group) (job_size job) place place.buffer
-    facts.next refl
+front_then w sound σ sized job place facts =
+    let g = job.article.group in
+    let after = begun_in (slice_get w.groups g) (σ.begun g) (job_size job) in
+    front_in_group w sound (WithSize w σ g (job_size job))
+    (laid_begun w sound σ.begun sized.laid g (job_size job) facts.sound.group facts.sound.there
+    facts.sound.fits)
+    g facts.index place.buffer (place_at w σ job place facts)
+    ∙ ap (λ (course : Course). front_after place.buffer course.articles)
+    (put_at_here σ.begun g after g refl)
+    ∙ ap (front_after place.buffer)
+    (begun_in_articles w.groups g facts.sound.group (σ.begun g) (job_size job) place
+    facts.sound.there facts.next)
+    ∙ front_moves place.buffer (σ.begun g).articles place (job_size job) refl
 
 -- no front is lowered by a begin
 begin_rises : (w : Terms) → IsSound w → (σ : State) → IsSized w σ → (job : Job) (place : Place)
     → BeginFacts w σ job place → (number : ℕ) (buffer : Buffer) → Named w number buffer
     → front_of w σ buffer
-    ≤ front_of w (WithSize σ job.article.group (job_size job)) buffer
+    ≤ front_of w (WithSize w σ job.article.group (job_size job)) buffer
 begin_rises w sound σ sized job place facts number buffer named =
     by_number (cases_eq place.buffer.number buffer.number)
   where
     by_number : (place.buffer.number ≡ buffer.number) ⊎ (place.buffer.number ≡ buffer.number → ⊥)
-        → front_of w σ buffer ≤ front_of w (WithSize σ job.article.group (job_size job)) buffer
+        → front_of w σ buffer ≤ front_of w (WithSize w σ job.article.group (job_size job)) buffer
     by_number (inl same) =
         let one : place.buffer ≡ buffer =
         same_Some place.buffer buffer
@@ -113,21 +117,21 @@ begin_rises w sound σ sized job place facts number buffer named =
         (same ∙ named_number w number buffer named)
         ∙ named) in
         subst
-        (λ b. front_of w σ b ≤ front_of w (WithSize σ job.article.group (job_size job)) b) one
+        (λ b. front_of w σ b ≤ front_of w (WithSize w σ job.article.group (job_size job)) b) one
         (le_trans (begins_past w sound σ sized job place facts)
         (le_trans (le-add_right _ (job_size job))
-        (le_of_eq (sym (front_then w sound σ job place facts)))))
+        (le_of_eq (sym (front_then w sound σ sized job place facts)))))
     by_number (inr other) =
         le_of_eq (sym
         (front_elsewhere w σ job.article.group (job_size job) facts.sound.group place buffer
         facts.sound.there facts.next other))
 
--- where the same sizes are begun, the front of a buffer is the same
+-- where the same articles are begun, the front of a buffer is the same
 pub same_front : (w : Terms) (σ τ : State) (buffer : Buffer)
     → ((g : ℕ) → τ.begun g ≡ σ.begun g) → front_of w τ buffer ≡ front_of w σ buffer
 same_front w σ τ buffer same =
     let begun : τ.begun ≡ σ.begun = λ i g. same g i in
-    ap (λ sizes. front_of w (record σ { begun = sizes }) buffer) begun
+    ap (λ courses. front_of w (record σ { begun = courses }) buffer) begun
 
 -- no front is lowered
 pub front_rises : (w : Terms) → IsSound w → (σ τ : State) → Moves w σ τ → IsSized w σ

@@ -1,6 +1,9 @@
 -- Each step and each run from a well world leads to one.
 use Rattle.std.proofs.Common.{ℕ, List, [], ◌∷◌, sym, subst, rules}
-use Rattle.relay_model.specs.Invariants.{IsWell}
+use Rattle.std.proofs.lemmas.List.Elements.{All-nil}
+use Rattle.std.proofs.lemmas.Option.{none-some}
+use Rattle.news_terms.proofs.CourseLaws.{first_laid}
+use Rattle.relay_model.specs.Invariants.{IsKeptRight, IsWell}
 use Rattle.relay_model.specs.Run.{Event, Run, Step}
 use Rattle.relay_model.specs.Terms.{Terms}
 use Rattle.relay_model.specs.World.{World, Output, empty_world}
@@ -9,12 +12,23 @@ use Rattle.relay_facts.proofs.CountedSteps.{empty_counted}
 use Rattle.relay_facts.proofs.CountedRuns.{step_counted}
 use Rattle.relay_facts.proofs.OnRecord.{empty_on_record, step_on_record}
 use Rattle.relay_facts.proofs.Orderly.{IsOrderly, orderly_of, well_of}
+use Rattle.relay_facts.proofs.SessionOrderly.{FitsOne}
 use Rattle.relay_facts.proofs.StepErrands.{empty_awaited, step_awaited}
 use Rattle.relay_facts.proofs.Steps.{step_orderly}
 
 -- the empty world is in order
 empty_orderly : (w : Terms) (failures : ℕ → ℕ) → IsOrderly w (empty_world failures)
-empty_orderly w failures = search rules
+empty_orderly w failures = record {
+  numbered = search rules;
+  placed = search rules;
+  sized = record {
+    begun = λ g group there. All-nil (FitsOne group);
+    laid = λ g group there. first_laid group;
+    storing = λ id s article stage is. absurd (cc);
+    held_one = λ s session article none holds. absurd (none-some session none);
+    kept = All-nil IsKeptRight;
+  };
+}
 
 -- and well
 pub empty_well : (w : Terms) (failures : ℕ → ℕ) → IsWell w (empty_world failures)

@@ -2,8 +2,9 @@
 use Rattle.std.proofs.Common.{◌≡◌, ◌∙◌, ◌≤◌, ◌<◌, ℕ, true, false, List, length, None, Some, All}
 use Rattle.std.proofs.Common.{refl, sym, ap, subst}
 use Rattle.std.proofs.lemmas.Option.{none-some, same_Some}
+use Rattle.news_terms.specs.Courses.{Course, IsLaid}
 use Rattle.news_terms.specs.Fronts.{FitsGroup}
-use Rattle.news_terms.specs.Places.{Group}
+use Rattle.news_terms.specs.Places.{Extent, Group}
 use Rattle.relay_model.specs.Claims.{Accepted, Storing, Stage, Waiting}
 use Rattle.relay_model.specs.Invariants.{IsNumbered, IsSized, IsSoundArticle, IsKeptRight, held}
 use Rattle.relay_model.specs.Invariants.{may_carry}
@@ -18,9 +19,9 @@ use Rattle.relay_facts.proofs.Puts.{put_at_both, put_id_both}
 use Rattle.relay_facts.proofs.Taken.{IsFree, taken, taken_placed, job_of}
 use Rattle.relay_facts.proofs.Unmoved.{StoresAlike, session_placed}
 
--- a size that was begun
-abbrev pub FitsOne : Group → ℕ → Type 0
-FitsOne group size = (1 ≤ size) × FitsGroup group size
+-- an article that was begun
+abbrev pub FitsOne : Group → Extent → Type 0
+FitsOne group one = (1 ≤ one.size) × FitsGroup group one.size
 
 -- the sessions after one was put
 abbrev pub Puts : State → ℕ → Session → State → Type 0
@@ -85,8 +86,10 @@ follows_orderly w x y s old next there follows leaves orderly = record {
       leaves.writer
       (follows.hand ∙ sym (ap hand_of there)) follows.carries orderly.placed;
   sized = record {
-    begun = λ g group is. subst (All (FitsOne group)) (sym (leaves.begun g))
-        (orderly.sized.begun g group is);
+    begun = λ g group is. subst (λ (course : Course). All (FitsOne group) course.articles)
+        (sym (leaves.begun g)) (orderly.sized.begun g group is);
+    laid = λ g group is. subst (IsLaid group) (sym (leaves.begun g))
+        (orderly.sized.laid g group is);
     storing = λ id n article stage e. orderly.sized.storing id n article stage
         (leaves.claims.earlier id n article stage e);
     held_one = held_put w x.state y.state s next leaves.puts orderly.sized follows.holds;
@@ -111,6 +114,7 @@ taken_orderly w x s old next id article there runs free empty peer hand carries 
           (λ not. absurd (cc (not, carries))) orderly.placed;
       sized = record {
         begun = orderly.sized.begun;
+        laid = orderly.sized.laid;
         storing = λ k n other stage.
             put_id_both (λ c. c ≡ Storing n other stage → IsSoundArticle w other) x.state.claim id
             (Storing s article Waiting) k
@@ -139,6 +143,7 @@ handed_orderly w x s old next job there runs full peer empty holds orderly =
       placed = pushed_placed w x s job next (ap hand_of there ∙ full) empty orderly.placed;
       sized = record {
         begun = orderly.sized.begun;
+        laid = orderly.sized.laid;
         storing = orderly.sized.storing;
         held_one = held_put w x.state after.state s next (λ n. refl) orderly.sized holds;
         kept = orderly.sized.kept;

@@ -47,6 +47,7 @@ opened_orderly w x s peer free inside orderly =
           orderly.placed;
       sized = record {
         begun = orderly.sized.begun;
+        laid = orderly.sized.laid;
         storing = orderly.sized.storing;
         held_one = held_put w x.state after.state s (new_session peer) (λ n. refl) orderly.sized
             (λ article has. absurd (none-some article has));

@@ -2,24 +2,26 @@
 -- 2^54 in each of 256 buffers.
 use Rattle.std.proofs.Common.{◌≡◌, ℕ, zero, suc, ◌*◌, ◌^◌, ◌≤◌, ◌<◌, length}
 use Rattle.std.proofs.Common.{ap, arith}
+use Rattle.std.proofs.lemmas.List.Elements.{All-weaker}
 use Rattle.news_terms.specs.Token.{Token}
-use Rattle.news_terms.proofs.ListPlaces.{there_within, holds_at}
+use Rattle.news_terms.proofs.ListPlaces.{there_within}
 use Rattle.relay_model.specs.Counted.{sum_below, to_settle, all_begun}
 use Rattle.relay_model.specs.Invariants.{IsWell, job_at}
 use Rattle.relay_model.specs.State.{Job}
 use Rattle.relay_model.specs.Terms.{Terms}
 use Rattle.relay_model.specs.World.{World, Finished}
 use Rattle.relay_facts.specs.Sound.{IsSound}
-use Rattle.relay_facts.proofs.BegunFronts.{begun_bounded}
+use Rattle.relay_facts.proofs.BegunFronts.{Is_some, begun_bounded}
 use Rattle.relay_facts.proofs.BufferCount.{buffer_sound, buffers_in}
 use Rattle.relay_facts.proofs.BufferCount.{buffers_below, few_buffers, own_numbers}
 use Rattle.relay_facts.proofs.CountedWrites.{writer_within}
 use Rattle.relay_facts.proofs.Orderly.{orderly_of}
+use Rattle.relay_facts.proofs.SessionOrderly.{FitsOne}
 use Rattle.relay_facts.proofs.Sums.{term_within}
 
 -- the first groups began at most 2^54 articles for each of their buffers
 begun_below : (w : Terms) → IsSound w → (x : World) → IsWell w x → (n : ℕ) → n ≤ length w.groups
-    → sum_below (λ g. length (x.state.begun g)) n ≤ buffers_below w n * 2 ^ 54
+    → sum_below (λ g. length (x.state.begun g).articles) n ≤ buffers_below w n * 2 ^ 54
 begun_below w sound x well zero within = omega arith
 begun_below w sound x well (suc n) within =
     let one = there_within w.groups n (omega (arith, within)) in
@@ -27,11 +29,12 @@ begun_below w sound x well (suc n) within =
       arith,
       begun_below w sound x well n (omega (arith, within)),
       begun_bounded one.0 (own_numbers w sound n one.0 one.1)
-          (holds_at (λ group. 1 ≤ length group.buffers) w.groups sound.places.filled n one.0
-          one.1)
           (λ i buffer there. (buffer_sound w sound n i buffer
           (record { group = one.0; is_group = one.1; is_buffer = there })).most)
-          (x.state.begun n) (well.sized.begun n one.0 one.1) (well.counted.in_time n one.0 one.1),
+          (x.state.begun n) (well.sized.laid n one.0 one.1)
+          (All-weaker (FitsOne one.0) Is_some (λ extent fits. fits.0) (x.state.begun n).articles
+          (well.sized.begun n one.0 one.1))
+          (well.counted.in_time n one.0 one.1),
       ap buffers_in one.1,
     )
 

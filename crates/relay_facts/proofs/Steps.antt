@@ -84,6 +84,7 @@ forgotten_orderly w x shard now fronts left orderly =
       }) orderly.placed;
       sized = record {
         begun = orderly.sized.begun;
+        laid = orderly.sized.laid;
         storing = λ id s article stage e. orderly.sized.storing id s article stage
             (same.earlier id s article stage e);
         held_one = orderly.sized.held_one;
@@ -176,7 +177,7 @@ done_orderly w sound x (Turn s now) output x' free does orderly =
     turn_orderly w sound x s now output x' does
     (turns_runs (x.state.session s) does.session now does.there free) orderly
 done_orderly w sound x (Write g now) output x' free does orderly =
-    write_orderly w x g now x' does.1 orderly
+    write_orderly w sound x g now x' does.1 orderly
 done_orderly w sound x (Break s) output x' free does orderly =
     subst (IsOrderly w) (sym does.3)
     (broken_orderly w x s does.0 does.1 (reads_runs (x.state.session s) does.0 does.1 free)

@@ -20,6 +20,7 @@ use Rattle.relay_model.specs.Writers.{writer_at, answered, gaining}
 use Rattle.relay_facts.proofs.Puts.{put_id_both}
 use Rattle.relay_facts.proofs.WriterMoves.{HasJob, steps_on_placed}
 use Rattle.relay_facts.proofs.WriterStages.{at_phase, put_claim, popped_orderly, writer_goes_on}
+use Rattle.relay_facts.specs.Sound.{IsSound}
 use Rattle.relay_facts.proofs.WriterStages.{begun_orderly, failed_orderly, stored_orderly}
 
 -- the id of the job is stored no more, and its writer has no job: all else stays in its place
@@ -77,6 +78,7 @@ settled_orderly w x g job token now τ finished accepts orderly =
           orderly.placed;
       sized = record {
         begun = orderly.sized.begun;
+        laid = orderly.sized.laid;
         storing = λ id s article stage e.
             orderly.sized.storing id s article stage
             (gone_storing x.state job (Stored token now) no_storing id s article stage e);
@@ -127,6 +129,7 @@ forgotten_orderly w x g job τ failed abandons orderly =
           orderly.placed;
       sized = record {
         begun = orderly.sized.begun;
+        laid = orderly.sized.laid;
         storing = λ id s article stage e.
             orderly.sized.storing id s article stage
             (gone_storing x.state job Unknown no_storing id s article stage e);
@@ -147,47 +150,47 @@ forgotten_orderly w x g job τ failed abandons orderly =
     has = hopeless w x g job failed orderly
 
 -- what a Write does from a world in order leads to one
-pub write_orderly : (w : Terms) (x : World) (g now : ℕ) (x' : World) → Writes w x g now x'
-    → IsOrderly w x → IsOrderly w x'
-write_orderly w x g now x' (NoJob idle empty e) orderly = subst (IsOrderly w) (sym e) orderly
-write_orderly w x g now x' (Pops job rest idle queue e) orderly =
+pub write_orderly : (w : Terms) → IsSound w → (x : World) (g now : ℕ) (x' : World)
+    → Writes w x g now x' → IsOrderly w x → IsOrderly w x'
+write_orderly w sound x g now x' (NoJob idle empty e) orderly = subst (IsOrderly w) (sym e) orderly
+write_orderly w sound x g now x' (Pops job rest idle queue e) orderly =
     subst (IsOrderly w) (sym e) (popped_orderly w x g job rest idle queue orderly)
-write_orderly w x g now x' (HasBegun job token τ has begins e) orderly =
-    subst (IsOrderly w) (sym e) (begun_orderly w x g job token τ has begins orderly)
-write_orderly w x g now x' (FindsWorn job has worn e) orderly =
+write_orderly w sound x g now x' (HasBegun job token τ has begins e) orderly =
+    subst (IsOrderly w) (sym e) (begun_orderly w x g job token τ has begins sound orderly)
+write_orderly w sound x g now x' (FindsWorn job has worn e) orderly =
     subst (IsOrderly w) (sym e)
     (writer_goes_on w x (writer_at x x.state g (Failed job None)) g (Failed job None) refl
     (λ h. refl) (λ h. refl)
     (sym (ap job_at has)) (λ at. ((at_phase w x orderly g (Popped job) has).0, CannotBegin worn))
     orderly)
-write_orderly w x g now x' (WritesBlock job token written failures has left rises e) orderly =
+write_orderly w sound x g now x' (WritesBlock job token written failures has left rises e) orderly =
     let next = Writing job token (written + 1) in
     let at = at_phase w x orderly g (Writing job token written) has in
     subst (IsOrderly w) (sym e)
     (writer_goes_on w x (with_failures (writer_at x x.state g next) failures) g next refl
     (λ h. refl) (λ h. refl)
     (sym (ap job_at has)) (λ was. (at.0, at.1, omega (arith, left), at.3)) orderly)
-write_orderly w x g now x' (FailsToWrite job token written failures τ has left failed fails e)
+write_orderly w sound x g now x' (FailsToWrite job token written failures τ has left failed fails e)
     orderly =
     subst (IsOrderly w) (sym e)
     (failed_orderly w x g job token written failures τ has fails orderly)
-write_orderly w x g now x' (HasStored job token written τ has all stores e) orderly =
+write_orderly w sound x g now x' (HasStored job token written τ has all stores e) orderly =
     subst (IsOrderly w) (sym e) (stored_orderly w x g job token written τ has stores orderly)
-write_orderly w x g now x' (Settles job token τ has accepts e) orderly =
+write_orderly w sound x g now x' (Settles job token τ has accepts e) orderly =
     subst (IsOrderly w) (sym e) (settled_orderly w x g job token now τ has accepts orderly)
-write_orderly w x g now x' (Closes job token has e) orderly =
+write_orderly w sound x g now x' (Closes job token has e) orderly =
     let at = at_phase w x orderly g (Failed job (Some token)) has in
     subst (IsOrderly w) (sym e)
     (writer_goes_on w x (writer_at x x.state g (Failed job None)) g (Failed job None) refl
     (λ h. refl) (λ h. refl)
     (sym (ap job_at has)) (λ was. (at.0, HasFailedToStore at.1)) orderly)
-write_orderly w x g now x' (Forgets job τ has abandons e) orderly =
+write_orderly w sound x g now x' (Forgets job τ has abandons e) orderly =
     subst (IsOrderly w) (sym e) (forgotten_orderly w x g job τ has abandons orderly)
-write_orderly w x g now x' (TellsKept s has e) orderly =
+write_orderly w sound x g now x' (TellsKept s has e) orderly =
     subst (IsOrderly w) (sym e)
     (writer_goes_on w x (answered x g s IsKept) g Idle refl (λ h. refl) (λ h. refl)
     (sym (ap job_at has)) (λ was. tt) orderly)
-write_orderly w x g now x' (TellsFailed s has e) orderly =
+write_orderly w sound x g now x' (TellsFailed s has e) orderly =
     subst (IsOrderly w) (sym e)
     (writer_goes_on w x (answered x g s HasFailed) g Idle refl (λ h. refl) (λ h. refl)
     (sym (ap job_at has)) (λ was. tt) orderly)

@@ -3,9 +3,11 @@ use Rattle.std.proofs.Common.{◌≡◌, ◌∙◌, ◌++◌, ℕ, List, [], ◌
 use Rattle.std.proofs.Common.{subst, arith}
 use Rattle.std.proofs.lemmas.List.Elements.{All-append, All-cons, All-nil}
 use Rattle.std.proofs.lemmas.Option.{same_Some}
+use Rattle.news_terms.specs.Courses.{Course, place_next}
 use Rattle.news_terms.specs.Fronts.{FitsGroup}
+use Rattle.news_terms.specs.Places.{Extent, Group}
 use Rattle.news_terms.specs.Token.{Token}
-use Rattle.std.specs.Prelude.{slice_get}
+use Rattle.std.specs.Prelude.{option_and_then, slice_get}
 use Rattle.relay_model.specs.Claims.{Accepted, Claim, Storing, Stage, Waiting}
 use Rattle.relay_model.specs.Claims.{Begun, Whole}
 use Rattle.relay_model.specs.Claims as claims
@@ -18,8 +20,10 @@ use Rattle.relay_model.specs.World.{World, Writer, Idle, Popped, Writing, Finish
 use Rattle.relay_model.specs.World.{with_failures}
 use Rattle.relay_model.specs.Writers.{Begins, Stores, Fails}
 use Rattle.relay_model.specs.Writers.{staged, with_stage}
-use Rattle.relay_model.specs.Writers.{job_size, popped, writer_at}
+use Rattle.relay_model.specs.Writers.{begun_in, job_size, popped, writer_at}
 use Rattle.relay_facts.proofs.Places.{hand_of, CarriesAsMay, carries, other_hand}
+use Rattle.relay_facts.specs.Sound.{IsSound}
+use Rattle.relay_facts.proofs.LaidCourses.{begun_in_articles, laid_begun}
 use Rattle.relay_facts.proofs.Pops.{popped_placed}
 use Rattle.relay_facts.proofs.Puts.{put_at_both, put_at_there, put_id_both, is_itself}
 use Rattle.relay_facts.proofs.SessionOrderly.{FitsOne}
@@ -132,17 +136,16 @@ stage_storing w σ τ job before after claimed claim sized id s article stage e 
 
 -- it begins the job
 pub begun_orderly : (w : Terms) (x : World) (g : ℕ) (job : Job) (token : Token) (τ : State)
-    → x.work.writer g ≡ Popped job → Begins w x.state job token τ → IsOrderly w x
+    → x.work.writer g ≡ Popped job → Begins w x.state job token τ → IsSound w → IsOrderly w x
     → IsOrderly w (writer_at x τ g (Writing job token 0))
-begun_orderly w x g job token τ took begins orderly =
+begun_orderly w x g job token τ took begins known orderly =
     subst (λ ρ. IsOrderly w (writer_at x ρ g (Writing job token 0))) (sym begins.after)
     (record {
       numbered = record { unopened = orderly.numbered.unopened; peer = orderly.numbered.peer };
       placed = stage_placed w x after g job Waiting (Begun token) (Writing job token 0) has
           (record {
             claim = λ id. refl;
-            begun = λ h apart. put_at_there x.state.begun job.article.group
-                (x.state.begun job.article.group ++ job_size job ∷ []) h
+            begun = λ h apart. put_at_there x.state.begun job.article.group course h
                 (λ e. apart (e ∙ at.0));
             session = λ s. refl;
             newest = refl;
@@ -156,18 +159,12 @@ begun_orderly w x g job token τ took begins orderly =
           ) orderly.placed;
       sized = record {
         begun = λ h group there.
-            put_at_both (All (FitsOne group)) x.state.begun job.article.group
-            (x.state.begun job.article.group ++ job_size job ∷ []) h
-            (λ e. All-append (FitsOne group) (x.state.begun job.article.group) (job_size job ∷ [])
-            (orderly.sized.begun job.article.group group (ap (slice_get w.groups) (sym e) ∙ there))
-            (All-cons (FitsOne group) (job_size job) [] (
-              sound.some,
-              subst (λ one. FitsGroup one (job_size job))
-                  (same_Some sound.group group
-                  (sym sound.there ∙ ap (slice_get w.groups) (sym e) ∙ there)) sound.fits,
-            )
-            (All-nil (FitsOne group))))
+            put_at_both (λ (one : Course). All (FitsOne group) one.articles) x.state.begun
+            job.article.group course h
+            (λ e. all_fit group (ap (slice_get w.groups) (sym e) ∙ there))
             (λ apart. orderly.sized.begun h group there);
+        laid = laid_begun w known x.state.begun orderly.sized.laid job.article.group (job_size job)
+            sound.group sound.there sound.fits;
         storing = stage_storing w x.state after.state job Waiting (Begun token) begins.waiting
             (λ id. refl) orderly.sized;
         held_one = orderly.sized.held_one;
@@ -175,10 +172,14 @@ begun_orderly w x g job token τ took begins orderly =
       };
     })
   where
+    course : Course
+    course =
+        begun_in (slice_get w.groups job.article.group) (x.state.begun job.article.group)
+        (job_size job)
+
     after : World
     after = writer_at x (record (with_stage x.state job (Begun token)) {
-      begun = put_at x.state.begun job.article.group
-          (x.state.begun job.article.group ++ job_size job ∷ []);
+      begun = put_at x.state.begun job.article.group course;
     }) g (Writing job token 0)
 
     at : IsAt w x.state g (Popped job)
@@ -189,6 +190,27 @@ begun_orderly w x g job token τ took begins orderly =
 
     sound : IsSoundArticle w job.article
     sound = orderly.sized.storing job.id job.session job.article Waiting begins.waiting
+
+    one : Extent
+    one = record { place = begins.place; size = job_size job }
+
+    -- each article of the group fits it, and so does this one
+    all_fit : (group : Group) → slice_get w.groups job.article.group ≡ Some group
+        → All (FitsOne group) course.articles
+    all_fit group there =
+        subst (All (FitsOne group))
+        (sym (begun_in_articles w.groups job.article.group group
+        (x.state.begun job.article.group) (job_size job) begins.place there
+        (ap (option_and_then (λ two. place_next two (x.state.begun job.article.group)
+        (job_size job))) (sym there) ∙ begins.next)))
+        (All-append (FitsOne group) (x.state.begun job.article.group).articles (one ∷ [])
+        (orderly.sized.begun job.article.group group there)
+        (All-cons (FitsOne group) one [] (
+          sound.some,
+          subst (λ two. FitsGroup two (job_size job))
+              (same_Some sound.group group (sym sound.there ∙ there)) sound.fits,
+        )
+        (All-nil (FitsOne group))))
 
 -- a write of its blocks fails
 pub failed_orderly : (w : Terms) (x : World) (g : ℕ) (job : Job) (token : Token) (written : ℕ)
@@ -212,6 +234,7 @@ failed_orderly w x g job token written failures τ wrote fails orderly =
           (λ h. refl) (λ h. refl) refl (at.0, own_claim x.state job claims.Failed) orderly.placed;
       sized = record {
         begun = orderly.sized.begun;
+        laid = orderly.sized.laid;
         storing = stage_storing w x.state after.state job (Begun token) claims.Failed fails.begun
             (λ id. refl) orderly.sized;
         held_one = orderly.sized.held_one;
@@ -247,6 +270,7 @@ stored_orderly w x g job token written τ wrote stores orderly =
           (λ h. refl) (λ h. refl) refl (at.0, own_claim x.state job (Whole token)) orderly.placed;
       sized = record {
         begun = orderly.sized.begun;
+        laid = orderly.sized.laid;
         storing = stage_storing w x.state after.state job (Begun token) (Whole token) stores.begun
             (λ id. refl) orderly.sized;
         held_one = orderly.sized.held_one;

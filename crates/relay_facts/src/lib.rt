@@ -5,7 +5,8 @@
 
 ghost use Rattle.std.specs.Prelude.{◌≡◌, ◌++◌, ◌≤◌, ◌<◌, ◌^◌, ℕ, List, Some, false, length};
 ghost use Rattle.std.specs.Prelude.{slice_get, All, sum_by};
-ghost use Rattle.news_terms.specs.Places.{Buffer, Group, extents, front_after, on_line};
+ghost use Rattle.news_terms.specs.Courses.{Course, IsLaid};
+ghost use Rattle.news_terms.specs.Places.{Buffer, Group, front_after, on_line};
 ghost use Rattle.news_terms.specs.Token.{Token};
 ghost use Rattle.relay_model.specs.Awaited.{Errand, WaitsFor};
 ghost use Rattle.relay_model.specs.Claims.{Stored, is_storing};
@@ -92,13 +93,16 @@ pub fn lists_stay_short()
 /// The front of a buffer is moved by the group that has it, and by no other: a buffer that no group
 /// has is where its first cycle begins.
 pub fn fronts_stay_apart()
-    ensures one { (groups : List Group) (begun : ℕ → List ℕ) (g : ℕ) (group : Group)
-        (buffer : Buffer) → slice_get groups g ≡ Some group
+    ensures one { (groups : List Group) (begun : ℕ → Course)
+        → ((h : ℕ) (other : Group) → slice_get groups h ≡ Some other → IsLaid other (begun h))
+        → (g : ℕ) (group : Group) (buffer : Buffer) → slice_get groups g ≡ Some group
         → ((h : ℕ) (other : Group) → slice_get groups h ≡ Some other → (h ≡ g → ⊥)
         → HasNone other buffer.number)
         → front_after buffer (extents_from 0 groups begun)
-        ≡ front_after buffer (extents group (begun g)) }
-    ensures none { (groups : List Group) (begun : ℕ → List ℕ) (buffer : Buffer)
+        ≡ front_after buffer (begun g).articles }
+    ensures none { (groups : List Group) (begun : ℕ → Course)
+        → ((h : ℕ) (other : Group) → slice_get groups h ≡ Some other → IsLaid other (begun h))
+        → (buffer : Buffer)
         → ((h : ℕ) (other : Group) → slice_get groups h ≡ Some other
         → HasNone other buffer.number)
         → front_after buffer (extents_from 0 groups begun)

@@ -18,7 +18,9 @@ use Rattle.relay_model.specs.Writers.{Accepts}
 use Rattle.relay_facts.specs.Sound.{IsSound}
 use Rattle.relay_facts.proofs.Puts.{put_id_both}
 use Rattle.relay_facts.proofs.SameTokens.{same_itself}
-use Rattle.relay_laws.specs.Laws.{Always, AcceptsStored, GainsOnce, is_at, tokens_for}
+use Rattle.relay_laws.specs.Laws.{Always, AcceptsStored, GainsOnce}
+use Rattle.relay_model.specs.Fetches.{is_at}
+use Rattle.relay_model.specs.State.{tokens_for}
 use Rattle.relay_laws.proofs.Counts.{count-le}
 use Rattle.relay_laws.proofs.Gained.{gains_permitted}
 use Rattle.relay_facts.proofs.ClaimMoves.{goes_whole, goes_stored}
@@ -145,7 +147,7 @@ accepted_kept σ τ job token now accepts each holds = record {
         (λ other e. le_trans (holds.some id had moment e) (le-add_right _ _))
 
 -- each move keeps all this
-once_kept : (w : Terms) (σ τ : State) → Moves w σ τ → OneEach σ → AcceptsOnce σ → AcceptsOnce τ
+pub once_kept : (w : Terms) (σ τ : State) → Moves w σ τ → OneEach σ → AcceptsOnce σ → AcceptsOnce τ
 once_kept w σ τ (moves.LeavesStore same) each holds =
     quiet_kept σ τ same.kept same.accepted
     (λ id token is. (
@@ -176,7 +178,7 @@ once_kept w σ τ (moves.Abandoned job abandons) each holds =
     (ap (λ (ρ : State). ρ.accepted) abandons.after) holds
 
 -- nothing is accepted at the beginning
-empty_once : (failures : ℕ → ℕ) → AcceptsOnce (empty_world failures).state
+pub empty_once : (failures : ℕ → ℕ) → AcceptsOnce (empty_world failures).state
 empty_once failures = record {
   texts = λ id token is. absurd (never is.2);
   taken = All-nil (λ (one : Token × List ℕ). IsTaken (empty_world failures).state.kept one.0);
@@ -190,9 +192,9 @@ empty_once failures = record {
     never e = cc
 
 -- what is kept, and where
-record Both (σ : State) : Type 0 where
-  each : OneEach σ
-  once : AcceptsOnce σ
+pub record Both (σ : State) : Type 0 where
+  pub each : OneEach σ
+  pub once : AcceptsOnce σ
 
 -- all this holds after every run from the beginning
 always_once : (w : Terms) → IsSound w → Always w (λ x. Both x.state)
@@ -213,7 +215,7 @@ accepts_stored w sound failures events outputs x run id token moment stored =
     le_antisymm (holds.once token) (holds.some id token moment stored)
 
 -- a feed has a token no more often than it was accepted
-tokens_for-le : (feed : ℕ) (token : Token) (accepted : List (Token × List ℕ))
+pub tokens_for-le : (feed : ℕ) (token : Token) (accepted : List (Token × List ℕ))
     → count_by (λ one. same_token one token) (tokens_for feed accepted)
     ≤ times_accepted token accepted
 tokens_for-le feed token [] = zero-le

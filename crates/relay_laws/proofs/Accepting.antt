@@ -12,7 +12,7 @@ use Rattle.relay_model.specs.Claims.{Whole}
 use Rattle.relay_model.specs.State.{State, Job, Kept, put_id}
 use Rattle.relay_model.specs.Writers.{Stores}
 use Rattle.relay_facts.proofs.Puts.{put_id_both, same_id, is_itself}
-use Rattle.relay_laws.specs.Laws.{is_at}
+use Rattle.relay_model.specs.Fetches.{is_at}
 use Rattle.relay_laws.proofs.Counts.{count-two}
 use Rattle.relay_laws.proofs.OneText.{OneEach}
 use Rattle.relay_laws.proofs.Tests.{Same_place, passes_place}

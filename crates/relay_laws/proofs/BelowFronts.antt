@@ -14,7 +14,7 @@ use Rattle.relay_model.specs.State.{State, Job, Kept}
 use Rattle.relay_model.specs.Terms.{Terms}
 use Rattle.relay_model.specs.Writers.{token_at}
 use Rattle.relay_facts.specs.Sound.{IsSound}
-use Rattle.relay_laws.specs.Laws.{is_at}
+use Rattle.relay_model.specs.Fetches.{is_at}
 use Rattle.relay_facts.proofs.NamedBuffers.{Named}
 use Rattle.relay_facts.proofs.RisingFronts.{BeginFacts, place_named, begins_past}
 use Rattle.relay_facts.proofs.Places.{count_none}

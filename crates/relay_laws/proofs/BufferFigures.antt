@@ -9,12 +9,11 @@ use Rattle.std.specs.Prelude.{◌≢◌, filter}
 use Rattle.std.proofs.lemmas.Bool.{cases_eq, cond-true, cond-false, ne_eqb}
 use Rattle.std.proofs.lemmas.List.Elements.{All-head, All-tail}
 use Rattle.std.proofs.lemmas.List.Sums.{fold-append, length-filter, sum_by-append, sum_by_push}
-use Rattle.std.proofs.lemmas.Option.{none-some, same_Some}
-use Rattle.news_terms.specs.Places.{Buffer, Group, Extent, Place, extents, front_past, next_place}
-use Rattle.news_terms.specs.Places.{on_line}
+use Rattle.std.proofs.lemmas.Option.{none-some}
+use Rattle.news_terms.specs.Courses.{Course}
+use Rattle.news_terms.specs.Places.{Buffer, Group, Extent, front_past, on_line}
 use Rattle.news_terms.specs.Settings.{IsBufferAt}
 use Rattle.news_terms.specs.Token.{Token}
-use Rattle.news_terms.proofs.Extents.{extents_push}
 use Rattle.relay_model.specs.Fetches.{extents_from}
 use Rattle.relay_model.specs.Figures.{buffer_figures, cycle_past, is_begun_in, is_kept_in}
 use Rattle.relay_model.specs.Invariants.{IsWell}
@@ -22,8 +21,9 @@ use Rattle.relay_model.specs.Run.{Event, Step}
 use Rattle.relay_model.specs.State.{State, Job, Kept, put_at}
 use Rattle.relay_model.specs.Terms.{Terms}
 use Rattle.relay_model.specs.World.{World, Output, Writer, Popped, Writing, Finished, empty_world}
-use Rattle.relay_model.specs.Writers.{Begins, Stores, job_size}
+use Rattle.relay_model.specs.Writers.{Begins, Stores, begun_in, job_size}
 use Rattle.relay_facts.specs.Sound.{IsSound}
+use Rattle.relay_facts.proofs.LaidCourses.{begun_in_articles}
 use Rattle.relay_facts.proofs.Puts.{put_at_here, put_at_there}
 use Rattle.relay_laws.specs.Figures.{IsNewestIn, StoresBegun}
 use Rattle.relay_laws.specs.Laws.{Always}
@@ -116,14 +116,14 @@ pub begun_length : (w : Terms) (σ : State) (buffer : Buffer)
 begun_length w σ buffer = sym (length-filter (is_begun_in buffer) (extents_from 0 w.groups σ.begun))
 
 -- groups behind this one begin nothing by a begin in it
-same_behind : (i : ℕ) (groups : List Group) (begun : ℕ → List ℕ) (g : ℕ) (sizes : List ℕ) → g < i
-    → extents_from i groups (put_at begun g sizes) ≡ extents_from i groups begun
-same_behind i [] begun g sizes past = refl
-same_behind i (group ∷ groups) begun g sizes past =
-    ap (λ (own : List ℕ). extents group own ++ extents_from (i + 1) groups (put_at begun g sizes))
-    (put_at_there begun g sizes i (λ e. absurd (omega (arith, e, past))))
-    ∙ ap (λ (list : List Extent). extents group (begun i) ++ list)
-    (same_behind (i + 1) groups begun g sizes (omega (arith, past)))
+same_behind : (i : ℕ) (groups : List Group) (begun : ℕ → Course) (g : ℕ) (course : Course) → g < i
+    → extents_from i groups (put_at begun g course) ≡ extents_from i groups begun
+same_behind i [] begun g course past = refl
+same_behind i (group ∷ groups) begun g course past =
+    ap (λ (own : Course). own.articles ++ extents_from (i + 1) groups (put_at begun g course))
+    (put_at_there begun g course i (λ e. absurd (omega (arith, e, past))))
+    ∙ ap (λ (list : List Extent). (begun i).articles ++ list)
+    (same_behind (i + 1) groups begun g course (omega (arith, past)))
 
 -- how many pass a test, of two lists together
 count_both : (p : Extent → Bool) (one other : List Extent)
@@ -131,27 +131,20 @@ count_both : (p : Extent → Bool) (one other : List Extent)
 count_both p one other = sum_by-append (λ e. cond (p e) 1 0) one other
 
 -- one more article is counted once, where it passes the test
-one_more : (p : Extent → Bool) (i : ℕ) (groups : List Group) (begun : ℕ → List ℕ) (g size j : ℕ)
-    (group : Group) (place : Place) → slice_get groups j ≡ Some group → i + j ≡ g
-    → next_place group (begun g) size ≡ Some place
-    → count_by p (extents_from i groups (put_at begun g (begun g ++ size ∷ [])))
-    ≡ count_by p (extents_from i groups begun)
-    + cond (p (record { place = place; size = size })) 1 0
-one_more p i [] begun g size j group place there index next = absurd (none-some group there)
-one_more p i (first ∷ groups) begun g size zero group place there index next =
+one_more : (p : Extent → Bool) (i : ℕ) (groups : List Group) (begun : ℕ → Course) (g j : ℕ)
+    (group : Group) (course : Course) (new : Extent) → slice_get groups j ≡ Some group → i + j ≡ g
+    → course.articles ≡ (begun g).articles ++ new ∷ []
+    → count_by p (extents_from i groups (put_at begun g course))
+    ≡ count_by p (extents_from i groups begun) + cond (p new) 1 0
+one_more p i [] begun g j group course new there index longer = absurd (none-some group there)
+one_more p i (first ∷ groups) begun g zero group course new there index longer =
     let own : i ≡ g = omega (arith, index) in
-    let same : first ≡ group = same_Some first group there in
-    let new : Extent = record { place = place; size = size } in
-    let after = begun g ++ size ∷ [] in
     let behind = ap (count_by p)
-    (same_behind (i + 1) groups begun g after (omega (arith, own))) in
-    let here = ap (λ (list : List ℕ). count_by p (extents first list))
-    (put_at_here begun g after i own) in
-    let more = ap (count_by p)
-    (extents_push first (begun g) size place
-    (ap (λ (one : Group). next_place one (begun g) size) same ∙ next)) in
-    let pushed = sum_by_push (λ e. cond (p e) 1 0) (extents first (begun g)) new in
-    let had = ap (λ n. count_by p (extents first (begun n))) own in
+    (same_behind (i + 1) groups begun g course (omega (arith, own))) in
+    let here = ap (λ (one : Course). count_by p one.articles) (put_at_here begun g course i own) in
+    let more = ap (count_by p) longer in
+    let pushed = sum_by_push (λ e. cond (p e) 1 0) (begun g).articles new in
+    let had = ap (λ n. count_by p (begun n).articles) own in
     omega (
       arith,
       behind,
@@ -159,23 +152,22 @@ one_more p i (first ∷ groups) begun g size zero group place there index next =
       more,
       pushed,
       had,
-      count_both p (extents first (put_at begun g after i))
-          (extents_from (i + 1) groups (put_at begun g after)),
-      count_both p (extents first (begun i)) (extents_from (i + 1) groups begun),
+      count_both p (put_at begun g course i).articles
+          (extents_from (i + 1) groups (put_at begun g course)),
+      count_both p (begun i).articles (extents_from (i + 1) groups begun),
     )
-one_more p i (first ∷ groups) begun g size (suc j) group place there index next =
-    let after = begun g ++ size ∷ [] in
-    let later = one_more p (i + 1) groups begun g size j group place there
-    (omega (arith, index)) next in
-    let here = ap (λ (list : List ℕ). count_by p (extents first list))
-    (put_at_there begun g after i (λ e. absurd (omega (arith, e, index)))) in
+one_more p i (first ∷ groups) begun g (suc j) group course new there index longer =
+    let later = one_more p (i + 1) groups begun g j group course new there
+    (omega (arith, index)) longer in
+    let here = ap (λ (one : Course). count_by p one.articles)
+    (put_at_there begun g course i (λ e. absurd (omega (arith, e, index)))) in
     omega (
       arith,
       later,
       here,
-      count_both p (extents first (put_at begun g after i))
-          (extents_from (i + 1) groups (put_at begun g after)),
-      count_both p (extents first (begun i)) (extents_from (i + 1) groups begun),
+      count_both p (put_at begun g course i).articles
+          (extents_from (i + 1) groups (put_at begun g course)),
+      count_both p (begun i).articles (extents_from (i + 1) groups begun),
     )
 
 -- the same after a Begin
@@ -186,9 +178,13 @@ begun_more : (w : Terms) (σ τ : State) (job : Job) (token : Token)
     + cond (token.buffer == buffer.number) 1 0
 begun_more w σ τ job token begins facts buffer =
     ap (λ (ρ : State). count_by (is_begun_in buffer) (extents_from 0 w.groups ρ.begun)) begins.after
-    ∙ one_more (is_begun_in buffer) 0 w.groups σ.begun job.article.group (job_size job)
-    job.article.group facts.sound.group begins.place facts.sound.there
-    (zero-add job.article.group) facts.next
+    ∙ one_more (is_begun_in buffer) 0 w.groups σ.begun job.article.group job.article.group
+    facts.sound.group
+    (begun_in (slice_get w.groups job.article.group) (σ.begun job.article.group) (job_size job))
+    (record { place = begins.place; size = job_size job }) facts.sound.there
+    (zero-add job.article.group)
+    (begun_in_articles w.groups job.article.group facts.sound.group (σ.begun job.article.group)
+    (job_size job) begins.place facts.sound.there facts.next)
     ∙ ap
     (λ (t : Token). (buffer_figures w σ buffer).begun + cond (t.buffer == buffer.number) 1 0)
     (sym begins.named)
@@ -335,7 +331,7 @@ none_counts : (w : Terms) (x y : World) → Less_open x y
 none_counts w x y less same_begun same_kept counts h i buffer at =
     let all : y.state.begun ≡ x.state.begun = λ k g. same_begun g k in
     let begun : (buffer_figures w y.state buffer).begun ≡ (buffer_figures w x.state buffer).begun =
-    ap (λ (sizes : ℕ → List ℕ). count_by (is_begun_in buffer) (extents_from 0 w.groups sizes))
+    ap (λ (courses : ℕ → Course). count_by (is_begun_in buffer) (extents_from 0 w.groups courses))
     all in
     let kept : (buffer_figures w y.state buffer).stored ≡ (buffer_figures w x.state buffer).stored =
     ap (count_by (is_kept_in buffer)) same_kept in

@@ -18,14 +18,15 @@ use Rattle.relay_model.specs.Fetches.{fetched, front_of, decided_in, article_of,
 use Rattle.relay_model.specs.OnRecord.{IsBelow}
 use Rattle.relay_facts.specs.Sound.{IsSound}
 use Rattle.relay_laws.specs.Laws.{Always, FindsUntilGone}
-use Rattle.relay_laws.specs.Rules.{IsGoneToken, IsLiveToken}
+use Rattle.relay_laws.specs.Rules.{IsLiveToken}
+use Rattle.relay_model.specs.Fetches.{IsGoneToken}
 use Rattle.relay_laws.proofs.OneText.{one_text_a_token}
 use Rattle.relay_laws.proofs.Runs.{always_well}
 use Rattle.relay_facts.proofs.SameTokens.{same_itself}
 use Rattle.relay_facts.proofs.Places.{none_passes}
 
 -- where at most one passes, the first that does is the one
-only_first : {X : Type 0} (p : X → Bool) (xs : List X) → count_by p xs ≤ 1
+pub only_first : {X : Type 0} (p : X → Bool) (xs : List X) → count_by p xs ≤ 1
     → All (λ x. p x ≡ true → find p xs ≡ Some x) xs
 only_first p [] few = All-nil (λ x. p x ≡ true → find p [] ≡ Some x)
 only_first {X} p (x ∷ xs) few =
@@ -61,7 +62,7 @@ each_under kept once k d inside =
     (same_itself one.token))
 
 -- a place that is below the front and not passed is live
-live_by : (w : Terms) (σ : State) (token : Token) → IsBelow w σ token
+pub live_by : (w : Terms) (σ : State) (token : Token) → IsBelow w σ token
     → (IsGoneToken w σ token → ⊥) → IsLiveToken w σ token
 live_by w σ token below apart = record {
   buffer = below.buffer;
@@ -94,7 +95,7 @@ undecided false false false true a b c d = absurd (true≢false d)
 undecided false false false false a b c d = refl
 
 -- what is live and whole is found
-found_live : (w : Terms) (σ : State) (token : Token) (text : List ℕ) → IsLiveToken w σ token
+pub found_live : (w : Terms) (σ : State) (token : Token) (text : List ℕ) → IsLiveToken w σ token
     → text_under σ.kept token ≡ Some text → fetched w σ token ≡ fetches.Article text
 found_live w σ token text live under =
     ap (λ found. unwrap_or (decided_in w σ token found) (article_of (text_under σ.kept token)))

@@ -10,7 +10,8 @@ use Rattle.relay_model.specs.State.{State, Feed}
 use Rattle.relay_model.specs.Terms.{Terms}
 use Rattle.relay_model.specs.World.{empty_world}
 use Rattle.relay_model.specs.Writers.{gaining}
-use Rattle.relay_laws.specs.Laws.{Always, GainsPermitted, tokens_for}
+use Rattle.relay_laws.specs.Laws.{Always, GainsPermitted}
+use Rattle.relay_model.specs.State.{tokens_for}
 use Rattle.relay_facts.proofs.Moves.{Moves, goes_gained, step_moves}
 use Rattle.relay_facts.proofs.Moves as moves
 use Rattle.relay_laws.proofs.Runs.{run_keeps}
@@ -52,11 +53,11 @@ gaining_permitted feed accepted token permitted gains f =
     ∙ sym (tokens_for_push f accepted token permitted)
 
 -- each feed gained those for it
-abbrev Gains : State → Type 0
+abbrev pub Gains : State → Type 0
 Gains σ = (f : ℕ) → (σ.feed f).gained ≡ tokens_for f σ.accepted
 
 -- each move keeps what the feeds gained
-gains_kept : (w : Terms) (σ τ : State) → Moves w σ τ → Gains σ → Gains τ
+pub gains_kept : (w : Terms) (σ τ : State) → Moves w σ τ → Gains σ → Gains τ
 gains_kept w σ τ (moves.LeavesStore same) gains =
     λ f. goes_gained (σ.feed f) (τ.feed f) (same.feeds f) ∙ gains f
     ∙ ap (tokens_for f) (sym same.accepted)

@@ -12,7 +12,7 @@ use Rattle.relay_model.specs.Terms.{Terms}
 use Rattle.relay_model.specs.World.{World}
 use Rattle.relay_facts.specs.Sound.{IsSound}
 use Rattle.relay_laws.specs.Laws.{AlwaysFrom, FindsGone}
-use Rattle.relay_laws.specs.Rules.{IsGoneToken}
+use Rattle.relay_model.specs.Fetches.{IsGoneToken}
 use Rattle.relay_facts.proofs.Moves.{step_moves}
 use Rattle.relay_facts.proofs.NamedBuffers.{Named}
 use Rattle.relay_facts.proofs.RisingFronts.{front_rises}

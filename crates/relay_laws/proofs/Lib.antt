@@ -1,6 +1,6 @@
 pub mod AcceptedOnce
 pub mod Accepting
-mod Articles
+pub mod Articles
 pub mod BelowFronts
 pub mod BufferFigures
 pub mod Counted

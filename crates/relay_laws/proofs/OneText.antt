@@ -15,7 +15,8 @@ use Rattle.relay_model.specs.World.{empty_world}
 use Rattle.relay_model.specs.Writers.{Begins, Stores, token_at}
 use Rattle.relay_facts.specs.Sound.{IsSound}
 use Rattle.relay_facts.proofs.Puts.{put_id_both, same_id, is_itself}
-use Rattle.relay_laws.specs.Laws.{Always, is_at, OneTextAPlace, OneTextAToken}
+use Rattle.relay_laws.specs.Laws.{Always, OneTextAPlace, OneTextAToken}
+use Rattle.relay_model.specs.Fetches.{is_at}
 use Rattle.relay_laws.proofs.BelowFronts.{other_place, none_past, new_apart}
 use Rattle.relay_facts.proofs.ClaimMoves.{goes_begun}
 use Rattle.relay_laws.proofs.Counts.{count-le}

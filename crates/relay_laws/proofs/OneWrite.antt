@@ -1,6 +1,6 @@
 -- A Write in which no device fails leads to one world.
 use Rattle.std.proofs.Common.{◌≡◌, ◌∙◌, ◌<◌, ◌++◌, ◌∷◌, [], ℕ, ◌+◌, true, false, nat_lt}
-use Rattle.std.proofs.Common.{nat_le, List, Option, Some, None, refl, sym, ap, subst, arith}
+use Rattle.std.proofs.Common.{nat_le, slice_get, List, Option, Some, None, refl, sym, ap, subst, arith}
 use Rattle.std.proofs.Common.{if◌then◌else◌}
 use Rattle.std.proofs.lemmas.Bool.{le-leb, lt-ltb, le-ltb, lt-leb}
 use Rattle.news_terms.specs.Places.{Place, last_cycle}
@@ -12,17 +12,18 @@ use Rattle.relay_model.specs.World.{Forgotten, IsKept, HasFailed, with_failures}
 use Rattle.relay_model.specs.World as world
 use Rattle.relay_model.specs.Writers.{Writes, NoJob, Pops, HasBegun, FindsWorn, WritesBlock}
 use Rattle.relay_model.specs.Writers.{FailsToWrite, HasStored, Settles, Closes, Forgets, TellsKept}
-use Rattle.relay_model.specs.Writers.{TellsFailed, job_size, place_for, token_at, with_stage}
+use Rattle.relay_model.specs.Writers.{TellsFailed, begun_in, job_size, place_for, token_at, with_stage}
 use Rattle.relay_model.specs.Writers.{gaining, writer_at, popped, answered}
 
 -- the world after a begin, or after it was found worn
-abbrev pub after_place : World → ℕ → Job → Option Place → World
-after_place x g job None = x
-after_place x g job (Some place) =
+abbrev pub after_place : Terms → World → ℕ → Job → Option Place → World
+after_place w x g job None = x
+after_place w x g job (Some place) =
     if nat_le place.cycle last_cycle
     then writer_at x (record (with_stage x.state job (Begun (token_at job place))) {
       begun = put_at x.state.begun job.article.group
-          (x.state.begun job.article.group ++ job_size job ∷ []);
+          (begun_in (slice_get w.groups job.article.group) (x.state.begun job.article.group)
+          (job_size job));
     }) g (Writing job (token_at job place) 0)
     else writer_at x x.state g (world.Failed job None)
 
@@ -34,7 +35,7 @@ after_pop x g (job ∷ rest) = popped x g job rest
 -- the world after a Write without a failure
 abbrev pub after_write : Terms → World → (g now : ℕ) → Writer → World
 after_write w x g now Idle = after_pop x g (x.work.queue g)
-after_write w x g now (Popped job) = after_place x g job (place_for w x.state job)
+after_write w x g now (Popped job) = after_place w x g job (place_for w x.state job)
 after_write w x g now (Writing job token written) =
     if nat_lt written (job_size job)
     then writer_at x x.state g (Writing job token (written + 1))
@@ -74,14 +75,15 @@ write_leads w x g now y (HasBegun job token τ has begins e) calm =
     (e ∙ ap (λ (σ : State). writer_at x σ g (Writing job token 0)) begins.after
     ∙ ap (λ one. writer_at x (record (with_stage x.state job (Begun one)) {
       begun = put_at x.state.begun job.article.group
-          (x.state.begun job.article.group ++ job_size job ∷ []);
+          (begun_in (slice_get w.groups job.article.group) (x.state.begun job.article.group)
+          (job_size job));
     }) g (Writing job one 0)) begins.named
-    ∙ sym (ap (after_place x g job) begins.next ∙ rw in_time refl))
+    ∙ sym (ap (after_place w x g job) begins.next ∙ rw in_time refl))
 write_leads w x g now y (FindsWorn job has worn e) calm =
     let past : nat_le worn.place.cycle last_cycle ≡ false =
     lt-leb worn.place.cycle last_cycle worn.past in
     by_phase w x y g now (Popped job) has
-    (e ∙ sym (ap (after_place x g job) worn.next ∙ rw past refl))
+    (e ∙ sym (ap (after_place w x g job) worn.next ∙ rw past refl))
 write_leads w x g now y (WritesBlock job token written failures has left rises e) calm =
     let same : failures ≡ x.work.failures =
     sym (ap (λ (one : World). one.work.failures) e) ∙ calm in

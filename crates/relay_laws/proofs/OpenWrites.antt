@@ -8,7 +8,7 @@ use Rattle.std.proofs.lemmas.Option.{none-some, same_Some}
 use Rattle.news_terms.specs.Places.{Buffer, Place, on_line, size_of}
 use Rattle.news_terms.specs.Settings.{IsBufferAt}
 use Rattle.news_terms.specs.Token.{Token}
-use Rattle.news_terms.proofs.FrontLaws.{next_ends}
+use Rattle.news_terms.proofs.CourseLaws.{next_ends}
 use Rattle.relay_model.specs.Fetches.{front_of}
 use Rattle.relay_model.specs.Invariants.{IsWell, IsSized, IsAt}
 use Rattle.relay_model.specs.Run.{Event, Step}
@@ -125,7 +125,7 @@ new_open w sound σ τ job token begins sized ends =
           place facts.next).ends;
       newest =
           ap (λ (ρ : State). front_of w ρ place.buffer) begins.after
-          ∙ front_then w sound σ job place facts;
+          ∙ front_then w sound σ sized job place facts;
       before = subst (All (Ends_before place.buffer here)) (sym kept) all_before;
     })
   where

@@ -28,7 +28,7 @@ use Rattle.relay_model.specs.Writers.{TellsFailed}
 use Rattle.relay_facts.specs.Sound.{IsSound}
 use Rattle.relay_laws.specs.Forgetting.{ForgetsGone, FrontsAreRead, IsReadFront, fronts_read}
 use Rattle.relay_laws.specs.Laws.{Always, AlwaysFrom}
-use Rattle.relay_laws.specs.Rules.{IsGoneToken}
+use Rattle.relay_model.specs.Fetches.{IsGoneToken}
 use Rattle.relay_laws.proofs.Gone.{gone_stays}
 use Rattle.relay_facts.proofs.Moves.{Moves, step_moves}
 use Rattle.relay_facts.proofs.NamedBuffers.{Named, only_found}

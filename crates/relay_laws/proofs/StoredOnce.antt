@@ -17,14 +17,14 @@ use Rattle.relay_facts.proofs.Moves.{Moves, step_moves}
 use Rattle.relay_facts.proofs.Moves as moves
 
 -- how many texts a message-id at this stage has
-abbrev texts_at_stage : Stage → ℕ
+abbrev pub texts_at_stage : Stage → ℕ
 texts_at_stage Waiting = 0
 texts_at_stage (Begun token) = 0
 texts_at_stage Failed = 0
 texts_at_stage (Whole token) = 1
 
 -- how many texts a message-id with this claim has: one from the moment on that it is whole
-abbrev texts_due : Claim → ℕ
+abbrev pub texts_due : Claim → ℕ
 texts_due Unknown = 0
 texts_due (Offered session) = 0
 texts_due (Storing session article stage) = texts_at_stage stage
@@ -32,7 +32,7 @@ texts_due (Stored token moment) = 1
 texts_due (Refused moment) = 0
 
 -- the id has the texts that its claim says
-abbrev IsDue : List ℕ → State → Type 0
+abbrev pub IsDue : List ℕ → State → Type 0
 IsDue id σ = texts_of id σ ≡ texts_due (σ.claim id)
 
 -- an early claim has no text
@@ -84,7 +84,7 @@ hopeless_due w σ job (HasFailedToStore claimed) = ap texts_due claimed
 hopeless_due w σ job (CannotBegin worn) = ap texts_due worn.waiting
 
 -- each move that remembers the id keeps its texts due
-due_kept : (w : Terms) (id : List ℕ) (σ τ : State) → Moves w σ τ
+pub due_kept : (w : Terms) (id : List ℕ) (σ τ : State) → Moves w σ τ
     → (is_remembered (σ.claim id) ≡ true → is_remembered (τ.claim id) ≡ true) → IsDue id σ
     → IsDue id τ
 due_kept w id σ τ (moves.LeavesStore same) remembers due =
@@ -108,7 +108,7 @@ due_kept w id σ τ (moves.Abandoned job abandons) remembers due =
     (put_due σ id job.id Unknown (sym (hopeless_due w σ job abandons.hopeless)) due)
 
 -- a claim has at most one text
-at_most_one : (claim : Claim) → texts_due claim ≤ 1
+pub at_most_one : (claim : Claim) → texts_due claim ≤ 1
 at_most_one Unknown = zero-le
 at_most_one (Offered session) = zero-le
 at_most_one (Storing session article Waiting) = zero-le
@@ -119,7 +119,7 @@ at_most_one (Stored token moment) = le_refl 1
 at_most_one (Refused moment) = zero-le
 
 -- after each such run the id has the texts that its claim says
-run_due : (w : Terms) (id : List ℕ) (x : World) (events : List Event) (outputs : List Output)
+pub run_due : (w : Terms) (id : List ℕ) (x : World) (events : List Event) (outputs : List Output)
     (x' : World) → RunRemembering id w x events outputs x' → IsDue id x.state → IsDue id x'.state
 run_due w id x [] [] x' run due = subst (λ (y : World). IsDue id y.state) (sym run) due
 run_due w id x (event ∷ events) (output ∷ outputs) x' run due =

@@ -4,7 +4,7 @@ use Rattle.std.proofs.Common.{eq-eqb, true≢false}
 use Rattle.news_terms.specs.Token.{Token, same_token}
 use Rattle.relay_model.specs.State.{Kept}
 use Rattle.relay_facts.proofs.SameTokens.{same_one}
-use Rattle.relay_laws.specs.Laws.{is_at}
+use Rattle.relay_model.specs.Fetches.{is_at}
 
 -- three tests that pass together pass one by one
 three_tests : (a b c : Bool) → (a && b && c) ≡ true → (a ≡ true) × (b ≡ true) × (c ≡ true)

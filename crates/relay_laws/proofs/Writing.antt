@@ -55,7 +55,7 @@ pops w x g now idle (job ∷ rest) is = Pops job rest idle is refl
 begins_at : (w : Terms) (x : World) (g now : ℕ) (job : Job) → x.work.writer g ≡ Popped job
     → (place : Place) → place_for w x.state job ≡ Some place → (in_time : Bool)
     → IsMet (cycle_premise x job place in_time)
-    → Writes w x g now (after_place x g job (Some place))
+    → Writes w x g now (after_place w x g job (Some place))
 begins_at w x g now job has place is true knows =
     rw knows.1 (HasBegun job (token_at job place) _ has (record {
       place = place;
@@ -76,7 +76,7 @@ begins_at w x g now job has place is false knows =
 -- a begin
 begins : (w : Terms) (x : World) (g now : ℕ) (job : Job) → x.work.writer g ≡ Popped job
     → (place : Option Place) → place_for w x.state job ≡ place → IsMet (place_premise x job place)
-    → Writes w x g now (after_place x g job place)
+    → Writes w x g now (after_place w x g job place)
 begins w x g now job has None is knows = absurd knows
 begins w x g now job has (Some place) is knows =
     begins_at w x g now job has place is (nat_le place.cycle last_cycle) knows
@@ -116,10 +116,10 @@ pop_calm x g [] = refl
 pop_calm x g (job ∷ rest) = refl
 
 -- a begin calls none
-begin_calm : (x : World) (g : ℕ) (job : Job) (place : Option Place)
-    → (after_place x g job place).work.failures ≡ x.work.failures
-begin_calm x g job None = refl
-begin_calm x g job (Some place) =
+begin_calm : (w : Terms) (x : World) (g : ℕ) (job : Job) (place : Option Place)
+    → (after_place w x g job place).work.failures ≡ x.work.failures
+begin_calm w x g job None = refl
+begin_calm w x g job (Some place) =
     cond_both (nat_le place.cycle last_cycle) _ _
     (λ (y : World). y.work.failures ≡ x.work.failures) (λ e. refl) (λ e. refl)
 
@@ -127,7 +127,7 @@ begin_calm x g job (Some place) =
 pub write_calm : (w : Terms) (x : World) (g now : ℕ) (phase : Writer)
     → (after_write w x g now phase).work.failures ≡ x.work.failures
 write_calm w x g now Idle = pop_calm x g (x.work.queue g)
-write_calm w x g now (Popped job) = begin_calm x g job (place_for w x.state job)
+write_calm w x g now (Popped job) = begin_calm w x g job (place_for w x.state job)
 write_calm w x g now (Writing job token written) =
     cond_both (nat_lt written (job_size job)) _ _
     (λ (y : World). y.work.failures ≡ x.work.failures) (λ e. refl) (λ e. refl)

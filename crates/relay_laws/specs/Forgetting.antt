@@ -10,7 +10,7 @@ use Rattle.relay_model.specs.Run.{Event, Expire, Step, shard_of}
 use Rattle.relay_model.specs.State.{State}
 use Rattle.relay_model.specs.Terms.{Terms}
 use Rattle.relay_model.specs.World.{World, Output, Work, Expirer, Reading, Forgetting, Idle}
-use Rattle.relay_laws.specs.Rules.{IsGoneToken}
+use Rattle.relay_model.specs.Fetches.{IsGoneToken}
 
 -- what was begun, stored, gained and accepted stays, and so does the number of the newest session
 pub record KeepsStore (σ τ : State) : Type 0 where

@@ -1,7 +1,6 @@
 -- The laws: what holds after every list of events, whatever they were answered.
-use Rattle.std.specs.Prelude.{◌≡◌, ◌≢◌, ℕ, ◌≤◌, ◌==◌, ◌&&◌, nat_eq, Bool, true, false, List, []}
-use Rattle.std.specs.Prelude.{◌∷◌, map, filter, count_by, bytes_eq, All, None, Some}
-use Rattle.std.specs.List.{list_any}
+use Rattle.std.specs.Prelude.{◌≡◌, ◌≢◌, ℕ, ◌≤◌, Bool, true, false, List, []}
+use Rattle.std.specs.Prelude.{◌∷◌, count_by, bytes_eq, All, None, Some}
 use Rattle.news_terms.specs.Command.{Part}
 use Rattle.news_terms.specs.Token.{Token, same_token}
 use Rattle.relay_model.specs.Asks.{is_open}
@@ -12,10 +11,12 @@ use Rattle.relay_model.specs.Fetches.{Gone, NotKnown, fetched}
 use Rattle.relay_model.specs.Invariants.{places_of}
 use Rattle.relay_model.specs.Run.{Event, Run, Step}
 use Rattle.relay_model.specs.State.{State, Session, Kept, Job, Fetches, OfId, Ended}
+use Rattle.relay_model.specs.Fetches.{is_at}
+use Rattle.relay_model.specs.State.{tokens_for}
 use Rattle.relay_model.specs.Terms.{Terms}
 use Rattle.relay_model.specs.World.{World, Output, Writing, empty_world}
 use Rattle.relay_model.specs.Writers.{job_size}
-use Rattle.relay_laws.specs.Rules.{IsGoneToken}
+use Rattle.relay_model.specs.Fetches.{IsGoneToken}
 
 -- after every list of events from this world on, whatever they were answered, the world is such
 abbrev pub AlwaysFrom : Terms → World → (World → Type 0) → Type 0
@@ -53,12 +54,6 @@ RunRemembering id w x (event ∷ events) (output ∷ outputs) x' =
 RunRemembering id w x [] (output ∷ outputs) x' = ⊥
 RunRemembering id w x (event ∷ events) [] x' = ⊥
 
--- the tokens of the accepted articles that are permitted for this feed, in the order of acceptance
-abbrev pub tokens_for : ℕ → List (Token × List ℕ) → List Token
-tokens_for feed accepted =
-    map (λ (one : Token × List ℕ). one.0)
-    (filter (λ (one : Token × List ℕ). list_any (nat_eq feed) one.1) accepted)
-
 -- each feed gained the tokens of the accepted articles permitted for it, no other, in order
 abbrev pub GainsPermitted : World → Type 0
 GainsPermitted x =
@@ -77,11 +72,6 @@ OffersAreOpen x = (id : List ℕ) (s : ℕ) → x.state.claim id ≡ Offered s �
 -- a fetch of the token finds it gone
 abbrev pub FindsGone : Terms → Token → World → Type 0
 FindsGone w token x = fetched w x.state token ≡ Gone
-
--- the text lies at this cycle and block of the buffer
-abbrev pub is_at : ℕ → ℕ → ℕ → Kept → Bool
-is_at buffer cycle first kept =
-    kept.token.buffer == buffer && kept.token.cycle == cycle && kept.token.first == first
 
 -- at each place lies at most one of all texts that were ever stored
 abbrev pub OneTextAPlace : World → Type 0

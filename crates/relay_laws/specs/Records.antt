@@ -6,7 +6,8 @@ use Rattle.relay_model.specs.State.{State, Phase, Feed, put_at, put_id, empty_st
 use Rattle.relay_model.specs.State.{in_phase}
 use Rattle.relay_model.specs.World.{World, Writer, empty_world}
 use Rattle.relay_laws.specs.FigureRuns.{one_of_two}
-use Rattle.relay_laws.specs.Worlds.{reading, three_blocks_at}
+use Rattle.relay_laws.specs.Terms.{k1}
+use Rattle.relay_laws.specs.Worlds.{courses_of, reading, three_blocks_at}
 
 -- a token of one block, at this block of the first cycle
 abbrev pub one_block_at : ℕ → Token
@@ -14,7 +15,7 @@ one_block_at first = record { class = 1; buffer = 0; cycle = 0; first = first; l
 
 -- three articles of three blocks were begun
 abbrev pub three_begun : State
-three_begun = record empty_state { begun = λ group. 3 ∷ 3 ∷ 3 ∷ [] }
+three_begun = record empty_state { begun = courses_of k1 (λ group. 3 ∷ 3 ∷ 3 ∷ []) }
 
 -- two articles were begun and the first is whole, with this claim on an id
 abbrev pub with_one_claim : Claim → State

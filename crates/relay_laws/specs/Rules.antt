@@ -1,6 +1,6 @@
 -- What the laws of single rules speak of.
 use Rattle.std.specs.Prelude.{◌≡◌, ℕ, ◌+◌, ◌≤◌, ◌==◌, false, Some}
-use Rattle.news_terms.specs.Places.{Buffer, IsGone, IsLive, on_line, size_of}
+use Rattle.news_terms.specs.Places.{Buffer, IsLive, on_line, size_of}
 use Rattle.news_terms.specs.Token.{Token}
 use Rattle.relay_model.specs.Claims.{Claim, Unknown, Offered, Storing, Stored, Refused}
 use Rattle.relay_model.specs.Fetches.{buffer_of, front_of}
@@ -14,13 +14,6 @@ IsNotOf s (Offered other) = (other == s) ≡ false
 IsNotOf s (Storing other article stage) = (other == s) ≡ false
 IsNotOf s (Stored token moment) = Unit {0}
 IsNotOf s (Refused moment) = Unit {0}
-
--- the front of the buffer that the token names has passed its place
-pub record IsGoneToken (w : Terms) (σ : State) (token : Token) : Type 0 where
-  pub buffer : Buffer
-  pub named : buffer_of w token ≡ Some buffer
-  pub gone : IsGone buffer.blocks (front_of w σ buffer)
-      (on_line buffer.blocks token.cycle token.first)
 
 -- the token names a buffer, its blocks are in the buffer, and its place is live
 pub record IsLiveToken (w : Terms) (σ : State) (token : Token) : Type 0 where

@@ -1,7 +1,10 @@
 -- The worlds in which the other worked rows begin, so that they stay short.
-use Rattle.std.specs.Prelude.{ℕ, ◌+◌, List, [], ◌∷◌, codes, replicate, Option, Some, None}
+use Rattle.std.specs.Prelude.{ℕ, ◌+◌, List, [], ◌∷◌, codes, replicate, slice_get}
+use Rattle.std.specs.Prelude.{Option, Some, None}
 use Rattle.std.specs.Str.{byte}
 use Rattle.news_terms.specs.Command.{WholeText}
+use Rattle.news_terms.specs.Courses.{Course, course_of, first_course}
+use Rattle.news_terms.specs.Places.{Group}
 use Rattle.news_terms.specs.Token.{Token}
 use Rattle.relay_model.specs.Claims.{Accepted, Claim, Unknown, Offered, Storing, Stored, Refused}
 use Rattle.relay_model.specs.Claims.{Stage, Waiting, Begun}
@@ -12,7 +15,17 @@ use Rattle.relay_model.specs.State.{put_id, put_at, empty_state}
 use Rattle.relay_model.specs.Terms.{Terms}
 use Rattle.relay_model.specs.World.{World, Idle, Writing, empty_world}
 use Rattle.relay_model.specs.World as world
-use Rattle.relay_laws.specs.Terms.{now, k1}
+use Rattle.relay_laws.specs.OtherTerms.{in_last_cycle, two_groups}
+use Rattle.relay_laws.specs.Terms.{now, k1, group_g}
+
+-- the course of a group that began articles of these sizes
+abbrev pub course_in : Option Group → List ℕ → Course
+course_in None sizes = first_course
+course_in (Some group) sizes = course_of group sizes
+
+-- the course of each group of these terms, after it began articles of its sizes
+abbrev pub courses_of : Terms → (ℕ → List ℕ) → ℕ → Course
+courses_of w sizes g = course_in (slice_get w.groups g) (sizes g)
 
 -- the token of an article of three blocks, at this cycle and block
 abbrev pub three_blocks_at : (cycle first : ℕ) → Token
@@ -71,7 +84,7 @@ abbrev pub two_stored_state : (one two : List ℕ) → State
 two_stored_state one two =
     record empty_state {
       claim = two_stored_claims;
-      begun = λ group. 3 ∷ 3 ∷ [];
+      begun = courses_of k1 (λ group. 3 ∷ 3 ∷ []);
       kept =
           record { token = three_blocks_at 0 0; id = codes "<1@x>"; text = one }
           ∷ record { token = three_blocks_at 0 3; id = codes "<2@x>"; text = two } ∷ [];
@@ -96,7 +109,7 @@ one_begun failures =
       state = record empty_state {
         claim = put_id (put_id (λ id. Unknown) (codes "<3@x>") (Storing 1 three_blocks Waiting))
             (codes "<4@x>") (Storing 3 three_blocks Waiting);
-        begun = λ group. 3 ∷ [];
+        begun = courses_of in_last_cycle (λ group. 3 ∷ []);
         session = three_sessions;
         newest = Some 3;
       };
@@ -111,7 +124,7 @@ abbrev pub begun_state : (one two : List ℕ) → Job → State
 begun_state one two job =
     record (two_stored_state one two) {
       claim = claims_at job (Begun (three_blocks_at 1 0));
-      begun = put_at (λ group. 3 ∷ 3 ∷ []) 0 (3 ∷ 3 ∷ 3 ∷ []);
+      begun = put_at (courses_of k1 (λ group. 3 ∷ 3 ∷ [])) 0 (course_of group_g (3 ∷ 3 ∷ 3 ∷ []));
     }
 
 -- so many of its blocks are written, and these jobs are queued
@@ -190,7 +203,7 @@ remembering failures =
             (Stored (three_blocks_at 0 0) now)) (codes "<2@x>")
             (Stored (three_blocks_at 0 3) now)) (codes "<e@x>") (Refused now)) (codes "<o@x>")
             (Offered 1);
-        begun = λ group. 3 ∷ 3 ∷ 3 ∷ [];
+        begun = courses_of k1 (λ group. 3 ∷ 3 ∷ 3 ∷ []);
         session = put_at (λ s. None) 2 (Some reading);
         newest = Some 2;
       };
@@ -206,7 +219,7 @@ remembering_two failures =
             (Stored (record (three_blocks_at 0 0) { buffer = 1 }) now)) (codes "<2@x>")
             (Stored (three_blocks_at 0 0) now)) (codes "<3@x>")
             (Stored (record (three_blocks_at 0 3) { buffer = 1 }) now);
-        begun = put_at (λ group. 3 ∷ []) 1 (3 ∷ 3 ∷ 3 ∷ []);
+        begun = courses_of two_groups (put_at (λ group. 3 ∷ []) 1 (3 ∷ 3 ∷ 3 ∷ []));
         session = put_at (λ s. None) 2 (Some reading);
         newest = Some 2;
       };

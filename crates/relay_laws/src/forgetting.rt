@@ -18,7 +18,7 @@ ghost use Rattle.relay_laws.specs.Forgetting.{ForgetsGone, ForgetsOld, FrontsAre
 ghost use Rattle.relay_laws.specs.Forgetting.{FrontsInOrder, IsForgettable, KeepsStore};
 ghost use Rattle.relay_laws.specs.Forgetting.{fronts_read, remembered_at};
 ghost use Rattle.relay_laws.specs.Laws.{Always, AlwaysFrom, is_remembered};
-ghost use Rattle.relay_laws.specs.Rules.{IsGoneToken};
+ghost use Rattle.relay_model.specs.Fetches.{IsGoneToken};
 
 /// A step that ends a remembered id is an Expire of its shard, when it is old enough, and leaves
 /// the id unknown.

@@ -26,7 +26,8 @@ ghost use Rattle.relay_model.specs.World.{World, Output, Outcome, IsKept, Speaks
 ghost use Rattle.relay_model.specs.World.{Refuses, Fault, Memory, NoSession};
 ghost use Rattle.relay_model.specs.Writers.{Stores, Fails, Accepts, Abandons};
 ghost use Rattle.relay_laws.specs.Calm.{IsCalm, CalmRun};
-ghost use Rattle.relay_laws.specs.Rules.{IsNotOf, IsGoneToken, IsLiveToken};
+ghost use Rattle.relay_laws.specs.Rules.{IsNotOf, IsLiveToken};
+ghost use Rattle.relay_model.specs.Fetches.{IsGoneToken};
 
 /// What is not this session's stays as it is when the session's article is refused, its open offer
 /// ends, or the writer gives its article up or has stored it.

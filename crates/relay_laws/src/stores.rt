@@ -9,7 +9,7 @@ ghost use Rattle.relay_laws.specs.Laws.{AcceptsStored, GainsOnce, FindsUntilGone
 ghost use Rattle.relay_laws.specs.Laws.{OneTextAPlace, OneTextAToken};
 ghost use Rattle.relay_laws.specs.Opens.{BeginsElsewhere, OpensAreFree, OpensAreNewest};
 ghost use Rattle.relay_laws.specs.Opens.{OpensKeepFronts};
-ghost use Rattle.relay_laws.specs.Rules.{IsGoneToken};
+ghost use Rattle.relay_model.specs.Fetches.{IsGoneToken};
 
 /// A token that is gone stays gone, from every world on that a run may lead to: no front falls.
 pub fn gone_stays_gone()
