@@ -1,0 +1,13 @@
+pub mod FoundAgain
+pub mod KilledAgain
+pub mod LivesAgain
+pub mod OnceAgain
+pub mod OwnDues
+pub mod OwnHeard
+pub mod OwnIds
+pub mod OwnLives
+pub mod RingsAgain
+pub mod SavedAgain
+pub mod StoredAgain
+pub mod Threes
+pub mod WellAgain

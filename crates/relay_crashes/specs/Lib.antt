@@ -1,0 +1,5 @@
+pub mod Ids
+pub mod Killed
+pub mod Lives
+pub mod Rings
+pub mod Rows
