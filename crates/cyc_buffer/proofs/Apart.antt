@@ -9,7 +9,7 @@ use Rattle.cyc_buffer.proofs.Places.{placed, chosen}
 use Rattle.cyc_buffer.proofs.Finished.{Lies, lies, place_of, at_parts, none_is_none}
 
 -- what ends before the head lies before the next begin, where that is in the same cycle
-before_next : (buffer : Buffer) (earlier : List Begin) (b : Begin) (cycle first next : ℕ)
+pub before_next : (buffer : Buffer) (earlier : List Begin) (b : Begin) (cycle first next : ℕ)
     (article : Article)
     → Lies buffer earlier cycle first article
     → is_at buffer (place_of buffer earlier b) cycle next ≡ true

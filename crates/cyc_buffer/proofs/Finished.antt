@@ -93,7 +93,7 @@ lies_earlier buffer earlier b cycle first article l = record {
 }
 
 -- the article of a begin is one of its size
-of_size : (size : ℕ) (finished : Option Article) (article : Article) → HasItsSize size finished
+pub of_size : (size : ℕ) (finished : Option Article) (article : Article) → HasItsSize size finished
     → finished ≡ Some article → IsOfSize size article
 of_size size finished article h e = subst (HasItsSize size) e h
 

@@ -22,6 +22,20 @@ pub mod Stretches
 pub mod Whole
 pub mod BitLemmas
 mod Restored
+pub mod ScanLemmas
+pub mod LiveLemmas
+pub mod FoundLemmas
+pub mod Assembled
+pub mod FoundTexts
+pub mod FoundHistories
+pub mod CrashLaws
+pub mod CrashSteps
+pub mod CrashWrites
+pub mod CrashLosses
+pub mod RejectLemmas
+pub mod RejectMarks
+pub mod Rejected
+pub mod RejectLaws
 pub mod Answered
 pub mod SameBufferState
 pub mod RememberedLemmas

@@ -25,7 +25,7 @@ use Rattle.cyc_buffer.proofs.Reading.{is_block}
 use Rattle.cyc_buffer.proofs.StartLemmas.{unpassed_inside}
 
 -- the head is within the buffer
-used_within : (blocks : ℕ) (begins : List Begin) → AllByRecursion (IsSized blocks) begins
+pub used_within : (blocks : ℕ) (begins : List Begin) → AllByRecursion (IsSized blocks) begins
     → (head_of blocks begins).used ≤ blocks
 used_within blocks [] sized = omega arith
 used_within blocks (b ∷ earlier) sized =
@@ -66,7 +66,7 @@ stored_within (b ∷ earlier) =
     (λ e. omega (arith, rest))
 
 -- what was finished was begun in the first cycle or a later one
-first_within : (buffer : Buffer) (begins : List Begin) (cycle first : ℕ) (article : Article)
+pub first_within : (buffer : Buffer) (begins : List Begin) (cycle first : ℕ) (article : Article)
     → finished_at buffer begins cycle first ≡ Some article → buffer.first_cycle ≤ cycle
 first_within buffer [] cycle first article e = absurd (none_is_none e)
 first_within buffer (b ∷ earlier) cycle first article e =

@@ -15,7 +15,7 @@ use Rattle.cyc_buffer.specs.declared.answers.FormatError.TheVariants as formats
 use Rattle.cyc_buffer.specs.declared.buffer.Buffer.{Buffer}
 use Rattle.cyc_buffer.specs.declared.unopened.Unopened.{Unopened}
 
--- head block 0 says that the buffer may change
+-- the buffer has said in head block 0 that it may change
 abbrev pub has_open_head : {S : Type 0} {g : Ghosts S} → Buffer S g → Bool
 has_open_head buffer = buffer.has_open_head
 

@@ -158,6 +158,14 @@ finished_at buffer (b ∷ earlier) cycle first =
     cycle first
     then b.finished else finished_at buffer earlier cycle first
 
+-- the blocks of the article that was begun at this cycle and block, if one was
+abbrev pub begun_at : Buffer → List Begin → (cycle first : ℕ) → Option ℕ
+begun_at buffer [] cycle first = None
+begun_at buffer (b ∷ earlier) cycle first =
+    if is_at buffer (place_after buffer.blocks (head_of buffer.blocks earlier) b.fresh b.size)
+    cycle first
+    then Some b.size else begun_at buffer earlier cycle first
+
 -- the text of an article of this class and length
 abbrev pub text_of : (class octets : ℕ) → Option Article → Option (List ℕ)
 text_of class octets None = None

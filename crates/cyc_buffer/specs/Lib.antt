@@ -2,6 +2,8 @@ pub mod Agreement
 pub mod Answers
 pub mod Arming
 pub mod Calls
+pub mod Crash
+pub mod FoundHistory
 pub mod Head
 pub mod History
 pub mod Look
@@ -10,7 +12,9 @@ pub mod Progress
 pub mod Readings
 pub mod Reads
 pub mod BufferState
+pub mod Rejecting
 pub mod Remembered
 pub mod Restart
+pub mod Scanning
 pub mod Starting
 pub mod Stopped

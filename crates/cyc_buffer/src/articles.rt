@@ -26,7 +26,10 @@ pub(crate) struct Stretch {
 }
 
 /// The octets of a block.
-fn read_octets<S: BlockStore>(store: &mut S, block: u32) -> Result<[u8; BLOCK_OCTETS], StartError>
+pub(crate) fn read_octets<S: BlockStore>(
+    store: &mut S,
+    block: u32,
+) -> Result<[u8; BLOCK_OCTETS], StartError>
     requires { block < length (S.blocks store.old) }
     ensures { ReadsOctets S.BlockStore store.old store.new (block_at (S.blocks store.old) block)
         result }
@@ -58,7 +61,7 @@ fn token_of(octets: &[u8; BLOCK_OCTETS], buffer: u8, cycle: u32, first: u32) -> 
 }
 
 /// Whether the octets are an image of block k of the article under a token, as full as that is.
-fn is_image_under(octets: &[u8; BLOCK_OCTETS], token: &Token, k: u32) -> bool
+pub(crate) fn is_image_under(octets: &[u8; BLOCK_OCTETS], token: &Token, k: u32) -> bool
     ensures { IsTrue result ↔ IsImageUnder octets.now (token_view token.now) k }
 {
     let Some(image) = read_image(octets) else {

@@ -19,7 +19,7 @@ pub struct Buffer<S: BlockStore> {
     pub(crate) buffer_state: BufferState,
     /// The number of the stop that it was started from; 0 where it was made anew.
     pub(crate) stop: u64,
-    /// Head block 0 says that the buffer may change.
+    /// It has said in head block 0 that it may change.
     pub(crate) has_open_head: bool,
     ghost counted: { buffer_state.line.blocks ≡ length (S.blocks store) },
 }
@@ -47,11 +47,14 @@ pub struct Unformatted<S: BlockStore> {
 
 impl<S: BlockStore> Buffer<S> {
     ghost use Rattle.std.specs.Prelude.{◌≡◌, ◌≤◌, ◌+◌, ◌↔◌, length, Bool, true, false, Some, IfOk};
-    ghost use Rattle.std.specs.Prelude.{IfErr, IsTrue, OnOk, OnErr};
+    ghost use Rattle.std.specs.Prelude.{◌⊎◌, IfErr, IsTrue, OnOk, OnErr};
     ghost use Rattle.cyc_token.specs.Token.{token_view};
     ghost use Rattle.cyc_buffer.specs.Agreement.{Agrees, Follows, Owns, store_of, buffer_state_of};
     ghost use Rattle.cyc_buffer.specs.Agreement.{blocks_written, is_broken, length_of, token_of};
     ghost use Rattle.cyc_buffer.specs.Agreement.{CanWrite, CanFinish};
+    ghost use Rattle.news_terms.specs.Token as terms;
+    ghost use Rattle.news_terms.specs.Places.{IsLive, on_line};
+    ghost use Rattle.cyc_buffer.specs.Crash.{IsLeftOf, IsWrittenWhole};
     ghost use Rattle.cyc_buffer.specs.Answers.{refusal, error_of, front_view, IsDeviceFault};
     ghost use Rattle.cyc_buffer.specs.Calls.{LeavesDevice, WritesNext, ReadsBlock};
     ghost use Rattle.cyc_buffer.specs.History.{History, new_history, with_begin, with_finish};
@@ -152,6 +155,13 @@ impl<S: BlockStore> Buffer<S> {
         ensures head { has_open_head self.new ≡ has_open_head self.old }
         // The device isn't called.
         ensures store { store_of self.new ≡ store_of self.old }
+        // What a crash may have left before it, it may leave behind it, but for what is passed.
+        ensures leaves { OnOk result ((h : History) (kept later : terms.Token → Bool)
+            → Agrees true self.old h → IsLeftOf h kept (S.blocks (store_of self.old))
+            → ((t : terms.Token) → later t ≡ true → (kept t ≡ true)
+            × IsLive h.buffer.blocks (front_of (with_begin class length fresh h))
+            (on_line h.buffer.blocks t.cycle t.first))
+            → IsLeftOf (with_begin class length fresh h) later (S.blocks (store_of self.new))) }
     {
         self.buffer_state.begin(class, length, fresh)
     }
@@ -175,6 +185,16 @@ impl<S: BlockStore> Buffer<S> {
         ensures starts { AddsNoStart self.old self.new }
         ensures device { LeavesDevice self.old result self.new }
         ensures head { has_open_head self.new ≡ has_open_head self.old }
+        // What a crash may have left before it, it may leave behind it. A write that failed has to
+        // leave its block as it was, or as one of the article.
+        ensures leaves { (h : History) (kept : terms.Token → Bool) → Agrees true self.old h
+            → IsLeftOf h kept (S.blocks (store_of self.old))
+            → OnOk result (IsLeftOf h kept (S.blocks (store_of self.new))) }
+        ensures leaves_failed { (h : History) (kept : terms.Token → Bool) → Agrees true self.old h
+            → IsLeftOf h kept (S.blocks (store_of self.old))
+            → IsWrittenWhole h.buffer (S.blocks (store_of self.old)) (S.blocks (store_of self.new))
+            (token_view (token_of write.now)) (blocks_written self.old)
+            → IsLeftOf h kept (S.blocks (store_of self.new)) }
     {
         let stamp = self.buffer_state.next_stamp(write);
         prove!(stamp.first < self.buffer_state.line.blocks);
@@ -210,6 +230,13 @@ impl<S: BlockStore> Buffer<S> {
         ensures head { has_open_head self.new ≡ has_open_head self.old }
         // The device isn't called.
         ensures store { store_of self.new ≡ store_of self.old }
+        // What a crash may have left before it, it may leave behind it, and from now on it leaves
+        // the article that was finished, too.
+        ensures leaves { (h : History) (kept later : terms.Token → Bool) → Agrees true self.old h
+            → IsLeftOf h kept (S.blocks (store_of self.old))
+            → ((t : terms.Token) → later t ≡ true
+            → (kept t ≡ true) ⊎ (t ≡ token_view (token_of write)))
+            → IsLeftOf (with_finish h) later (S.blocks (store_of self.new)) }
     {
         self.buffer_state.finish(write)
     }
@@ -223,6 +250,9 @@ impl<S: BlockStore> Buffer<S> {
         ensures head { has_open_head self.new ≡ has_open_head self.old }
         // The device isn't called.
         ensures store { store_of self.new ≡ store_of self.old }
+        ensures leaves { (h : History) (kept : terms.Token → Bool)
+            → IsLeftOf h kept (S.blocks (store_of self.old))
+            → IsLeftOf (without_write h) kept (S.blocks (store_of self.new)) }
     {
         let owned = self.buffer_state.owns(&write);
         let Open { token: _ } = write;

@@ -5,6 +5,7 @@ ghost use Rattle.cyc_buffer.specs.Progress.{start_of, end_of, open_count};
 use crate::answers::{BufError, Fault, FaultKind, Front};
 use crate::line::{Line, Place, size_of};
 use crate::marks::Marks;
+use crate::stamping::stamp_at;
 use cyc_block::{HeadNumbers, HeadState, Stamp};
 use cyc_token::Token;
 use std::alloc::{AllocError, Global};
@@ -278,7 +279,7 @@ impl BufferState {
     }
 
     /// Clears the marks of the blocks from one up to another.
-    fn unmark(&mut self, from: u32, to: u32)
+    pub(crate) fn unmark(&mut self, from: u32, to: u32)
         requires { to ≤ self.old.line.blocks }
         ensures starts { (j : ℕ) → is_marked self.new.starts.words.items j
             ≡ marked_after from to false j (is_marked self.old.starts.words.items j) }
@@ -335,18 +336,14 @@ impl BufferState {
         ensures stamp { result ≡ stamp_of write.now.token (written_of self.now.progress) }
         ensures within { write.now.token.first + written_of self.now.progress
             < self.now.line.blocks }
+        ensures fits { (result.cycle < 2 ^ 32) × (result.first < 2 ^ 32) × (result.index < 2 ^ 32) }
     {
         let index = match self.progress {
             Some(progress) => progress.written,
             None => unreachable!(),
         };
-        Stamp {
-            cycle: write.token.cycle,
-            first: write.token.first,
-            index,
-            article_length: write.token.length,
-            class: write.token.class,
-        }
+        let token = write.token;
+        stamp_at(token.cycle, token.first, index, token.length, token.class)
     }
 
     /// One more block is written; whether it was the last.
@@ -391,6 +388,8 @@ impl BufferState {
             (is_marked self.old.starts.words.items j) }
         ensures line { self.new.line ≡ self.old.line }
         ensures progress { self.new.progress ≡ None }
+        ensures cycle { write.token.cycle < 2 ^ 32 }
+        ensures end { write.token.first + size_of write.token.length < 2 ^ 32 }
     {
         let Open { token } = write;
         let Token { first, length, .. } = token;

@@ -5,7 +5,7 @@ ghost use Rattle.std.specs.Prelude.{OnErr, OnOk};
 ghost use Rattle.news_terms.specs.HeadBlocks.{Open, head_blocks, head_image as image_of};
 ghost use Rattle.cyc_block.specs.Store.{block_at};
 ghost use Rattle.cyc_buffer.specs.Agreement.{Agrees, Follows, buffer_state_of, store_of};
-ghost use Rattle.cyc_buffer.specs.Head.{LeavesBuffer, has_open_head, is_busy, stop_of};
+ghost use Rattle.cyc_buffer.specs.Head.{LeavesBlocks, LeavesBuffer, has_open_head, is_busy, stop_of};
 ghost use Rattle.cyc_buffer.specs.History.{History};
 ghost use Rattle.cyc_buffer.specs.Marks.{is_marked};
 ghost use Rattle.cyc_buffer.specs.Reads.{IsBlamed};
@@ -65,6 +65,7 @@ impl<S: BlockStore> Buffer<S> {
         ensures buffer_state { buffer_state_of self.new ≡ buffer_state_of self.old }
         ensures count { length (S.blocks (store_of self.new))
             ≡ length (S.blocks (store_of self.old)) }
+        ensures blocks { LeavesBlocks ⟦<S as BlockStore>⟧ (store_of self.old) (store_of self.new) }
     {
         if let Err(error) = self.write_heads(stop) {
             return Err(RestartError::Stop(error));

@@ -20,7 +20,7 @@ use std::alloc::Global;
 /// A buffer that was started.
 #[derive(Drop)]
 pub struct Started<S: BlockStore> {
-    /// The buffer, whose head block says closed yet.
+    /// The buffer, whose head block still says what it said.
     pub buffer: Unopened<S>,
     /// The number of the stop that it was started from.
     pub stop: u64,

@@ -44,6 +44,8 @@ impl<S: BlockStore> Buffer<S> {
         ensures honest { IfOk result (λ store. S.honest (store_of self) → S.honest store) }
         ensures count { IfOk result (λ store.
             length (S.blocks store) ≡ length (S.blocks (store_of self))) }
+        ensures blocks { IfOk result (λ store.
+            LeavesBlocks ⟦<S as BlockStore>⟧ (store_of self) store) }
         // The device is called once for each head block, and has not failed.
         ensures calls { IfOk result (λ store. S.calls store
             ≡ S.calls (store_of self) + head_blocks (length (S.blocks (store_of self)))) }

@@ -1,20 +1,24 @@
 //! A started buffer before its head is open: it begins nothing.
-ghost use Rattle.std.specs.Prelude.{◌≡◌, ◌<◌, ◌+◌, true, length, IfErr, IfOk};
-ghost use Rattle.news_terms.specs.HeadBlocks.{Open, head_image as image_of};
+ghost use Rattle.std.specs.Prelude.{◌≡◌, ◌<◌, ◌+◌, Bool, true, length, IfErr, IfOk, OnOk};
+ghost use Rattle.news_terms.specs.HeadBlocks.{Open, head_blocks, head_image as image_of};
+ghost use Rattle.news_terms.specs.Token as terms;
 ghost use Rattle.cyc_block.specs.Store.{block_at, ChangesOnly};
 ghost use Rattle.cyc_buffer.specs.Agreement.{Agrees, Follows, store_of, buffer_state_of};
 ghost use Rattle.cyc_buffer.specs.Calls.{ReadsBlock};
+ghost use Rattle.cyc_buffer.specs.Crash.{IsLeftOf};
 ghost use Rattle.cyc_buffer.specs.Head.{has_open_head, inside, stop_of, LeavesBlocks, LeavesBuffer};
+ghost use Rattle.cyc_buffer.specs.Head.{IsInOrder, IsStopRefusal, is_busy};
 ghost use Rattle.cyc_buffer.specs.History.{History};
 ghost use Rattle.cyc_buffer.specs.Reads.{StaysHeld};
-ghost use Rattle.cyc_buffer.specs.Stopped.{numbers_of};
+ghost use Rattle.cyc_buffer.specs.Stopped.{HoldsStopped, numbers_of};
 
 use crate::answers::{BufError, Found};
 use crate::buffer::Buffer;
 use cyc_block::{BlockStore, CHUNK_OCTETS};
 use cyc_token::Token;
 
-/// A started buffer whose head block says closed yet.
+/// A started buffer whose head block still says what it said: closed, or, where the buffer was not
+/// stopped but found again, open.
 pub struct Unopened<S: BlockStore> {
     pub(crate) buffer: Buffer<S>,
 }
@@ -24,6 +28,15 @@ impl<S: BlockStore + Drop> Drop for Unopened<S> {
     fn drop(self) {
         let Unopened { buffer: _ } = self;
     }
+}
+
+/// A buffer whose head blocks aren't written as closed, and why.
+#[derive(Drop)]
+pub struct Unshut<S: BlockStore> {
+    /// The buffer, as it was, though its head blocks may say anything; it gives the store.
+    pub buffer: Unopened<S>,
+    /// A write is open, or the device failed.
+    pub error: BufError,
 }
 
 impl<S: BlockStore> Unopened<S> {
@@ -56,6 +69,52 @@ impl<S: BlockStore> Unopened<S> {
         ensures stop { stop_of (inside self.new) ≡ stop_of (inside self.old) }
     {
         self.buffer.read_block(token, k, chunk)
+    }
+
+    /// Says on the device what the buffer is, as a stop does, and gives the store: so a start finds
+    /// it that was found again without one.
+    pub fn shut(self, stop: u64) -> Result<S, Unshut<S>>
+        // The store holds the buffer, as stopped under this number, with each history.
+        ensures held { IfOk result (λ store. (h : History) → Agrees true (inside self) h
+            → HoldsStopped (S.heads store) (S.blocks store) stop h) }
+        ensures rest { IfOk result (λ store.
+            LeavesBlocks ⟦<S as BlockStore>⟧ (store_of (inside self)) store) }
+        // The device is called once for each head block, and has not failed.
+        ensures calls { IfOk result (λ store. S.calls store ≡ S.calls (store_of (inside self))
+            + head_blocks (length (S.blocks (store_of (inside self))))) }
+        ensures no_failure { IfOk result (λ store.
+            S.failures store ≡ S.failures (store_of (inside self))) }
+        // Refused while a write is open, and else only where the device failed.
+        ensures refusal { IfErr result (λ refused.
+            IsStopRefusal (inside self) refused.error (inside refused.buffer)) }
+        ensures busy { is_busy (inside self) ≡ true → OnOk result ⊥ }
+        // Refused, the buffer is as it was; where head block 0 is another, the bitmap is there.
+        ensures same { IfErr result (λ refused.
+            Follows (λ h. h) (inside self) (inside refused.buffer)) }
+        ensures left { IfErr result (λ refused.
+            LeavesBuffer (inside self) (inside refused.buffer)) }
+        ensures order { IfErr result (λ refused. S.honest (store_of (inside self))
+            → IsInOrder (inside self) (inside refused.buffer)) }
+        // Whether it is or not, what a crash may have left before it, it may leave behind it.
+        ensures leaves { IfOk result (λ store. S.honest (store_of (inside self)) → (h : History)
+            (kept : terms.Token → Bool) → IsLeftOf h kept (S.blocks (store_of (inside self)))
+            → IsLeftOf h kept (S.blocks store)) }
+        ensures leaves_refused { IfErr result (λ refused. S.honest (store_of (inside self))
+            → (h : History) (kept : terms.Token → Bool)
+            → IsLeftOf h kept (S.blocks (store_of (inside self)))
+            → IsLeftOf h kept (S.blocks (store_of (inside refused.buffer)))) }
+    {
+        let Unopened { buffer } = self;
+        let mut buffer = buffer;
+        // The bitmap has to be on the device before a head that says closed, which would vouch for
+        // one that was never written.
+        match buffer.write_heads(stop) {
+            Ok(()) => Ok(buffer.into_store()),
+            Err(error) => {
+                let buffer = Unopened { buffer };
+                Err(Unshut { buffer, error })
+            }
+        }
     }
 
     /// Says on the device that the buffer may change from here, and from which stop it was started.

@@ -6,6 +6,7 @@ use Rattle.cyc_buffer.specs.BufferState.{Writes, IsUnpassed}
 use Rattle.cyc_buffer.specs.declared.line.Line.{Line}
 use Rattle.cyc_buffer.specs.declared.buffer_state.Progress.{Progress}
 use Rattle.cyc_buffer.proofs.Contents.{no_open}
+use Rattle.cyc_buffer.proofs.CrashWrites.{left_writing}
 use Rattle.cyc_buffer.proofs.Writes.{keeps_stays}
 use Rattle.cyc_buffer.proofs.buffer.Buffer.abandon.Goals as goal
 
@@ -30,3 +31,10 @@ returns-then-owned-clause-abandoned g c owned trusted h agrees =
 pub returns-else-owned-clause-abandoned : goal.returns-else-owned-clause-abandoned
 returns-else-owned-clause-abandoned g c owned =
     absurd (false≢true (sym c.if-owned.false ∙ c.owns-owned.ensures.1 owned))
+
+-- what is left has nothing to do with the open write
+pub returns-then-owned-clause-leaves : goal.returns-then-owned-clause-leaves
+returns-then-owned-clause-leaves g c h kept left = left_writing h kept _ None left
+
+pub returns-else-owned-clause-leaves : goal.returns-else-owned-clause-leaves
+returns-else-owned-clause-leaves g c h kept left = left_writing h kept _ None left

@@ -8,7 +8,7 @@ use Rattle.cyc_buffer.specs.declared.answers.FaultKind.TheVariants as kinds
 use Rattle.cyc_buffer.specs.declared.buffer_state.BufferState.{BufferState}
 use Rattle.cyc_buffer.specs.Head.{is_busy}
 use Rattle.cyc_buffer.proofs.Refusals.{blamed_on}
-use Rattle.cyc_buffer.proofs.StopLemmas.{same_numbers, still_agrees}
+use Rattle.cyc_buffer.proofs.StopLemmas.{leaves_twice, same_numbers, still_agrees}
 use Rattle.cyc_buffer.proofs.buffer.Buffer.restart.Goals as goal
 
 -- what was stopped wasn't busy
@@ -34,6 +34,7 @@ returns-in-Err g c =
       same = was.same;
       buffer_state = was.rest.buffer_state;
       count = was.rest.store.count;
+      blocks = was.rest.store;
     }
 
 -- neither a stop that is read back nor a head block that is written changes what it agrees with
@@ -63,6 +64,7 @@ returns-in-Err-read_back g c =
           trusted h (was.same trusted h agrees);
       buffer_state = back.rest.buffer_state ∙ was.rest.buffer_state;
       count = back.rest.store.count ∙ was.rest.store.count;
+      blocks = leaves_twice _ _ _ _ was.rest.store back.rest.store;
     }
 
 pub returns-in-Err-write_head : goal.returns-in-Err-write_head
@@ -93,6 +95,8 @@ returns-in-Err-write_head g c =
           (was.same trusted h agrees));
       buffer_state = head.rest.buffer_state ∙ state;
       count = head.rest.store.count ∙ back.rest.store.count ∙ was.rest.store.count;
+      blocks = leaves_twice _ _ _ _ (leaves_twice _ _ _ _ was.rest.store back.rest.store)
+          head.rest.store;
     }
 
 pub returns : goal.returns
@@ -131,4 +135,6 @@ returns g c =
           record { keeps = left.keeps; honest = left.honest; holds = left.holds };
       buffer_state = head.rest.buffer_state ∙ state;
       count = head.rest.store.count ∙ back.rest.store.count ∙ was.rest.store.count;
+      blocks = leaves_twice _ _ _ _ (leaves_twice _ _ _ _ was.rest.store back.rest.store)
+          head.rest.store;
     }

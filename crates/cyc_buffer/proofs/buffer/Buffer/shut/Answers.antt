@@ -1,5 +1,6 @@
 -- The store of a stopped buffer holds what the buffer's did.
 use Rattle.std.proofs.Common.{◌∙◌, ap, length, subst, sym}
+use Rattle.cyc_buffer.specs.Head.{LeavesBlocks}
 use Rattle.cyc_buffer.specs.Stopped.{HoldsStopped}
 use Rattle.cyc_buffer.proofs.buffer.Buffer.shut.Goals as goal
 
@@ -12,6 +13,7 @@ returns-in-Ok g c =
           (g.S.BlockStore.blocks s) c.args.stop h) (sym given) (was.held h agrees);
       honest = λ is. subst g.S.BlockStore.honest (sym given) (was.rest.store.honest is);
       count = ap (λ s. length (g.S.BlockStore.blocks s)) given ∙ was.rest.store.count;
+      blocks = subst (LeavesBlocks g.S.BlockStore c.args.self.store) (sym given) was.rest.store;
       calls = ap g.S.BlockStore.calls given ∙ was.calls;
       no_failure = ap g.S.BlockStore.failures given ∙ was.no_failure;
       refusal = tt;
@@ -29,6 +31,7 @@ returns-in-Err g c =
       held = tt;
       honest = tt;
       count = tt;
+      blocks = tt;
       calls = tt;
       no_failure = tt;
       refusal = was.refusal;

@@ -1,8 +1,9 @@
 -- A write of the next block, and what its failure leaves.
 use Rattle.std.proofs.Common.{◌≡◌, ◌<◌, ◌∙◌, ◌+◌, ◌==◌, ℕ, true, length, arith, ap, subst, sym}
-use Rattle.std.proofs.Common.{refl, Option, None, Some}
+use Rattle.std.proofs.Common.{refl, Option, None, Some, ◌^◌, inl, inr}
+use Rattle.std.proofs.lemmas.Bool.{cases_eq}
 use Rattle.news_terms.specs.Places.{Buffer, size_of}
-use Rattle.cyc_block.specs.Store.{ChangesOnly}
+use Rattle.cyc_block.specs.Store.{ChangesOnly, block_at}
 use Rattle.cyc_block.specs.declared.image.Stamp.{Stamp}
 use Rattle.cyc_buffer.specs.Marks.{is_marked}
 use Rattle.cyc_buffer.specs.Answers.{fault_of}
@@ -16,6 +17,7 @@ use Rattle.cyc_buffer.specs.declared.line.Line.{Line}
 use Rattle.cyc_buffer.specs.declared.marks.Marks.{Marks}
 use Rattle.cyc_buffer.proofs.Writes.{chunk_length, counted_on, fails_by, next_by, image_there}
 use Rattle.cyc_buffer.proofs.Writes.{with_error, without_error}
+use Rattle.cyc_buffer.proofs.CrashWrites.{left_same, left_write, newest_open, one_image, written_piece}
 use Rattle.cyc_buffer.proofs.buffer.Buffer.write_next.Goals as goal
 
 pub block_image-image-requires-clause-some : goal.block_image-image-requires-clause-some
@@ -102,6 +104,26 @@ returns-then-is_err g c =
         blocks = c.write.ensures.count;
       };
       head = refl;
+      leaves = λ h kept agrees left. tt;
+      leaves_failed = λ h kept agrees left whole.
+          let old = c.args.self.now.buffer_state in
+          let blocks = g.S.BlockStore.blocks c.args.self.now.store in
+          let after = g.S.BlockStore.blocks c.write.new.self in
+          let token = c.args.write.now.token in
+          let k = written_of old.progress in
+          let here = ap (λ (s : Stamp). s.first + s.index) c.next_stamp-stamp.ensures.stamp in
+          let others = subst (λ n. ChangesOnly n blocks after) here
+          (c.write.ensures.others (agrees.honest refl)) in
+          elim whole [
+            | inl same ↦ left_same h kept blocks after c.write.ensures.count
+                (λ j. elim (cases_eq j (token.first + k)) [
+                  | inl e ↦ subst (λ m. block_at after m ≡ block_at blocks m) (sym e) same
+                  | inr n ↦ others j n
+                ]) left
+            | inr piece ↦ left_write one_image h kept blocks after agrees.keeps.sizes left token
+                (newest_open h c.args.write.now old.progress h.writing agrees.keeps.writing
+                c.requires.owned) k c.write.ensures.count piece others
+          ];
     }
 
 pub returns : goal.returns
@@ -155,4 +177,50 @@ returns g c = record {
     blocks = c.write.ensures.count;
   };
   head = refl;
+  leaves = λ h kept agrees left.
+      let old = c.args.self.now.buffer_state in
+      let blocks = g.S.BlockStore.blocks c.args.self.now.store in
+      let after = g.S.BlockStore.blocks c.write.new.self in
+      let token = c.args.write.now.token in
+      let k = written_of old.progress in
+      let here = ap (λ (s : Stamp). s.first + s.index) c.next_stamp-stamp.ensures.stamp in
+      let fits = subst (λ (s : Stamp). (s.cycle < 2 ^ 32) × (s.first < 2 ^ 32)
+      × (s.index < 2 ^ 32)) c.next_stamp-stamp.ensures.stamp c.next_stamp-stamp.ensures.fits in
+      let newest = newest_open h c.args.write.now old.progress h.writing agrees.keeps.writing
+      c.requires.owned in
+      let image = image_there blocks after c.next_stamp-stamp.result token k
+      c.block_image-image.result c.chunk_of.result.now c.args.text.now
+      (without_error c.write.result (sym c.is_err.ensures.value ∙ c.if-is_err.false)
+      (c.write.ensures.written (agrees.honest refl)))
+      (omega (arith, here, c.next_stamp-stamp.ensures.within, c.args.self.now.counted))
+      c.next_stamp-stamp.ensures.stamp c.block_image-image.ensures c.chunk_of.ensures in
+      left_write one_image h kept blocks after agrees.keeps.sizes left token newest k
+      c.write.ensures.count
+      (written_piece h agrees.keeps.sizes token newest after k c.args.text.now c.requires.octets
+      c.requires.left fits.0 fits.1 fits.2 image)
+      (subst (λ n. ChangesOnly n blocks after) here
+      (c.write.ensures.others (agrees.honest refl)));
+  leaves_failed = λ h kept agrees left whole.
+      let old = c.args.self.now.buffer_state in
+      let blocks = g.S.BlockStore.blocks c.args.self.now.store in
+      let after = g.S.BlockStore.blocks c.write.new.self in
+      let token = c.args.write.now.token in
+      let k = written_of old.progress in
+      let here = ap (λ (s : Stamp). s.first + s.index) c.next_stamp-stamp.ensures.stamp in
+      let fits = subst (λ (s : Stamp). (s.cycle < 2 ^ 32) × (s.first < 2 ^ 32)
+      × (s.index < 2 ^ 32)) c.next_stamp-stamp.ensures.stamp c.next_stamp-stamp.ensures.fits in
+      let newest = newest_open h c.args.write.now old.progress h.writing agrees.keeps.writing
+      c.requires.owned in
+      let image = image_there blocks after c.next_stamp-stamp.result token k
+      c.block_image-image.result c.chunk_of.result.now c.args.text.now
+      (without_error c.write.result (sym c.is_err.ensures.value ∙ c.if-is_err.false)
+      (c.write.ensures.written (agrees.honest refl)))
+      (omega (arith, here, c.next_stamp-stamp.ensures.within, c.args.self.now.counted))
+      c.next_stamp-stamp.ensures.stamp c.block_image-image.ensures c.chunk_of.ensures in
+      left_write one_image h kept blocks after agrees.keeps.sizes left token newest k
+      c.write.ensures.count
+      (written_piece h agrees.keeps.sizes token newest after k c.args.text.now c.requires.octets
+      c.requires.left fits.0 fits.1 fits.2 image)
+      (subst (λ n. ChangesOnly n blocks after) here
+      (c.write.ensures.others (agrees.honest refl)));
 }
