@@ -1,7 +1,7 @@
--- A begin, in the histories of the buffers and in what the buffer set keeps, by what the code finds
--- on its way: the group, its pick with the number, and the buffer.
+-- A begin, in what the buffer set keeps, by what the code finds on its way: the group, its pick
+-- with the number, and the buffer.
 use Rattle.std.proofs.Common.{◌≡◌, ◌∙◌, ℕ, ◌<◌, ◌≤◌, nat_lt, Bool, false, refl, sym, ap}
-use Rattle.std.proofs.Common.{arith, length, map, List, [], ◌∷◌, ◌++◌, Option, None, Some, All}
+use Rattle.std.proofs.Common.{arith, length, map, List, [], ◌∷◌, Option, None, Some, All}
 use Rattle.std.proofs.Common.{slice_get, length-set, option_map, slice_set}
 use Rattle.std.proofs.lemmas.Bool.{ltb-false}
 use Rattle.std.proofs.lemmas.Bool.Decides.{nat_tests}
@@ -9,17 +9,14 @@ use Rattle.std.proofs.lemmas.List.Elements.{All-append, All-cons, All-nil}
 use Rattle.std.proofs.lemmas.List.{set-get_or}
 use Rattle.std.proofs.lemmas.Option.{get_or_from_slice_get, none-some, same_Some, slice_get-map}
 use Rattle.std.proofs.lemmas.Option.{slice_get_within}
-use Rattle.std.specs.List.{AllByRecursion}
 use Rattle.std.specs.Prelude.{option_and_then}
 use Rattle.std.specs.Vec.{with_item}
 use Rattle.buffer_group.specs.Groups.{KeepsPlaces, pick_view}
 use Rattle.buffer_group.specs.declared.group.Group as groups
 use Rattle.cyc_block.specs.declared.store.BlockStore.{Ghosts}
-use Rattle.cyc_buffer.proofs.Finished.{lies, not_at_next}
 use Rattle.cyc_buffer.specs.Agreement as buffers
 use Rattle.cyc_buffer.specs.Agreement.{Agrees, Follows, store_of, buffer_state_of}
 use Rattle.cyc_buffer.specs.Answers.{refusal}
-use Rattle.cyc_buffer.specs.BufferState.{IsSized}
 use Rattle.cyc_buffer.specs.History as histories
 use Rattle.cyc_buffer.specs.History.{History, Article, asked, finished_at, is_at, next_cycle}
 use Rattle.cyc_buffer.specs.History.{open_token, with_begin}
@@ -27,25 +24,26 @@ use Rattle.cyc_buffer.specs.declared.answers.BufError.{BufError}
 use Rattle.cyc_buffer.specs.declared.buffer.Buffer.{Buffer}
 use Rattle.cyc_buffer.specs.declared.buffer_state.Open.{Open}
 use Rattle.cyc_token.specs.Token.{token_view}
-use Rattle.news_terms.proofs.PickedBegins.{begins_here, begins_elsewhere}
-use Rattle.news_terms.proofs.PickedPlaces.{picked_places, pick_within}
-use Rattle.news_terms.specs.Fronts.{FitsGroup}
+use Rattle.news_terms.proofs.BufferArticles.{next_in}
+use Rattle.news_terms.proofs.CourseLaws.{articles_next, next_laid, next_some, pick_within}
+use Rattle.news_terms.specs.Courses.{Course, IsLaid, course_next, pick_in}
+use Rattle.news_terms.specs.Courses.{place_next}
+use Rattle.news_terms.specs.Fronts.{FitsGroup, HasOwnNumbers}
 use Rattle.news_terms.specs.Picks as picks
-use Rattle.news_terms.specs.Picks.{pick_of, begins_in}
 use Rattle.news_terms.specs.Places as places
-use Rattle.news_terms.specs.Places.{Group, Place, place_in_buffer, size_of, last_cycle}
+use Rattle.news_terms.specs.Places.{Extent, Group, Place, place_in_buffer, size_of, last_cycle}
 use Rattle.news_terms.specs.Settings.{IsBufferAt}
 use Rattle.news_terms.specs.Token.{Token}
 use Rattle.news_terms.proofs.ListPlaces.{holds_at, there_within}
-use Rattle.relay_facts.proofs.Puts.{put_at_here, put_at_there, put_at_both}
-use Rattle.relay_model.specs.State.{Kept, put_at}
+use Rattle.relay_model.specs.State.{Kept}
 use Rattle.relay_model.specs.Terms.{Terms}
+use Rattle.block_shelf.proofs.BegunHistories.{begun_more, begun_texts, courses_after, more_here}
+use Rattle.block_shelf.proofs.BegunHistories.{more_there, other_begins, own_numbers, picked_begins}
 use Rattle.block_shelf.proofs.Shelving.{KeptAt, buffers_kept, groups_kept, kept_at, only_there}
 use Rattle.block_shelf.proofs.Shelving.{opened_after, past_last, put_both, replaced, stands, still}
 use Rattle.block_shelf.proofs.Shelving.{with_buffer}
 use Rattle.block_shelf.proofs.Writings.{is_free, just_begun, untouched, writing_here}
 use Rattle.block_shelf.specs.Calls.{BegunAs, CanBegin, KeepsAll, place_in, token_at}
-use Rattle.block_shelf.specs.Histories.{HasBegins, HasTexts}
 use Rattle.block_shelf.specs.Keeping.{KeepsTexts, KeepsPlacedGroup}
 use Rattle.block_shelf.specs.Openings.{Opening, IsOpen}
 use Rattle.block_shelf.specs.Picking.{IsPicked}
@@ -53,74 +51,6 @@ use Rattle.block_shelf.specs.Starting.{PlacedGroupsKeep}
 use Rattle.block_shelf.specs.declared.buffer_set.PlacedGroup.{PlacedGroup}
 use Rattle.block_shelf.specs.declared.buffer_set.BufferSet.{BufferSet}
 use Rattle.block_shelf.specs.declared.picking.Place as code_places
-
--- THE HISTORIES
-
--- the sizes begun, one more of them in a group
-abbrev begun_more : (ℕ → List ℕ) → (g size : ℕ) → ℕ → List ℕ
-begun_more begun g size = put_at begun g (begun g ++ size ∷ [])
-
-module _ {groups : List Group} {begun : ℕ → List ℕ} (g : ℕ) {group : Group} (class octets : ℕ)
-    (there : slice_get groups g ≡ Some group) {h : History} (has : HasBegins groups begun h) where
-  -- the size
-  abbrev size_begun : ℕ
-  size_begun = size_of octets
-
-  -- the buffer that is picked
-  abbrev index : ℕ
-  index = (pick_of group (begun g) size_begun).index
-
-  -- the history of the buffer that was picked has one begin more
-  picked_begins : slice_get group.buffers index ≡ Some h.buffer
-      → ((k j : ℕ) → IsBufferAt groups k j h.buffer → (k ≡ g) × (j ≡ index))
-      → HasBegins groups (begun_more begun g size_begun)
-      (with_begin class octets (pick_of group (begun g) size_begun).fresh h)
-  picked_begins here alone = record {
-    picked = λ k j other at is.
-        let same = alone k j (record { group = other; is_group = at; is_buffer = is }) in
-        let one : group ≡ other =
-        same_Some group other (sym there ∙ ap (slice_get groups) (sym same.0) ∙ at) in
-        ap (λ begins. (size_begun, (pick_of group (begun g) size_begun).fresh) ∷ begins)
-        (has.picked g index group there here ∙ ap (λ n. begins_in group n (begun g)) (sym same.1))
-        ∙ sym (begins_here group (begun g) size_begun j (sym same.1))
-        ∙ ap (begins_in group j) (sym (put_at_here begun g (begun g ++ size_begun ∷ []) k same.0))
-        ∙ ap (λ each. begins_in each j (begun_more begun g size_begun k)) one;
-    none = λ nobody. absurd (nobody g index
-        (record { group = group; is_group = there; is_buffer = here }));
-  }
-
-  -- that of every other buffer has what it had
-  other_begins : (slice_get group.buffers index ≡ Some h.buffer → ⊥)
-      → HasBegins groups (begun_more begun g size_begun) h
-  other_begins apart = record {
-    picked = λ k j other at is.
-        put_at_both (λ sizes. map asked h.begins ≡ begins_in other j sizes) begun g
-        (begun g ++ size_begun ∷ []) k
-        (λ same.
-        let one : other ≡ group =
-        same_Some other group (sym at ∙ ap (slice_get groups) same ∙ there) in
-        has.picked k j other at is ∙ ap (λ n. begins_in other j (begun n)) same
-        ∙ sym (begins_elsewhere other (begun g) size_begun j (λ turn. apart
-        (ap (λ (each : Group). slice_get each.buffers (pick_of each (begun g) size_begun).index)
-        (sym one) ∙ ap (slice_get other.buffers) turn ∙ is))))
-        (λ elsewhere. has.picked k j other at is);
-    none = has.none;
-  }
-
--- a begin leaves what is found under each token
-begun_texts : (kept : List Kept) (h : History) (class octets : ℕ) (fresh : Bool)
-    → AllByRecursion (IsSized h.buffer.blocks) h.begins → HasTexts kept h
-    → HasTexts kept (with_begin class octets fresh h)
-begun_texts kept h class octets fresh sized has token here =
-    let apart : (article : Article)
-    → finished_at h.buffer h.begins token.cycle token.first ≡ Some article
-    → is_at h.buffer (histories.next_place h fresh (size_of octets)) token.cycle token.first
-    ≡ false =
-    λ article is.
-    not_at_next h.buffer h.begins
-    (record { size = size_of octets; fresh = fresh; finished = None }) token.cycle token.first
-    article (lies h.buffer h.begins token.cycle token.first article sized is) in
-    grind (arith, apart) ∙ has token here
 
 -- WHERE NOTHING IS BEGUN
 
@@ -139,7 +69,7 @@ set_same xs i {x} is =
 module _ {S : Type 0} {g : Ghosts S} (old : BufferSet S g) (i : ℕ) {placed_group : PlacedGroup}
     (found : slice_get old.placed_groups.items i ≡ Some placed_group) where
   -- a group that was looked at and put back is where it was
-  pub same_groups : {w : Terms} {begun : ℕ → List ℕ}
+  pub same_groups : {w : Terms} {begun : ℕ → Course}
       → PlacedGroupsKeep old.placed_groups.items w begun
       → PlacedGroupsKeep (slice_set old.placed_groups.items i placed_group) w begun
   same_groups keep = rw (set_same old.placed_groups.items i found) keep
@@ -174,7 +104,7 @@ worn : (h : History) (octets : ℕ) (fresh : Bool) → size_of octets ≤ h.buff
 worn h octets fresh room free = (λ e is. grind (arith, nat_tests), λ is. grind (arith, nat_tests))
 
 module _ {S : Type 0} {g : Ghosts S} {trusted : Bool} {old : BufferSet S g} {w : Terms}
-    {begun : ℕ → List ℕ} {kept : List Kept} {openings : ℕ → Option Opening} {failures : ℕ → ℕ}
+    {begun : ℕ → Course} {kept : List Kept} {openings : ℕ → Option Opening} {failures : ℕ → ℕ}
     (keeps : KeepsTexts trusted old w begun kept openings failures) {h : ℕ} (class octets : ℕ)
     (can : CanBegin w h (size_of octets) openings) {i : ℕ} (is : i ≡ h) where
   abbrev size : ℕ
@@ -186,15 +116,27 @@ module _ {S : Type 0} {g : Ghosts S} {trusted : Bool} {old : BufferSet S g} {w :
 
   -- what the group picks
   abbrev pick : picks.Pick
-  pick = pick_of can.group (begun h) size
+  pick = pick_in can.group (begun h) size
+
+  -- the group's course is laid
+  laid_here : IsLaid can.group (begun h)
+  laid_here = keeps.laid h can.group can.there
+
+  -- it has a buffer
+  some_here : 0 < length can.group.buffers
+  some_here =
+      holds_at (λ (one : Group). 1 ≤ length one.buffers) w.groups keeps.sound.filled h can.group
+      can.there
+
+  -- its buffers have numbers of their own
+  numbers_here : HasOwnNumbers can.group
+  numbers_here = own_numbers keeps.sound h can.group can.there
 
   -- the group's buffer that is picked
   target : (b : places.Buffer) × (slice_get can.group.buffers pick.index ≡ Some b)
   target =
       there_within can.group.buffers pick.index
-      (pick_within can.group (begun h) size
-      (holds_at (λ (one : Group). 1 ≤ length one.buffers) w.groups keeps.sound.filled h can.group
-      can.there))
+      (pick_within can.group (begun h) laid_here some_here size)
 
   -- the code's group is there
   pub group_found : false ≡ nat_lt i (length old.placed_groups.items) → ⊥
@@ -217,13 +159,13 @@ module _ {S : Type 0} {g : Ghosts S} {trusted : Bool} {old : BufferSet S g} {w :
         (sym had.there ∙ ap (slice_get old.placed_groups.items) (sym is) ∙ found)) at had.keeps
 
     -- so there is a place for the article
-    pub has_place : ((group : Group) (sizes : List ℕ) → KeepsPlacedGroup placed_group group sizes
+    pub has_place : ((group : Group) (course : Course) → KeepsPlacedGroup placed_group group course
         → ⊥) → ⊥
     has_place none = none can.group (begun h) has_group
 
     module _ {to : code_places.Place}
-        (picks_as : (group : Group) (sizes : List ℕ) → KeepsPlacedGroup placed_group group sizes
-        → IsPicked group sizes size to) where
+        (picks_as : (group : Group) (course : Course) → KeepsPlacedGroup placed_group group course
+        → IsPicked group course size to) where
       is_picked : IsPicked can.group (begun h) size to
       is_picked = picks_as can.group (begun h) has_group
 
@@ -269,9 +211,9 @@ module _ {S : Type 0} {g : Ghosts S} {trusted : Bool} {old : BufferSet S g} {w :
 
         goes_there : place_in w h (begun h) size ≡ Some goes_to
         goes_there =
-            ap (option_and_then (λ (one : Group). places.next_place one (begun h) size)) can.there
-            ∙ picked_places can.group (begun h) (keeps.fit h can.group can.there) size can.fits
-            ∙ rw (here, ← at.said.begins.picked h pick.index can.group can.there here)
+            ap (option_and_then (λ (one : Group). place_next one (begun h) size)) can.there
+            ∙ next_in can.group (begun h) size now.buffer (map asked now.begins) here
+            (at.said.begins.picked h pick.index can.group can.there here)
 
         -- a begin is refused for its cycle alone
         in_time : ((e : BufError) → Some e ≡ refusal now octets pick.fresh
@@ -306,7 +248,7 @@ module _ {S : Type 0} {g : Ghosts S} {trusted : Bool} {old : BufferSet S g} {w :
         module _ {code' : Buffer S g} (write : Open) {moved : groups.Group}
             (same_store : store_of code' ≡ store_of code)
             (moves : KeepsPlaces placed_group.group can.group (begun h) → pick_view to.pick ≡ pick
-            → KeepsPlaces moved can.group (begun h ++ size ∷ []))
+            → KeepsPlaces moved can.group (course_next can.group (begun h) size))
             (takes : (t : Bool) (each : History) → Agrees t code each
             → None ≡ refusal each octets to.pick.fresh)
             (follows : (t : Bool) (each : History) → Agrees t code each
@@ -328,18 +270,18 @@ module _ {S : Type 0} {g : Ghosts S} {trusted : Bool} {old : BufferSet S g} {w :
           groups_after : PlacedGroupsKeep
               (slice_set old.placed_groups.items i
               (record { group = moved; numbers = placed_group.numbers }))
-              w (begun_more begun h size)
+              w (begun_more w.groups begun h size)
           groups_after = record {
             count = length-set old.placed_groups.items i _ ∙ keeps.placed_group_count;
             each = λ k each at_group.
                 let had = keeps.placed_groups k each at_group in
                 let now = put_both
-                (λ one. KeepsPlacedGroup one each (begun_more begun h size k))
+                (λ one. KeepsPlacedGroup one each (begun_more w.groups begun h size k))
                 old.placed_groups.items i k
                 (record { group = moved; numbers = placed_group.numbers }) had.there
                 (λ same.
                 rw (
-                  put_at_here begun h (begun h ++ size ∷ []) k (same ∙ is),
+                  more_here w.groups begun h size can.there k (same ∙ is),
                   same_Some each can.group
                       (sym at_group ∙ ap (slice_get w.groups) (same ∙ is) ∙ can.there),
                 )
@@ -348,23 +290,32 @@ module _ {S : Type 0} {g : Ghosts S} {trusted : Bool} {old : BufferSet S g} {w :
                   numbers = has_group.numbers;
                 }))
                 (λ apart.
-                rw (put_at_there begun h (begun h ++ size ∷ []) k (λ e. apart (e ∙ sym is)))
-                had.keeps) in
+                rw (more_there w.groups begun h size k (λ e. apart (e ∙ sym is))) had.keeps) in
                 record { code = now.0; there = now.1; keeps = now.2 };
           }
 
-          -- each size fits, the new one too
+          -- each article fits, the new one too
           fit_after : (k : ℕ) (each : Group) → slice_get w.groups k ≡ Some each
-              → All (FitsGroup each) (begun_more begun h size k)
-          fit_after k each at_group =
-              put_at_both (All (FitsGroup each)) begun h (begun h ++ size ∷ []) k
-              (λ same.
-              rw (same_Some each can.group
-              (sym at_group ∙ ap (slice_get w.groups) same ∙ can.there))
-              (All-append (FitsGroup can.group) (begun h) (size ∷ [])
+              → All (λ (one : Extent). FitsGroup each one.size)
+              (begun_more w.groups begun h size k).articles
+          fit_after =
+              let next = next_some can.group (begun h) laid_here some_here size in
+              let Fits : Group → Extent → Type 0 = λ group one. FitsGroup group one.size in
+              let one : Extent = record { place = next.0; size = size } in
+              courses_after w.groups begun h size can.there
+              (λ group course. All (Fits group) course.articles)
+              (rw (articles_next can.group (begun h) size next.0 next.1)
+              (All-append (Fits can.group) (begun h).articles (one ∷ [])
               (keeps.fit h can.group can.there)
-              (All-cons (FitsGroup can.group) size [] can.fits (All-nil (FitsGroup can.group)))))
-              (λ apart. keeps.fit k each at_group)
+              (All-cons (Fits can.group) one [] can.fits (All-nil (Fits can.group)))))
+              keeps.fit
+
+          -- the courses are laid, the new one too
+          laid_after : (k : ℕ) (each : Group) → slice_get w.groups k ≡ Some each
+              → IsLaid each (begun_more w.groups begun h size k)
+          laid_after =
+              courses_after w.groups begun h size can.there IsLaid
+              (next_laid can.group (begun h) size numbers_here laid_here can.fits) keeps.laid
 
           -- the article is begun, at the place that its group picked
           pub is_begun : (one : Place) × (place_in w h (begun h) size ≡ Some one)
@@ -396,7 +347,8 @@ module _ {S : Type 0} {g : Ghosts S} {trusted : Bool} {old : BufferSet S g} {w :
                 others = untouched (record {
                   was = λ other e. cc can.free;
                   now = λ other e. cc named_here;
-                  begins = λ other apart has. other_begins h class octets can.there has (λ picked.
+                  begins = λ other apart has.
+                      other_begins h class octets can.there has numbers_here (λ picked.
                       apart (ap (λ (b : places.Buffer). b.number)
                       (same_Some other.buffer now.buffer (sym picked ∙ here))));
                   texts = λ t apart. refl;
@@ -404,6 +356,7 @@ module _ {S : Type 0} {g : Ghosts S} {trusted : Bool} {old : BufferSet S g} {w :
                 });
                 unfailed = λ n apart. refl;
                 fit = fit_after;
+                laid = laid_after;
                 opened = opened_after keeps (λ other e.
                     rw (← same_Some (IsOpen token text 0) other e) (record {
                       index = pick.index;

@@ -118,7 +118,7 @@ module _ {S : Type 0} {g : Ghosts S} {trusted : Bool} {codes : List (Buffer S g)
       (at : KeptAt trusted w σ.begun σ.kept openings failures i code)
       → histories.front_of at.now ≡ fetches.front_of w σ at.now.buffer
   front_here {i} at =
-      fronts_agree w σ at.now are.sound are.fit are.numbered i at.there at.said.begins
+      fronts_agree w σ at.now are.sound are.laid are.numbered i at.there at.said.begins
 
   -- the front that a buffer of this place says
   pub fronts_are : (i : ℕ) {code : Buffer S g} (front : Front) → slice_get codes i ≡ Some code

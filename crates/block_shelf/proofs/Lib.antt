@@ -1,5 +1,6 @@
 pub mod Armed
 pub mod BegunBufferSet
+pub mod BegunHistories
 pub mod EachLemmas
 pub mod GivenBack
 pub mod HostFaults

@@ -13,6 +13,8 @@ use Rattle.buffer_group.specs.Groups.{blocks_in}
 use Rattle.cyc_block.specs.declared.store.BlockStore.{Ghosts}
 use Rattle.cyc_buffer.specs.History.{new_history}
 use Rattle.cyc_buffer.specs.declared.buffer.Buffer.{Buffer}
+use Rattle.news_terms.proofs.CourseLaws.{first_laid}
+use Rattle.news_terms.specs.Courses.{first_course}
 use Rattle.news_terms.specs.Fronts.{FitsGroup}
 use Rattle.news_terms.specs.Places as places
 use Rattle.news_terms.specs.Settings.{AreSound}
@@ -144,7 +146,7 @@ group_filled settings k group is =
 
 -- nothing is said of the history of a buffer in which nothing was begun
 pub new_said : (groups : List places.Group) (buffer : places.Buffer)
-    → IsHistoryOf groups (λ h. []) [] (λ h. None) (new_history buffer)
+    → IsHistoryOf groups (λ h. first_course) [] (λ h. None) (new_history buffer)
 new_said groups buffer = grind arith
 
 -- there are as many stores as buffers
@@ -206,7 +208,7 @@ module _ {S : Type 0} {g : Ghosts S} (settings : Buffers) (stores : List S)
 
   -- the buffer at each place keeps that nothing was begun
   new_buffer : (b : ℕ) (buffer : places.Buffer) → slice_get w.buffers b ≡ Some buffer
-      → HasBuffer trusted buffer_set.buffers.items w.groups (λ h. []) [] (λ h. None)
+      → HasBuffer trusted buffer_set.buffers.items w.groups (λ h. first_course) [] (λ h. None)
       (failures_in g stores) b buffer
   new_buffer b buffer at =
       let one = store_of_buffer b buffer at in
@@ -228,12 +230,14 @@ module _ {S : Type 0} {g : Ghosts S} (settings : Buffers) (stores : List S)
   pub nothing_kept : AreSound (places_of_buffers settings) (places_of_groups settings)
       → length buffer_set.placed_groups.items ≡ length settings.groups.items
       → AreNewPlacedGroups (places_of_groups settings) buffer_set.placed_groups.items
-      → KeepsTexts trusted buffer_set w (λ h. []) [] (λ h. None) (failures_in g stores)
+      → KeepsTexts trusted buffer_set w (λ h. first_course) [] (λ h. None)
+      (failures_in g stores)
   nothing_kept sound placed_groups_made placed_groups = record {
     sound = rw (all, groups) sound;
     numbered = λ b buffer at.
         ap (λ (each : places.Buffer). each.number) (store_of_buffer b buffer at).2;
-    fit = λ h group at. All-nil (FitsGroup group);
+    fit = λ h group at. All-nil (λ (one : places.Extent). FitsGroup group one.size);
+    laid = λ h group at. first_laid group;
     opened = λ h one is. absurd (none-some one is);
     count = over.count ∙ same_count g settings stores sized
         ∙ sym (ap length all ∙ buffers_count settings);

@@ -21,6 +21,7 @@ use Rattle.cyc_buffer.specs.declared.buffer.Buffer.{Buffer}
 use Rattle.cyc_buffer.specs.declared.buffer_state.Open.{Open}
 use Rattle.cyc_buffer.specs.declared.buffer_state.Progress.{Progress}
 use Rattle.cyc_token.specs.Token.{token_view}
+use Rattle.news_terms.specs.Courses.{Course}
 use Rattle.news_terms.specs.BlockImage.{chunk_size}
 use Rattle.news_terms.specs.Picks.{place_after}
 use Rattle.news_terms.specs.Places as places
@@ -92,7 +93,7 @@ is_writing : (token : Token) (text : List ℕ) (written : ℕ) (writing : Option
 is_writing token text written writing is = grind arith
 
 module _ {S : Type 0} {g : Ghosts S} {trusted : Bool} {old : BufferSet S g} {w : Terms}
-    {begun : ℕ → List ℕ} {kept : List Kept} {openings : ℕ → Option Opening} {failures : ℕ → ℕ}
+    {begun : ℕ → Course} {kept : List Kept} {openings : ℕ → Option Opening} {failures : ℕ → ℕ}
     (keeps : KeepsTexts trusted old w begun kept openings failures) {h : ℕ} where
   module _ {one : Opening} (is : openings h ≡ Some one) {i : ℕ}
       (number : i ≡ (token_in one).buffer) where
@@ -162,6 +163,7 @@ module _ {S : Type 0} {g : Ghosts S} {trusted : Bool} {old : BufferSet S g} {w :
             });
             unfailed = λ n apart. unfailed n (λ e. apart (e ∙ sym at.number));
             fit = keeps.fit;
+            laid = keeps.laid;
             opened = opened_after keeps (λ other e. record {
               index = (keeps.opened h one is).index;
               buffer = now.buffer;
@@ -344,7 +346,7 @@ module _ {S : Type 0} {g : Ghosts S} (old : BufferSet S g) (one : Begun) {i : �
       holds
 
 module _ {S : Type 0} {g : Ghosts S} {trusted : Bool} {old : BufferSet S g} {w : Terms}
-    {begun : ℕ → List ℕ} {kept : List Kept} {openings : ℕ → Option Opening} {failures : ℕ → ℕ}
+    {begun : ℕ → Course} {kept : List Kept} {openings : ℕ → Option Opening} {failures : ℕ → ℕ}
     (keeps : KeepsTexts trusted old w begun kept openings failures) (one : Begun) {h : ℕ}
     {text : List ℕ} {written : ℕ}
     (is : openings h ≡ Some (IsOpen (calls.token_of one) text written)) where

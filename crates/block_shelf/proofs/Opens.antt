@@ -84,6 +84,7 @@ keeps_opened {unopened = unopened} {buffer_set} are same w begun kept failures k
       sound = keeps.texts.sound;
       numbered = keeps.texts.numbered;
       fit = keeps.texts.fit;
+      laid = keeps.texts.laid;
       opened = λ h one is. absurd (none-some one is);
       count = are.count ∙ sym (length-map unopened.buffers.items inside) ∙ keeps.texts.count;
       buffers = λ b buffer at.

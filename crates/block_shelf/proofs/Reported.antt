@@ -1,29 +1,24 @@
 -- What is tallied of one buffer, over all that the groups began, is what its own begins give: its
 -- front, its cycle, and how many articles were begun in it. So its figures are those that the
 -- relay's state says.
-use Rattle.std.proofs.Common.{◌≡◌, ◌∙◌, ℕ, zero, suc, ◌+◌, ◌⊎◌, inl, inr, Bool, false, refl, sym}
-use Rattle.std.proofs.Common.{ap, arith, subst, zero-add, List, [], ◌∷◌, ◌++◌, All, Option, Some}
-use Rattle.std.proofs.Common.{fold, length, map, slice_get, if◌then◌else◌}
+use Rattle.std.proofs.Common.{◌≡◌, ◌∙◌, ℕ, zero, suc, ◌+◌, ◌⊎◌, inl, inr, Bool, true, false, refl}
+use Rattle.std.proofs.Common.{sym, ap, arith, subst, zero-add, add-zero, List, [], ◌∷◌, All, Option}
+use Rattle.std.proofs.Common.{Some, fold, length, map, slice_get, if◌then◌else◌}
 use Rattle.std.proofs.lemmas.Bool.{cases_eq, ne_eqb}
 use Rattle.std.proofs.lemmas.Bool.Decides.{nat_tests}
 use Rattle.std.proofs.lemmas.List.{length-map}
-use Rattle.std.proofs.lemmas.List.Elements.{All-pop}
+use Rattle.std.proofs.lemmas.List.Elements.{All-head, All-tail}
 use Rattle.std.proofs.lemmas.List.Sums.{fold-append, fold_push}
-use Rattle.std.proofs.lemmas.Option.{same_Some, none-some, slice_get_within}
-use Rattle.std.specs.Prelude.{count_by, option_map}
+use Rattle.std.proofs.lemmas.Option.{same_Some, none-some}
+use Rattle.std.specs.Prelude.{count_by, filter, option_map}
 use Rattle.cyc_block.specs.declared.store.BlockStore.{Ghosts}
 use Rattle.cyc_buffer.specs.History as histories
 use Rattle.cyc_buffer.specs.History.{History, asked, cycle_of, front_of, stored_count}
 use Rattle.cyc_buffer.specs.Agreement.{Agrees}
 use Rattle.cyc_buffer.specs.declared.buffer.Buffer as buffers
-use Rattle.news_terms.proofs.Extents.{by_push, extents_push, whose_turn}
-use Rattle.news_terms.proofs.FrontLaws.{next_among}
-use Rattle.news_terms.proofs.PickedBegins.{begins_here, begins_elsewhere}
-use Rattle.news_terms.proofs.PickedPlaces.{picked_places, pick_within}
-use Rattle.news_terms.specs.Fronts.{FitsGroup, HasOwnNumbers, IsAmongBuffers}
-use Rattle.news_terms.specs.Picks.{begins_in, front_at, head_of, pick_of, place_after, placed_in}
-use Rattle.news_terms.specs.Places.{Buffer, Extent, Group, Place, extents, extents_after}
-use Rattle.news_terms.specs.Places.{front_past, next_place, on_line, place_in_buffer}
+use Rattle.news_terms.specs.Courses.{Course, IsLaid, LiesInGroup, articles_of, is_in_buffer}
+use Rattle.news_terms.specs.Picks.{front_at, head_of, place_after}
+use Rattle.news_terms.specs.Places.{Buffer, Extent, Group, front_past, on_line, place_in_buffer}
 use Rattle.news_terms.specs.Settings.{IsBufferAt, AreSound}
 use Rattle.relay_facts.specs.Apart.{HasNone}
 use Rattle.relay_model.specs.Fetches as fetches
@@ -56,101 +51,109 @@ record IsTally (buffer : Buffer) (first : ℕ) (past : ℕ → Extent → ℕ)
   own : (begins : List (ℕ × Bool)) (fresh : Bool) (size : ℕ)
       → past (told begins) (begun_at buffer begins fresh size) ≡ told ((size, fresh) ∷ begins)
 
+-- the articles of each of these groups, from the k-th on, lie in it
+abbrev LieFrom : (k : ℕ) → List Group → (ℕ → Course) → Type 0
+LieFrom k groups begun =
+    (h : ℕ) (other : Group) → slice_get groups h ≡ Some other
+    → All (LiesInGroup other) (begun (k + h)).articles
+
+-- those of the first one do
+lie_first : (k : ℕ) (group : Group) (groups : List Group) (begun : ℕ → Course)
+    → LieFrom k (group ∷ groups) begun → All (LiesInGroup group) (begun k).articles
+lie_first k group groups begun lie =
+    subst (λ j. All (LiesInGroup group) (begun j).articles) (add-zero k) (lie 0 group refl)
+
+-- and those of the others
+lie_later : (k : ℕ) (group : Group) (groups : List Group) (begun : ℕ → Course)
+    → LieFrom k (group ∷ groups) begun → LieFrom (k + 1) groups begun
+lie_later k group groups begun lie h other there =
+    let next : k + suc h ≡ k + 1 + h = omega arith in
+    subst (λ j. All (LiesInGroup other) (begun j).articles) next (lie (suc h) other there)
+
 module _ {buffer : Buffer} {first : ℕ} {past : ℕ → Extent → ℕ} {told : List (ℕ × Bool) → ℕ}
     (tally : IsTally buffer first past told) where
   -- a group that doesn't have the buffer leaves what is tallied
-  group_left : (group : Group) → HasNone group buffer.number → (before sizes : List ℕ) (n : ℕ)
-      → fold past n (extents_after group before sizes) ≡ n
-  group_left group none before [] n = refl
-  group_left group none before (size ∷ sizes) n =
-      let later = group_left group none (before ++ size ∷ []) sizes n in
-      let left : (place : Place) → next_place group before size ≡ Some place
-      → past n (record { place = place; size = size }) ≡ n =
-      λ place next.
-      let there : IsAmongBuffers group place = next_among group before size place next in
-      tally.others n (record { place = place; size = size })
-      (ne_eqb place.buffer.number buffer.number
-      (none.apart there.index place.buffer there.there)) in
-      grind (arith, later, left)
+  group_left : (group : Group) → HasNone group buffer.number → (articles : List Extent)
+      → All (LiesInGroup group) articles → (n : ℕ) → fold past n articles ≡ n
+  group_left group none [] lie n = refl
+  group_left group none (e ∷ later) lie n =
+      let lies : LiesInGroup group e = All-head (LiesInGroup group) e later lie in
+      ap (λ m. fold past m later)
+      (tally.others n e (ne_eqb e.place.buffer.number buffer.number
+      (none.apart lies.among.index e.place.buffer lies.among.there)))
+      ∙ group_left group none later (All-tail (LiesInGroup group) e later lie) n
 
-  -- so do several
-  groups_left : (g : ℕ) (groups : List Group) (begun : ℕ → List ℕ)
+  -- so do several, from the k-th on
+  groups_left : (k : ℕ) (groups : List Group) (begun : ℕ → Course)
       → ((h : ℕ) (other : Group) → slice_get groups h ≡ Some other → HasNone other buffer.number)
-      → (n : ℕ) → fold past n (extents_from g groups begun) ≡ n
-  groups_left g [] begun none n = refl
-  groups_left g (group ∷ groups) begun none n =
-      rw (fold-append, group_left group (none 0 group refl) [] (begun g) n)
-      (groups_left (g + 1) groups begun (λ h other there. none (suc h) other there) n)
+      → LieFrom k groups begun → (n : ℕ) → fold past n (extents_from k groups begun) ≡ n
+  groups_left k [] begun none lie n = refl
+  groups_left k (group ∷ groups) begun none lie n =
+      rw (
+        fold-append,
+        group_left group (none 0 group refl) (begun k).articles
+            (lie_first k group groups begun lie) n,
+      )
+      (groups_left (k + 1) groups begun (λ h other there. none (suc h) other there)
+      (lie_later k group groups begun lie) n)
 
   -- of several groups the one that has the buffer is tallied
-  one_tallied : (k : ℕ) (groups : List Group) (begun : ℕ → List ℕ) (g : ℕ) (group : Group)
+  one_tallied : (k : ℕ) (groups : List Group) (begun : ℕ → Course) (g : ℕ) (group : Group)
       → slice_get groups g ≡ Some group
       → ((h : ℕ) (other : Group) → slice_get groups h ≡ Some other → (h ≡ g → ⊥)
       → HasNone other buffer.number)
-      → (n : ℕ)
-      → fold past n (extents_from k groups begun) ≡ fold past n (extents group (begun (k + g)))
-  one_tallied k [] begun g group there none n = absurd (none-some group there)
-  one_tallied k (one ∷ groups) begun zero group there none n =
+      → LieFrom k groups begun → (n : ℕ)
+      → fold past n (extents_from k groups begun) ≡ fold past n (begun (k + g)).articles
+  one_tallied k [] begun g group there none lie n = absurd (none-some group there)
+  one_tallied k (one ∷ groups) begun zero group there none lie n =
       rw (
         fold-append,
         groups_left (k + 1) groups begun
             (λ h other at. none (suc h) other at (λ e. omega (arith, e)))
-            (fold past n (extents one (begun k))),
-        same_Some one group there,
-      ) (ap (λ j. fold past n (extents group (begun j))) (omega arith))
-  one_tallied k (one ∷ groups) begun (suc g) group there none n =
-      rw (fold-append, group_left one (none 0 one refl (λ e. omega (arith, e))) [] (begun k) n)
+            (lie_later k one groups begun lie)
+            (fold past n (begun k).articles),
+      ) (ap (λ j. fold past n (begun j).articles) (omega arith))
+  one_tallied k (one ∷ groups) begun (suc g) group there none lie n =
+      rw (
+        fold-append,
+        group_left one (none 0 one refl (λ e. omega (arith, e))) (begun k).articles
+            (lie_first k one groups begun lie) n,
+      )
       (one_tallied (k + 1) groups begun g group there
-      (λ h other at apart. none (suc h) other at (λ e. apart (omega (arith, e)))) n
-      ∙ ap (λ j. fold past n (extents group (begun j))) (omega arith))
+      (λ h other at apart. none (suc h) other at (λ e. apart (omega (arith, e))))
+      (lie_later k one groups begun lie) n
+      ∙ ap (λ j. fold past n (begun j).articles) (omega arith))
 
-  -- what is tallied of a group that has the buffer is told of its begins there
-  group_tallied : (group : Group) → HasOwnNumbers group → (begun : List ℕ)
-      → All (FitsGroup group) begun → (i : ℕ) → slice_get group.buffers i ≡ Some buffer
-      → fold past first (extents group begun) ≡ told (begins_in group i begun)
-  group_tallied group numbers begun fit i there =
-      by_push
-      (λ begun. All (FitsGroup group) begun
-      → fold past first (extents group begun) ≡ told (begins_in group i begun))
-      (λ fit. sym tally.none)
-      (λ begun size earlier fit.
-      let parts : All (FitsGroup group) begun × FitsGroup group size =
-      All-pop (FitsGroup group) (begun ++ size ∷ []) begun (Some size) refl fit in
-      more begun size parts.0 parts.1 (earlier parts.0))
-      begun fit
+  -- the articles of other buffers leave what is tallied
+  own_tallied : (n : ℕ) (articles : List Extent)
+      → fold past n (filter (is_in_buffer buffer) articles) ≡ fold past n articles
+  own_tallied n [] = refl
+  own_tallied n (e ∷ later) = by (is_in_buffer buffer e) refl (λ m. own_tallied m later)
     where
-      -- one more size, in the buffer that is picked
-      more : (begun : List ℕ) (size : ℕ) → All (FitsGroup group) begun → FitsGroup group size
-          → fold past first (extents group begun) ≡ told (begins_in group i begun)
-          → fold past first (extents group (begun ++ size ∷ []))
-          ≡ told (begins_in group i (begun ++ size ∷ []))
-      more begun size fit fits earlier =
-          let pick = pick_of group begun size in
-          let whose : (one : Buffer) × (slice_get group.buffers pick.index ≡ Some one) =
-          whose_turn group.buffers pick.index
-          (pick_within group begun size
-          (omega (arith, slice_get_within group.buffers i buffer there))) in
-          let e : Extent = begun_at whose.0 (begins_in group pick.index begun) pick.fresh size in
-          ap (fold past first)
-          (extents_push group begun size e.place
-          (picked_places group begun fit size fits
-          ∙ ap (placed_in (begins_in group pick.index begun) pick.fresh size) whose.1))
-          ∙ fold_push past first (extents group begun) e
-          ∙ ap (λ n. past n e) earlier
-          ∙ elim (cases_eq pick.index i) [
-            | inl turn ↦ cc (
-              turn,
-              ap (slice_get group.buffers) turn,
-              whose.1,
-              there,
-              tally.own (begins_in group i begun) pick.fresh size,
-              begins_here group begun size i turn,
-            )
-            | inr other ↦ tally.others (told (begins_in group i begun)) e
-                (ne_eqb whose.0.number buffer.number
-                (λ same. other (numbers.own pick.index i whose.0 buffer whose.1 there same)))
-                ∙ ap told (sym (begins_elsewhere group begun size i other))
-          ]
+      by : (here : Bool) → is_in_buffer buffer e ≡ here
+          → ((m : ℕ) → fold past m (filter (is_in_buffer buffer) later) ≡ fold past m later)
+          → fold past n (if here then e ∷ filter (is_in_buffer buffer) later
+          else filter (is_in_buffer buffer) later)
+          ≡ fold past (past n e) later
+      by true is rest = rest (past n e)
+      by false is rest = rest n ∙ ap (λ m. fold past m later) (sym (tally.others n e is))
+
+  -- what is tallied of a buffer's own articles is told of its begins
+  begins_tallied : (begins : List (ℕ × Bool))
+      → fold past first (articles_of buffer begins) ≡ told begins
+  begins_tallied [] = sym tally.none
+  begins_tallied (begin ∷ earlier) =
+      let e : Extent = begun_at buffer earlier begin.1 begin.0 in
+      fold_push past first (articles_of buffer earlier) e
+      ∙ ap (λ n. past n e) (begins_tallied earlier)
+      ∙ tally.own earlier begin.1 begin.0
+
+  -- so is what is tallied of a group that has the buffer
+  group_tallied : (articles : List Extent) (begins : List (ℕ × Bool))
+      → articles_of buffer begins ≡ filter (is_in_buffer buffer) articles
+      → fold past first articles ≡ told begins
+  group_tallied articles begins same =
+      sym (own_tallied first articles) ∙ ap (fold past first) (sym same) ∙ begins_tallied begins
 
 -- the front
 front_tally : (buffer : Buffer)
@@ -203,8 +206,8 @@ has_number number group = elim (find_or_none (λ (one : Buffer). one.number ≡ 
     ]
 
 module _ (w : Terms) (σ : State) (h : History) (sound : AreSound w.buffers w.groups)
-    (fit : (g : ℕ) (group : Group) → slice_get w.groups g ≡ Some group
-    → All (FitsGroup group) (σ.begun g))
+    (laid : (g : ℕ) (group : Group) → slice_get w.groups g ≡ Some group
+    → IsLaid group (σ.begun g))
     (numbered : (b : ℕ) (buffer : Buffer) → slice_get w.buffers b ≡ Some buffer
     → buffer.number ≡ b)
     (j : ℕ) (there : slice_get w.buffers j ≡ Some h.buffer)
@@ -224,9 +227,14 @@ module _ (w : Terms) (σ : State) (h : History) (sound : AreSound w.buffers w.gr
             (λ g other at. record {
               apart = λ i one is_there is. nobody g other at (i, one, is_there, is);
             })
-            first)
+            lie first)
       ]
     where
+      lie : LieFrom 0 w.groups σ.begun
+      lie g other at =
+          subst (λ k. All (LiesInGroup other) (σ.begun k).articles) (sym (zero-add g))
+          (laid g other at).within
+
       begun_by : (g : ℕ) (group : Group) → slice_get w.groups g ≡ Some group → (i : ℕ)
           (one : Buffer) → slice_get group.buffers i ≡ Some one → one.number ≡ h.buffer.number
           → told (map asked h.begins) ≡ fold past first (extents_from 0 w.groups σ.begun)
@@ -239,15 +247,8 @@ module _ (w : Terms) (σ : State) (h : History) (sound : AreSound w.buffers w.gr
           ∙ sym k.1 ∙ ap (slice_get w.buffers)
           (sym (numbered k.0 one k.1) ∙ is ∙ numbered j h.buffer there)
           ∙ there in
-          ap told (has.picked g i group at here)
-          ∙ sym (group_tallied tally group
-          (record {
-            own = λ p q a b at_p at_q same.
-                (sound.once g g p q a b
-                (record { group = group; is_group = at; is_buffer = at_p })
-                (record { group = group; is_group = at; is_buffer = at_q }) same).1;
-          })
-          (σ.begun g) (fit g group at) i here)
+          sym (group_tallied tally (σ.begun g).articles (map asked h.begins)
+          (has.picked g i group at here))
           ∙ sym (one_tallied tally 0 w.groups σ.begun g group at
           (λ k other at_other apart. record {
             apart = λ p b at_b same.
@@ -255,8 +256,8 @@ module _ (w : Terms) (σ : State) (h : History) (sound : AreSound w.buffers w.gr
                 (record { group = other; is_group = at_other; is_buffer = at_b }) at_place
                 (same ∙ sym is)).0;
           })
-          first
-          ∙ ap (λ k. fold past first (extents group (σ.begun k))) (zero-add g))
+          lie first
+          ∙ ap (λ k. fold past first (σ.begun k).articles) (zero-add g))
 
   -- the front of the history
   pub fronts_agree : histories.front_of h ≡ fetches.front_of w σ h.buffer
@@ -289,18 +290,18 @@ same_figures c f b s = cc
 pub figures_agree : (w : Terms) (σ : State) (openings : ℕ → Option Opening)
     → AreSound w.buffers w.groups
     → ((g : ℕ) (group : Group) → slice_get w.groups g ≡ Some group
-    → All (FitsGroup group) (σ.begun g))
+    → IsLaid group (σ.begun g))
     → ((b : ℕ) (buffer : Buffer) → slice_get w.buffers b ≡ Some buffer
     → buffer.number ≡ b)
     → (j : ℕ) (h : History) → slice_get w.buffers j ≡ Some h.buffer
     → IsHistoryOf w.groups σ.begun σ.kept openings h
     → figures (cycle_of h) (front_of h) (length h.begins) (stored_count h.begins)
     ≡ buffer_figures w σ h.buffer
-figures_agree w σ openings sound fit numbered j h there is_said =
+figures_agree w σ openings sound laid numbered j h there is_said =
     same_figures
-    (cycles_agree w σ h sound fit numbered j there is_said.begins)
-    (fronts_agree w σ h sound fit numbered j there is_said.begins)
-    (counts_agree w σ h sound fit numbered j there is_said.begins)
+    (cycles_agree w σ h sound laid numbered j there is_said.begins)
+    (fronts_agree w σ h sound laid numbered j there is_said.begins)
+    (counts_agree w σ h sound laid numbered j there is_said.begins)
     is_said.stored
 
 -- the code's buffer tells this of each history that it agrees with
@@ -323,4 +324,4 @@ figures_are {trusted = trusted} {w = w} σ {openings} are i is says_cycle says_f
     (ap Some
     (same_figures (says_cycle trusted at.now at.agrees) (says_front trusted at.now at.agrees)
     (says_begun trusted at.now at.agrees) (says_stored trusted at.now at.agrees)
-    ∙ figures_agree w σ openings are.sound are.fit are.numbered i at.now at.there at.said))
+    ∙ figures_agree w σ openings are.sound are.laid are.numbered i at.now at.there at.said))

@@ -1,17 +1,19 @@
 -- The groups of a started buffer set are where they were.
-use Rattle.std.proofs.Common.{◌≡◌, ◌∙◌, ℕ, ◌+◌, ◌*◌, ◌<◌, ◌≤◌, Bool, true, arith, sym, ap, subst}
+use Rattle.std.proofs.Common.{◌≡◌, ◌∙◌, ℕ, ◌+◌, ◌*◌, ◌≤◌, Bool, true, arith, sym, ap, subst}
+use Rattle.std.proofs.Common.{Option, None, option_map, refl}
 use Rattle.std.proofs.Common.{List, [], length, map, Some, slice_get, unwrap_or}
 use Rattle.std.proofs.lemmas.Option.{slice_get-map}
-use Rattle.std.proofs.Math.Nat.{zero-mod}
 use Rattle.cyc_block.specs.declared.store.BlockStore.{Ghosts}
 use Rattle.cyc_buffer.specs.Agreement.{Agrees}
-use Rattle.cyc_buffer.specs.History.{History, cycle_of, front_of}
+use Rattle.cyc_buffer.specs.History.{History, asked, cycle_of, front_of}
 use Rattle.cyc_buffer.specs.Stopped.{used_of}
 use Rattle.cyc_buffer.specs.declared.buffer.Buffer.{Buffer}
-use Rattle.news_terms.proofs.PickedPlaces.{used_of_position}
+use Rattle.news_terms.proofs.BufferArticles.{at_of_group}
+use Rattle.news_terms.specs.Courses.{At, Course, IsLaid, at_after, first_course, position_in}
+use Rattle.news_terms.specs.Courses.{run_used}
 use Rattle.news_terms.specs.Places as places
-use Rattle.news_terms.specs.Places.{Group, Interleave, Sequential}
-use Rattle.news_terms.specs.Positions.{Position, position_by, position_of}
+use Rattle.news_terms.specs.Places.{Extent, Group, Interleave, Sequential}
+use Rattle.news_terms.specs.Positions.{Position}
 use Rattle.news_terms.proofs.ListPlaces.{holds_at, mapped_at, there_within}
 use Rattle.relay_conf.specs.Places.{group_over, group_view, mode_view, numbered_buffers}
 use Rattle.relay_conf.specs.declared.cycbuff.Mode as confs
@@ -41,13 +43,13 @@ position_parts : (p : Position) (index used : ℕ) → p.index ≡ index → p.u
 position_parts p index used is_index is_used = rw (← is_index, ← is_used)
 
 -- what is used, by the mode
-used_by_mode : (m : confs.Mode) (buffers : List places.Buffer) (begun : List ℕ) (used : ℕ)
+used_by_mode : (m : confs.Mode) (found : Option places.Buffer) (articles : List Extent) (used : ℕ)
     → (m ≡ modes.Interleave → used ≡ 0)
-    → (m ≡ modes.Sequential → used ≡ (position_by Sequential buffers begun).used)
-    → (position_by (mode_view m) buffers begun).used ≡ used
-used_by_mode m buffers begun used turns filled = grind arith
+    → (m ≡ modes.Sequential → used ≡ run_used Sequential found articles)
+    → run_used (mode_view m) found articles ≡ used
+used_by_mode m found articles used turns filled = grind arith
 
-module _ (all_used : List ℕ) (m : confs.Mode) (buffers : List places.Buffer) (begun : List ℕ)
+module _ (all_used : List ℕ) (m : confs.Mode) (buffers : List places.Buffer) (begun : Course)
   where
     -- the group
     abbrev pub group_of : Group
@@ -55,55 +57,62 @@ module _ (all_used : List ℕ) (m : confs.Mode) (buffers : List places.Buffer) (
 
     -- the group is where it was, at this position
     pub resumed : HasCurrent all_used group_of begun → (position used : ℕ) (numbers : List ℕ)
-        (number : ℕ) → (position_of group_of begun).index ≡ position
+        (number : ℕ) → (position_in group_of begun).index ≡ position
         → numbers ≡ map (λ (b : places.Buffer). b.number) buffers
         → number ≡ unwrap_or (slice_get numbers position) 0 → (m ≡ modes.Interleave → used ≡ 0)
         → (m ≡ modes.Sequential → used ≡ unwrap_or (slice_get all_used number) 0)
-        → position_of group_of begun ≡ record { index = position; used = used }
+        → position_in group_of begun ≡ record { index = position; used = used }
     resumed has position used numbers number at named read turns filled =
-        position_parts (position_of group_of begun) position used at
-        (used_by_mode m buffers begun used turns (λ is.
+        let number_of : places.Buffer → ℕ = λ b. b.number in
+        let told : number ≡ has.buffer.number =
+        read
+        ∙ ap (λ ns. unwrap_or (slice_get ns position) 0) named
+        ∙ ap (λ o. unwrap_or o 0)
+        (slice_get-map number_of buffers position
+        ∙ ap (λ i. option_map number_of (slice_get buffers i)) (sym at)
+        ∙ ap (option_map number_of) has.there) in
+        position_parts (position_in group_of begun) position used at
+        (used_by_mode m (slice_get buffers begun.turn) begun.articles used turns (λ is.
         filled is
-        ∙ rw (read, named, slice_get-map, ← at, has.there, has.used_there (ap mode_view is))
-        (ap (λ each. (position_by (mode_view each) buffers begun).used) is)))
-
--- a group with a buffer is at one of its buffers
-position_within : (group : Group) (begun : List ℕ) → 0 < length group.buffers
-    → (position_of group begun).index < length group.buffers
-position_within group begun some = grind arith
+        ∙ ap (λ n. unwrap_or (slice_get all_used n) 0) told
+        ∙ has.used_there (ap mode_view is)
+        ∙ ap (λ each. run_used (mode_view each) (slice_get buffers begun.turn) begun.articles)
+        is))
 
 module _ {S : Type 0} {g : Ghosts S} {codes : List (Buffer S g)} {used : List ℕ} {w : Terms}
-    {begun : ℕ → List ℕ} {kept : List Kept} {failures : ℕ → ℕ} (are : AreUsed codes used)
+    {begun : ℕ → Course} {kept : List Kept} {failures : ℕ → ℕ} (are : AreUsed codes used)
     (keeps : BuffersKeep codes w begun kept failures) where
   -- the current buffer of a group is among the buffers that keep what is said, and as much is used
   pub current : (h : ℕ) (group : Group) → slice_get w.groups h ≡ Some group
       → HasCurrent used group (begun h)
   current h group at =
-      let index : ℕ = (position_of group (begun h)).index in
-      let one = there_within group.buffers index
-      (position_within group (begun h)
+      let laid : IsLaid group (begun h) = keeps.laid h group at in
+      let articles : List Extent = (begun h).articles in
+      let one = there_within group.buffers (begun h).turn
+      (laid.turn
       (holds_at (λ (each : Group). 1 ≤ length each.buffers) w.groups keeps.sound.filled h group at))
       in
-      let k = keeps.sound.named h index one.0
+      let k = keeps.sound.named h (begun h).turn one.0
       (record { group = group; is_group = at; is_buffer = one.1 }) in
       let had = keeps.buffers k.0 one.0 k.1 in
-      let number : one.0.number ≡ k.0 = keeps.numbered k.0 one.0 k.1 in
       let history : History = had.keeps.history in
       let said = are.each k.0 had.code had.there in
+      let at_head : (at_after history.buffer articles).used ≡ used_of history =
+      ap (λ (a : At). a.used)
+      (at_of_group history.buffer (map asked history.begins) articles
+      (had.keeps.is_said.begins.picked h (begun h).turn group at
+      (one.1 ∙ ap Some (sym had.keeps.is_of_buffer)))) in
       record {
         buffer = one.0;
         there = one.1;
         used_there = λ mode.
-            let here : slice_get used one.0.number ≡ Some (position_of group (begun h)).used = cc (
-              number,
-              said.there,
-              said.belongs true history had.keeps.agrees,
-              had.keeps.is_said.begins.picked h index group at
-                  (one.1 ∙ ap Some (sym had.keeps.is_of_buffer)),
-              had.keeps.is_of_buffer,
-              used_of_position group (begun h) mode (keeps.fit h group at) one.0 one.1,
-            ) in
-            ap (λ o. unwrap_or o 0) here;
+            ap (λ n. unwrap_or (slice_get used n) 0) (keeps.numbered k.0 one.0 k.1)
+            ∙ ap (λ o. unwrap_or o 0) said.there
+            ∙ said.belongs true history had.keeps.agrees
+            ∙ sym at_head
+            ∙ ap (λ b. (at_after b articles).used) had.keeps.is_of_buffer
+            ∙ sym (ap (λ m. run_used m (slice_get group.buffers (begun h).turn) articles) mode
+            ∙ ap (λ found. run_used Sequential found articles) one.1);
       }
 
 -- the placed group of a group of the settings
@@ -148,15 +157,15 @@ module _ (settings : Buffers) (positions used : List ℕ) (placed_groups : List 
       }
 
 -- a group of which nothing is begun is at its first buffer
-starts : (group : Group) → position_of group [] ≡ record { index = 0; used = 0 }
-starts group = by_mode group.mode
+starts : (group : Group) → position_in group first_course ≡ record { index = 0; used = 0 }
+starts group =
+    ap (λ (used : ℕ). record { index = 0; used = used })
+    (by_mode group.mode (slice_get group.buffers 0))
   where
-    by_mode : (mode : places.Mode) → position_by mode group.buffers []
-        ≡ record { index = 0; used = 0 }
-    by_mode Interleave =
-        ap (λ i. record { index = i; used = 0 }) (zero-mod (length group.buffers))
-    by_mode Sequential =
-        ap (λ i. record { index = i; used = 0 }) (zero-mod (length group.buffers))
+    by_mode : (mode : places.Mode) (found : Option places.Buffer) → run_used mode found [] ≡ 0
+    by_mode Interleave found = refl
+    by_mode Sequential None = refl
+    by_mode Sequential (Some buffer) = refl
 
 -- without positions, and with nothing used, nothing is begun in the groups
 pub placed_groups_new : (settings : Buffers) (placed_groups : List PlacedGroup)
@@ -171,9 +180,9 @@ placed_groups_new settings placed_groups are h group at =
     record {
       code = one.code;
       there = one.there;
-      keeps = one.resumes [] (ap (λ (p : Position). p.index) begins) (record {
+      keeps = one.resumes first_course refl (record {
         buffer = first.0;
-        there = rw begins first.1;
+        there = first.1;
         used_there = λ mode. sym (ap (λ (p : Position). p.used) begins);
       });
     }

@@ -14,9 +14,10 @@ use Rattle.cyc_block.specs.declared.store.BlockStore.{Ghosts}
 use Rattle.cyc_buffer.specs.Agreement.{Agrees, Follows, store_of}
 use Rattle.cyc_buffer.specs.History.{History}
 use Rattle.cyc_buffer.specs.declared.buffer.Buffer.{Buffer}
+use Rattle.news_terms.specs.Courses.{Course, IsLaid}
 use Rattle.news_terms.specs.Fronts.{FitsGroup}
 use Rattle.news_terms.specs.Places as places
-use Rattle.news_terms.specs.Places.{Group}
+use Rattle.news_terms.specs.Places.{Extent, Group}
 use Rattle.news_terms.specs.Settings.{AreSound, IsBufferAt}
 use Rattle.news_terms.proofs.ListPlaces.{there_within}
 use Rattle.relay_facts.proofs.Puts.{put_at_both, put_at_here}
@@ -88,34 +89,36 @@ none_there xs i past =
 
 -- These buffers keep what is said, with or without open writes.
 pub record AreKept {S : Type 0} {g : Ghosts S} (trusted : Bool) (codes : List (Buffer S g))
-    (w : Terms) (begun : ℕ → List ℕ) (kept : List Kept) (openings : ℕ → Option Opening)
+    (w : Terms) (begun : ℕ → Course) (kept : List Kept) (openings : ℕ → Option Opening)
     (failures : ℕ → ℕ)
     : Type 0 where
   pub sound : AreSound w.buffers w.groups
   pub numbered : (b : ℕ) (buffer : places.Buffer) → slice_get w.buffers b ≡ Some buffer
       → buffer.number ≡ b
   pub fit : (h : ℕ) (group : Group) → slice_get w.groups h ≡ Some group
-      → All (FitsGroup group) (begun h)
+      → All (λ (one : Extent). FitsGroup group one.size) (begun h).articles
+  pub laid : (h : ℕ) (group : Group) → slice_get w.groups h ≡ Some group
+      → IsLaid group (begun h)
   pub count : length codes ≡ length w.buffers
   pub buffers : (b : ℕ) (buffer : places.Buffer) → slice_get w.buffers b ≡ Some buffer
       → HasBuffer trusted codes w.groups begun kept openings failures b buffer
 
 -- so those of a buffer set do
 pub buffers_kept : {S : Type 0} {g : Ghosts S} {trusted : Bool} {old : BufferSet S g} {w : Terms}
-    {begun : ℕ → List ℕ} {kept : List Kept} {openings : ℕ → Option Opening} {failures : ℕ → ℕ}
+    {begun : ℕ → Course} {kept : List Kept} {openings : ℕ → Option Opening} {failures : ℕ → ℕ}
     → KeepsTexts trusted old w begun kept openings failures
     → AreKept trusted old.buffers.items w begun kept openings failures
 buffers_kept keeps = assumption
 
 -- and those of a started one
 pub started_kept : {S : Type 0} {g : Ghosts S} {codes : List (Buffer S g)} {w : Terms}
-    {begun : ℕ → List ℕ} {kept : List Kept} {failures : ℕ → ℕ}
+    {begun : ℕ → Course} {kept : List Kept} {failures : ℕ → ℕ}
     → BuffersKeep codes w begun kept failures
     → AreKept true codes w begun kept (λ h. None) failures
 started_kept keeps = assumption
 
 -- the history of the code's buffer at a place
-pub record KeptAt {S : Type 0} {g : Ghosts S} (trusted : Bool) (w : Terms) (begun : ℕ → List ℕ)
+pub record KeptAt {S : Type 0} {g : Ghosts S} (trusted : Bool) (w : Terms) (begun : ℕ → Course)
     (kept : List Kept) (openings : ℕ → Option Opening) (failures : ℕ → ℕ) (b : ℕ)
     (code : Buffer S g)
     : Type 0 where
@@ -127,7 +130,7 @@ pub record KeptAt {S : Type 0} {g : Ghosts S} (trusted : Bool) (w : Terms) (begu
   pub failed : failures b ≡ g.failures (store_of code)
 
 module _ {S : Type 0} {g : Ghosts S} {trusted : Bool} {codes : List (Buffer S g)} {w : Terms}
-    {begun : ℕ → List ℕ} {kept : List Kept} {openings : ℕ → Option Opening} {failures : ℕ → ℕ}
+    {begun : ℕ → Course} {kept : List Kept} {openings : ℕ → Option Opening} {failures : ℕ → ℕ}
     (are : AreKept trusted codes w begun kept openings failures) where
   -- what is kept of the buffer at a place
   pub kept_at : {b : ℕ} {code : Buffer S g} → slice_get codes b ≡ Some code
@@ -171,7 +174,7 @@ with_buffer old b code placed_groups =
 -- What is said once the buffer of this number is another: its own history, those of the others, the
 -- open writes and the groups.
 pub record IsAfter {S : Type 0} {g : Ghosts S} (trusted : Bool) (w : Terms) (now : History)
-    (begun begun' : ℕ → List ℕ) (kept kept' : List Kept) (openings openings' : ℕ → Option Opening)
+    (begun begun' : ℕ → Course) (kept kept' : List Kept) (openings openings' : ℕ → Option Opening)
     (failures failures' : ℕ → ℕ) (code : Buffer S g) (placed_groups : Vec PlacedGroup)
     : Type 0 where
   pub history : History
@@ -184,12 +187,14 @@ pub record IsAfter {S : Type 0} {g : Ghosts S} (trusted : Bool) (w : Terms) (now
       → IsHistoryOf w.groups begun' kept' openings' one
   pub unfailed : (n : ℕ) → n ≢ now.buffer.number → failures' n ≡ failures n
   pub fit : (h : ℕ) (group : Group) → slice_get w.groups h ≡ Some group
-      → All (FitsGroup group) (begun' h)
+      → All (λ (one : Extent). FitsGroup group one.size) (begun' h).articles
+  pub laid : (h : ℕ) (group : Group) → slice_get w.groups h ≡ Some group
+      → IsLaid group (begun' h)
   pub opened : (h : ℕ) (one : Opening) → openings' h ≡ Some one → IsOpenIn w.groups h one
   pub groups : PlacedGroupsKeep placed_groups.items w begun'
 
 module _ {S : Type 0} {g : Ghosts S} {trusted : Bool} {old : BufferSet S g} {w : Terms}
-    {begun : ℕ → List ℕ} {kept : List Kept} {openings : ℕ → Option Opening} {failures : ℕ → ℕ}
+    {begun : ℕ → Course} {kept : List Kept} {openings : ℕ → Option Opening} {failures : ℕ → ℕ}
     (keeps : KeepsTexts trusted old w begun kept openings failures) where
   -- no other group's open write is in this buffer of a group
   pub only_there : {h i : ℕ} {buffer : places.Buffer} → IsBufferAt w.groups h i buffer
@@ -211,7 +216,7 @@ module _ {S : Type 0} {g : Ghosts S} {trusted : Bool} {old : BufferSet S g} {w :
   module _ {b : ℕ} {code code' : Buffer S g} {placed_groups : Vec PlacedGroup}
       (at : KeptAt trusted w begun kept openings failures b code) where
     -- the buffer set keeps what is said after it
-    pub replaced : {begun' : ℕ → List ℕ} {kept' : List Kept} {openings' : ℕ → Option Opening}
+    pub replaced : {begun' : ℕ → Course} {kept' : List Kept} {openings' : ℕ → Option Opening}
         {failures' : ℕ → ℕ}
         → IsAfter trusted w at.now begun begun' kept kept' openings openings' failures failures'
         code' placed_groups
@@ -221,6 +226,7 @@ module _ {S : Type 0} {g : Ghosts S} {trusted : Bool} {old : BufferSet S g} {w :
       sound = keeps.sound;
       numbered = keeps.numbered;
       fit = is.fit;
+      laid = is.laid;
       opened = is.opened;
       count = length-set old.buffers.items b code' ∙ keeps.count;
       buffers = λ j buffer there.
@@ -269,6 +275,7 @@ module _ {S : Type 0} {g : Ghosts S} {trusted : Bool} {old : BufferSet S g} {w :
       others = λ one apart said. said;
       unfailed = λ n apart. others n (λ e. apart (e ∙ sym at.number));
       fit = keeps.fit;
+      laid = keeps.laid;
       opened = keeps.opened;
       groups = groups;
     })

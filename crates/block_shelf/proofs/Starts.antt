@@ -15,6 +15,7 @@ use Rattle.cyc_buffer.specs.Stopped.{HoldsStopped}
 use Rattle.cyc_buffer.specs.declared.answers.StartError.{StartError}
 use Rattle.cyc_buffer.specs.declared.answers.StartError.TheVariants as errors
 use Rattle.cyc_buffer.specs.declared.unopened.Unopened.{Unopened}
+use Rattle.news_terms.specs.Courses.{Course}
 use Rattle.news_terms.proofs.ListPlaces.{at_pushed, there_within}
 use Rattle.relay_conf.specs.declared.cycbuff.BufferConf.{BufferConf}
 use Rattle.relay_conf.specs.declared.settings.Buffers.{Buffers}
@@ -187,7 +188,7 @@ outside_fault start is = grind arith
 module _ {S : Type 0} {g : Ghosts S} (settings : Buffers) {stores : List S}
     (sized : map (λ store. length (g.blocks store)) stores
     ≡ map (λ (conf : BufferConf). conf.blocks) settings.buffers.items) {stop : ℕ} {w : Terms}
-    {begun : ℕ → List ℕ} {kept : List Kept} {failures : ℕ → ℕ}
+    {begun : ℕ → Course} {kept : List Kept} {failures : ℕ → ℕ}
     (held : IsHeldBy g settings stores stop w begun kept failures) where
   -- what the store at a place holds
   record IsHeldAt (b : ℕ) (store : S) : Type 0 where
@@ -234,6 +235,7 @@ module _ {S : Type 0} {g : Ghosts S} (settings : Buffers) {stores : List S}
     sound = held.2.sound;
     numbered = held.2.numbered;
     fit = held.2.fit;
+    laid = held.2.laid;
     count = length-map buffers inside ∙ are.count ∙ held.2.count;
     buffers = λ b buffer at.
         let had = held.2.buffers b buffer at in

@@ -18,6 +18,7 @@ use Rattle.cyc_buffer.specs.declared.buffer_state.Progress.{Progress}
 use Rattle.cyc_buffer.specs.Restart.{IsFromWithout, IsRestartRefusal}
 use Rattle.cyc_buffer.specs.declared.restarting.RestartError.{RestartError}
 use Rattle.cyc_buffer.specs.declared.restarting.RestartError.TheVariants as errors
+use Rattle.news_terms.specs.Courses.{Course}
 use Rattle.news_terms.specs.Settings.{IsSoundBuffer}
 use Rattle.news_terms.proofs.ListPlaces.{holds_at, there_within}
 use Rattle.relay_facts.proofs.Puts.{put_at_both, put_at_here, put_at_there}
@@ -56,7 +57,7 @@ no_progress h (Some p) None writes none = absurd writes
 no_progress h (Some p) (Some w) writes none = absurd (none-some w (sym none))
 
 -- so its buffer has none
-pub idle_at : {S : Type 0} {g : Ghosts S} {trusted : Bool} {w : Terms} {begun : ℕ → List ℕ}
+pub idle_at : {S : Type 0} {g : Ghosts S} {trusted : Bool} {w : Terms} {begun : ℕ → Course}
     {kept : List Kept} {failures : ℕ → ℕ} {b : ℕ} {code : Buffer S g}
     → KeptAt trusted w begun kept (λ h. None) failures b code → is_busy code ≡ false
 idle_at at =
@@ -95,6 +96,7 @@ holds_kept stop buffer_set stores shut w begun kept failures keeps = record {
   sound = keeps.sound;
   numbered = keeps.numbered;
   fit = keeps.fit;
+  laid = keeps.laid;
   count = shut.count ∙ keeps.count;
   buffers = λ b buffer at.
       let had = keeps.buffers b buffer at in
@@ -289,7 +291,7 @@ module _ {S : Type 0} {g : Ghosts S} (code code' : Buffer S g) where
 module _ {S : Type 0} {g : Ghosts S} (old : BufferSet S g) (place : ℕ) {code code' : Buffer S g}
     (there : slice_get old.buffers.items place ≡ Some code) (same : Follows (λ h. h) code code')
   where
-    module _ {trusted : Bool} {w : Terms} {begun : ℕ → List ℕ} {kept : List Kept}
+    module _ {trusted : Bool} {w : Terms} {begun : ℕ → Course} {kept : List Kept}
         {failures : ℕ → ℕ} (keeps : KeepsTexts trusted old w begun kept (λ h. None) failures) where
       at : KeptAt trusted w begun kept (λ h. None) failures place code
       at = kept_at (buffers_kept keeps) there

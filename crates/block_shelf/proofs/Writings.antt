@@ -9,6 +9,7 @@ use Rattle.std.proofs.lemmas.List.Sums.{sum_by_push}
 use Rattle.cyc_buffer.specs.History.{History, Begin, Writing, open_token, with_begin, next_place}
 use Rattle.cyc_buffer.specs.History.{token_at, Article, head_of, is_at, finished_at, text_of}
 use Rattle.cyc_buffer.specs.History.{stored_count}
+use Rattle.news_terms.specs.Courses.{Course}
 use Rattle.news_terms.specs.Places.{Group, size_of, Buffer, Head}
 use Rattle.news_terms.specs.Token.{Token, same_token}
 use Rattle.news_terms.specs.Picks.{place_after}
@@ -88,7 +89,7 @@ just_begun h text is = rw is (record { token = refl; writing = refl })
 -- THE RELAY'S STATE
 
 -- a history that only its open write is another of is still what is said
-pub rewritten : {groups : List Group} {begun : ℕ → List ℕ} {kept : List Kept}
+pub rewritten : {groups : List Group} {begun : ℕ → Course} {kept : List Kept}
     {openings openings' : ℕ → Option Opening} {h : History} {writing : Option Writing}
     → IsHistoryOf groups begun kept openings h
     → HasWriting openings' (record h { writing = writing })
@@ -96,7 +97,7 @@ pub rewritten : {groups : List Group} {begun : ℕ → List ℕ} {kept : List Ke
 rewritten said open_write = assumption
 
 -- a call that has to do with the buffer of this number alone
-pub record Concerns (groups : List Group) (begun begun' : ℕ → List ℕ) (kept kept' : List Kept)
+pub record Concerns (groups : List Group) (begun begun' : ℕ → Course) (kept kept' : List Kept)
     (openings : ℕ → Option Opening) (h : ℕ) (after : Option Opening) (number : ℕ)
     : Type 0 where
   pub was : (one : Opening) → openings h ≡ Some one → (token_in one).buffer ≡ number
@@ -108,7 +109,7 @@ pub record Concerns (groups : List Group) (begun begun' : ℕ → List ℕ) (kep
       → count_by (is_kept_in buffer) kept' ≡ count_by (is_kept_in buffer) kept
 
 -- leaves what is said of the history of each other
-pub untouched : {groups : List Group} {begun begun' : ℕ → List ℕ} {kept kept' : List Kept}
+pub untouched : {groups : List Group} {begun begun' : ℕ → Course} {kept kept' : List Kept}
     {openings : ℕ → Option Opening} {h : ℕ} {after : Option Opening} {number : ℕ}
     → Concerns groups begun begun' kept kept' openings h after number → (one : History)
     → one.buffer.number ≢ number → IsHistoryOf groups begun kept openings one
@@ -186,7 +187,7 @@ module _ (h : History) (earlier : List Begin) (fresh : Bool) (size : ℕ) (artic
       grind (arith, nat_tests, own_token t here, newest kept one t, another kept one t)
 
   -- the relay's state says so of the history after a finish, with this text kept
-  pub finished_said : {groups : List Group} {begun : ℕ → List ℕ} {kept : List Kept}
+  pub finished_said : {groups : List Group} {begun : ℕ → Course} {kept : List Kept}
       {openings openings' : ℕ → Option Opening} {g i : ℕ}
       → IsHistoryOf groups begun kept openings h → h.begins ≡ unfinished fresh size ∷ earlier
       → IsBufferAt groups g i h.buffer

@@ -14,12 +14,14 @@ use Rattle.cyc_buffer.specs.declared.answers.FaultKind.{FaultKind}
 use Rattle.cyc_buffer.specs.declared.answers.FaultKind.TheVariants as kinds
 use Rattle.cyc_token.specs.Token.{token_view}
 use Rattle.cyc_token.specs.declared.Token as codes
+use Rattle.news_terms.specs.Courses.{Course, place_next}
 use Rattle.news_terms.specs.Fronts.{FitsGroup}
-use Rattle.news_terms.specs.Places.{Group, Place, next_place, size_of, last_cycle}
+use Rattle.news_terms.specs.Places.{Group, Place, size_of, last_cycle}
 use Rattle.news_terms.specs.Token.{Token}
 use Rattle.relay_model.specs.State.{Kept, put_at}
 use Rattle.relay_model.specs.Terms.{Terms}
 use Rattle.relay_model.specs.World.{HasFailedAt}
+use Rattle.relay_model.specs.Writers.{begun_in}
 use Rattle.block_shelf.specs.Devices.{calls_at}
 use Rattle.block_shelf.specs.Keeping.{KeepsTexts}
 use Rattle.block_shelf.specs.Openings.{Opening, IsOpen, IsBroken, token_in}
@@ -41,10 +43,10 @@ pub record CanBegin (w : Terms) (g size : ℕ) (openings : ℕ → Option Openin
   pub some : 1 ≤ size
   pub fits : FitsGroup group size
 
--- where the next article of a group goes, after these sizes were begun
-abbrev pub place_in : Terms → (g : ℕ) → List ℕ → (size : ℕ) → Option Place
+-- where the next article of a group on this course goes
+abbrev pub place_in : Terms → (g : ℕ) → Course → (size : ℕ) → Option Place
 place_in w g begun size =
-    option_and_then (λ (group : Group). next_place group begun size) (slice_get w.groups g)
+    option_and_then (λ (group : Group). place_next group begun size) (slice_get w.groups g)
 
 -- the token of an article of this class and length at a place
 abbrev pub token_at : (class octets : ℕ) → Place → Token
@@ -60,20 +62,21 @@ token_at class octets place =
 -- a begin at this place: where a token has room for its cycle the article is begun, else nothing
 -- that is kept changes
 abbrev pub BegunAs : {S : Type 0} {g : Ghosts S} → (trusted : Bool) → Terms → (h class octets : ℕ)
-    → (ℕ → List ℕ) → List Kept → (ℕ → Option Opening) → (ℕ → ℕ) → Place → Option Begun
+    → (ℕ → Course) → List Kept → (ℕ → Option Opening) → (ℕ → ℕ) → Place → Option Begun
     → (new : BufferSet S g) → Type 0
 BegunAs trusted w h class octets begun kept openings failures place None new =
     (last_cycle < place.cycle) × KeepsTexts trusted new w begun kept openings failures
 BegunAs trusted w h class octets begun kept openings failures place (Some one) new =
     (place.cycle ≤ last_cycle) × (token_of one ≡ token_at class octets place)
     × ((text : List ℕ) → length text ≡ octets
-    → KeepsTexts trusted new w (put_at begun h (begun h ++ size_of octets ∷ [])) kept
+    → KeepsTexts trusted new w
+    (put_at begun h (begun_in (slice_get w.groups h) (begun h) (size_of octets))) kept
     (put_at openings h (Some (IsOpen (token_of one) text 0))) failures)
 
 -- all that the buffer set keeps, with whatever state, it still keeps
 abbrev pub KeepsAll : {S : Type 0} {g : Ghosts S} → (old new : BufferSet S g) → Type 0
 KeepsAll old new =
-    (trusted : Bool) (w : Terms) (begun : ℕ → List ℕ) (kept : List Kept)
+    (trusted : Bool) (w : Terms) (begun : ℕ → Course) (kept : List Kept)
     (openings : ℕ → Option Opening) (failures : ℕ → ℕ)
     → KeepsTexts trusted old w begun kept openings failures
     → KeepsTexts trusted new w begun kept openings failures
@@ -82,7 +85,7 @@ KeepsAll old new =
 abbrev pub BeginsOn : {S : Type 0} {g : Ghosts S} → (h class octets : ℕ) → (old : BufferSet S g)
     → Option Begun → (new : BufferSet S g) → Type 0
 BeginsOn h class octets old result new =
-    (trusted : Bool) (w : Terms) (begun : ℕ → List ℕ) (kept : List Kept)
+    (trusted : Bool) (w : Terms) (begun : ℕ → Course) (kept : List Kept)
     (openings : ℕ → Option Opening) (failures : ℕ → ℕ)
     → KeepsTexts trusted old w begun kept openings failures
     → CanBegin w h (size_of octets) openings
@@ -97,7 +100,7 @@ IsFaultAt kind token e =
 -- a write of a block of group h's open write: one more is written, and whether it was the last is
 -- said; or the device failed
 abbrev pub WrittenAs : {S : Type 0} {g : Ghosts S} → (trusted : Bool) → Terms → (h : ℕ) → Token
-    → (text : List ℕ) → (written : ℕ) → (ℕ → List ℕ) → List Kept → (ℕ → Option Opening) → (ℕ → ℕ)
+    → (text : List ℕ) → (written : ℕ) → (ℕ → Course) → List Kept → (ℕ → Option Opening) → (ℕ → ℕ)
     → Result Bool WriteError → (new : BufferSet S g) → Type 0
 WrittenAs trusted w h token text written begun kept openings failures (Ok last) new =
     (last ≡ (written + 1 == size_of (length text)))
@@ -114,7 +117,7 @@ WrittenAs trusted w h token text written begun kept openings failures (Err (erro
 abbrev pub WritesOn : {S : Type 0} {g : Ghosts S} → Token → (text : List ℕ) → (old : BufferSet S g)
     → Result Bool WriteError → (new : BufferSet S g) → Type 0
 WritesOn token text old result new =
-    (trusted : Bool) (w : Terms) (begun : ℕ → List ℕ) (kept : List Kept)
+    (trusted : Bool) (w : Terms) (begun : ℕ → Course) (kept : List Kept)
     (openings : ℕ → Option Opening) (failures : ℕ → ℕ)
     → KeepsTexts trusted old w begun kept openings failures
     → (h written : ℕ) → openings h ≡ Some (IsOpen token text written)
@@ -149,7 +152,7 @@ WritesWhereItCan begun text old (Err (errors.Failed e)) new =
 abbrev pub FinishesOn : {S : Type 0} {g : Ghosts S} → Token → (old : BufferSet S g)
     → Result codes.Token Begun → (new : BufferSet S g) → Type 0
 FinishesOn token old result new =
-    (trusted : Bool) (w : Terms) (begun : ℕ → List ℕ) (kept : List Kept)
+    (trusted : Bool) (w : Terms) (begun : ℕ → Course) (kept : List Kept)
     (openings : ℕ → Option Opening) (failures : ℕ → ℕ)
     → KeepsTexts trusted old w begun kept openings failures
     → (h : ℕ) (text id : List ℕ)
@@ -175,7 +178,7 @@ FinishesWhereItCan begun old (Err back) new =
 -- the open write under this token is given up
 abbrev pub AbandonsOn : {S : Type 0} {g : Ghosts S} → Token → (old new : BufferSet S g) → Type 0
 AbandonsOn token old new =
-    (trusted : Bool) (w : Terms) (begun : ℕ → List ℕ) (kept : List Kept)
+    (trusted : Bool) (w : Terms) (begun : ℕ → Course) (kept : List Kept)
     (openings : ℕ → Option Opening) (failures : ℕ → ℕ)
     → KeepsTexts trusted old w begun kept openings failures
     → (h : ℕ) (one : Opening) → openings h ≡ Some one → token_in one ≡ token

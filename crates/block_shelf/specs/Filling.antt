@@ -9,6 +9,7 @@ use Rattle.cyc_buffer.specs.Agreement.{Agrees, store_of}
 use Rattle.cyc_buffer.specs.Head.{has_open_head, LeavesBlocks}
 use Rattle.cyc_buffer.specs.History.{new_history}
 use Rattle.cyc_buffer.specs.declared.buffer.Buffer.{Buffer}
+use Rattle.news_terms.specs.Courses.{first_course}
 use Rattle.news_terms.specs.Places as places
 use Rattle.relay_conf.specs.Places.{numbered_buffers}
 use Rattle.relay_conf.specs.declared.cycbuff.BufferConf.{BufferConf}
@@ -33,7 +34,7 @@ abbrev pub KeepsNothing : {S : Type 0} {g : Ghosts S} → Buffers → (stores : 
 KeepsNothing {g = g} settings stores buffer_set =
     (trusted : Bool) → (trusted ≡ true → All g.honest stores) → (w : Terms)
     → w.buffers ≡ places_of_buffers settings → w.groups ≡ places_of_groups settings
-    → KeepsTexts trusted buffer_set w (λ h. []) [] (λ h. None) (failures_in g stores)
+    → KeepsTexts trusted buffer_set w (λ h. first_course) [] (λ h. None) (failures_in g stores)
 
 -- the buffer of this number over a store, in which nothing was begun
 pub record IsNewOver {S : Type 0} {g : Ghosts S} (number : ℕ) (store : S) (code : Buffer S g)
@@ -99,7 +100,7 @@ IsBeginRefusal g stores (begins.Device number store) = HasFailedAt g stores numb
 abbrev pub AreNewPlacedGroups : List places.Group → List PlacedGroup → Type 0
 AreNewPlacedGroups groups placed_groups =
     (h : ℕ) (group : places.Group) → slice_get groups h ≡ Some group
-    → HasPlacedGroup placed_groups [] h group
+    → HasPlacedGroup placed_groups first_course h group
 
 -- the buffers that these numbers stand for
 abbrev pub members : List BufferConf → List ℕ → List places.Buffer

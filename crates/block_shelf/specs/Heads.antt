@@ -9,6 +9,7 @@ use Rattle.cyc_buffer.specs.History.{History}
 use Rattle.cyc_buffer.specs.Stopped.{numbers_of}
 use Rattle.cyc_buffer.specs.declared.buffer.Buffer.{Buffer}
 use Rattle.cyc_buffer.specs.declared.unopened.Unopened.{Unopened}
+use Rattle.news_terms.specs.Courses.{Course}
 use Rattle.news_terms.specs.HeadBlocks.{Open, head_image}
 use Rattle.relay_model.specs.State.{Kept}
 use Rattle.relay_model.specs.Terms.{Terms}
@@ -26,7 +27,7 @@ use Rattle.block_shelf.specs.declared.starting.Unstarted.{Unstarted}
 abbrev pub KeepsOpened : {S : Type 0} {g : Ghosts S} → UnopenedBufferSet S g
     → BufferSet S g → Type 0
 KeepsOpened unopened buffer_set =
-    (w : Terms) (begun : ℕ → List ℕ) (kept : List Kept) (failures : ℕ → ℕ)
+    (w : Terms) (begun : ℕ → Course) (kept : List Kept) (failures : ℕ → ℕ)
     → WillKeep unopened w begun kept failures
     → KeepsTexts true buffer_set w begun kept (λ h. None) failures
 

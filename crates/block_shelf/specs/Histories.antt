@@ -1,12 +1,12 @@
--- What the relay's state says of the history of one buffer: what its group picked for it was begun
--- there, what is whole under its tokens was finished there, as many as are whole, and the open
--- write of its group that is in it is the history's (docs/PROTOCOL.md, Store).
+-- What the relay's state says of the history of one buffer: its begins are its group's articles in
+-- it, what is whole under its tokens was finished there, as many as are whole, and the open write
+-- of its group that is in it is the history's (docs/PROTOCOL.md, Store).
 use Rattle.std.specs.Prelude.{◌≡◌, ◌≢◌, ℕ, ◌*◌, true, false, List, [], map, take}
-use Rattle.std.specs.Prelude.{Option, None, Some, slice_get, count_by}
+use Rattle.std.specs.Prelude.{Option, None, Some, filter, slice_get, count_by}
 use Rattle.cyc_buffer.specs.History as histories
 use Rattle.cyc_buffer.specs.History.{History, Writing, asked, open_token, stored_count}
+use Rattle.news_terms.specs.Courses.{Course, articles_of, is_in_buffer}
 use Rattle.news_terms.specs.BlockImage.{chunk_size}
-use Rattle.news_terms.specs.Picks.{begins_in}
 use Rattle.news_terms.specs.Places.{Group}
 use Rattle.news_terms.specs.Token.{Token}
 use Rattle.relay_model.specs.Fetches as fetches
@@ -15,11 +15,13 @@ use Rattle.relay_model.specs.State.{Kept}
 use Rattle.block_shelf.specs.Openings.{Opening, IsOpen, IsBroken, token_in}
 use Rattle.news_terms.specs.Settings.{IsBufferAt}
 
--- what was begun in a buffer is what its group picked for it; in a buffer of no group nothing was
-pub record HasBegins (groups : List Group) (begun : ℕ → List ℕ) (h : History) : Type 0 where
+-- the begins of a buffer are its group's articles in it, each where it lies; in a buffer of no
+-- group nothing was begun
+pub record HasBegins (groups : List Group) (begun : ℕ → Course) (h : History) : Type 0 where
   pub picked : (g i : ℕ) (group : Group) → slice_get groups g ≡ Some group
       → slice_get group.buffers i ≡ Some h.buffer
-      → map asked h.begins ≡ begins_in group i (begun g)
+      → articles_of h.buffer (map asked h.begins)
+      ≡ filter (is_in_buffer h.buffer) (begun g).articles
   pub none : ((g i : ℕ) → IsBufferAt groups g i h.buffer → ⊥) → h.begins ≡ []
 
 -- what was finished in a buffer is what is whole under its tokens
@@ -53,7 +55,7 @@ pub data HasWriting (openings : ℕ → Option Opening) (h : History) : Type 0 w
       → open_token h ≡ Some (token_in one) → IsWriting one h.writing → HasWriting openings h
 
 -- a buffer's history is what the relay's state says of it
-pub record IsHistoryOf (groups : List Group) (begun : ℕ → List ℕ) (kept : List Kept)
+pub record IsHistoryOf (groups : List Group) (begun : ℕ → Course) (kept : List Kept)
     (openings : ℕ → Option Opening) (h : History) : Type 0 where
   pub begins : HasBegins groups begun h
   pub texts : HasTexts kept h

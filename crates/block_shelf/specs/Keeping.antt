@@ -1,14 +1,15 @@
--- What the buffer set keeps, in the relay's own words: the sizes begun, the texts that are whole,
--- the open writes, and how often each device has failed (docs/PROTOCOL.md, Store).
+-- What the buffer set keeps, in the relay's own words: the course of each group, the texts that are
+-- whole, the open writes, and how often each device has failed (docs/PROTOCOL.md, Store).
 use Rattle.std.specs.Prelude.{◌≡◌, ℕ, Bool, List, map, length, Option, Some, slice_get, All}
 use Rattle.buffer_group.specs.Groups.{KeepsPlaces}
 use Rattle.cyc_block.specs.declared.store.BlockStore.{Ghosts}
 use Rattle.cyc_buffer.specs.Agreement.{Agrees, store_of}
 use Rattle.cyc_buffer.specs.History.{History}
 use Rattle.cyc_buffer.specs.declared.buffer.Buffer.{Buffer}
+use Rattle.news_terms.specs.Courses.{Course, IsLaid}
 use Rattle.news_terms.specs.Fronts.{FitsGroup}
 use Rattle.news_terms.specs.Places as places
-use Rattle.news_terms.specs.Places.{Group}
+use Rattle.news_terms.specs.Places.{Extent, Group}
 use Rattle.relay_model.specs.State.{Kept}
 use Rattle.relay_model.specs.Terms.{Terms}
 use Rattle.block_shelf.specs.Histories.{IsHistoryOf}
@@ -33,7 +34,7 @@ pub record IsOpenIn (groups : List Group) (g : ℕ) (one : Opening) : Type 0 whe
 -- the code's buffer agrees with a history that is what the relay's state says of this buffer, and
 -- its device has failed as often as is said
 pub record KeepsBuffer {S : Type 0} {g : Ghosts S} (trusted : Bool) (code : Buffer S g)
-    (groups : List Group) (begun : ℕ → List ℕ) (kept : List Kept) (openings : ℕ → Option Opening)
+    (groups : List Group) (begun : ℕ → Course) (kept : List Kept) (openings : ℕ → Option Opening)
     (failures : ℕ → ℕ) (buffer : places.Buffer)
     : Type 0 where
   pub history : History
@@ -44,38 +45,41 @@ pub record KeepsBuffer {S : Type 0} {g : Ghosts S} (trusted : Bool) (code : Buff
 
 -- the buffer at this place of the buffer set keeps what is said of this buffer
 pub record HasBuffer {S : Type 0} {g : Ghosts S} (trusted : Bool) (codes : List (Buffer S g))
-    (groups : List Group) (begun : ℕ → List ℕ) (kept : List Kept) (openings : ℕ → Option Opening)
+    (groups : List Group) (begun : ℕ → Course) (kept : List Kept) (openings : ℕ → Option Opening)
     (failures : ℕ → ℕ) (b : ℕ) (buffer : places.Buffer)
     : Type 0 where
   pub code : Buffer S g
   pub there : slice_get codes b ≡ Some code
   pub keeps : KeepsBuffer trusted code groups begun kept openings failures buffer
 
--- the code's group is where these sizes have brought the group, and has the numbers of its buffers
-pub record KeepsPlacedGroup (code : PlacedGroup) (group : Group) (begun : List ℕ) : Type 0 where
+-- the code's group is where the group is on this course, and has the numbers of its buffers
+pub record KeepsPlacedGroup (code : PlacedGroup) (group : Group) (begun : Course) : Type 0 where
   pub position : KeepsPlaces code.group group begun
   pub numbers : code.numbers.items ≡ map (λ (buffer : places.Buffer). buffer.number) group.buffers
 
 -- the group at this place of the buffer set keeps what is said of this group
-pub record HasPlacedGroup (codes : List PlacedGroup) (begun : List ℕ) (h : ℕ) (group : Group)
+pub record HasPlacedGroup (codes : List PlacedGroup) (begun : Course) (h : ℕ) (group : Group)
     : Type 0 where
   pub code : PlacedGroup
   pub there : slice_get codes h ≡ Some code
   pub keeps : KeepsPlacedGroup code group begun
 
--- The buffer set keeps, with these buffers and groups, these sizes begun, texts, open writes and
--- counts of failures; where its stores are trusted, they are honest.
+-- The buffer set keeps, with these buffers and groups, these courses, texts, open writes and counts
+-- of failures; where its stores are trusted, they are honest.
 pub record KeepsTexts {S : Type 0} {g : Ghosts S} (trusted : Bool)
     (buffer_set : BufferSet S g) (w : Terms)
-    (begun : ℕ → List ℕ) (kept : List Kept) (openings : ℕ → Option Opening) (failures : ℕ → ℕ)
+    (begun : ℕ → Course) (kept : List Kept) (openings : ℕ → Option Opening) (failures : ℕ → ℕ)
     : Type 0 where
   -- buffers and groups are sound, and the buffers numbered in their order
   pub sound : AreSound w.buffers w.groups
   pub numbered : (b : ℕ) (buffer : places.Buffer) → slice_get w.buffers b ≡ Some buffer
       → buffer.number ≡ b
-  -- each size fits each buffer of its group
+  -- each article begun fits each buffer of its group
   pub fit : (h : ℕ) (group : Group) → slice_get w.groups h ≡ Some group
-      → All (FitsGroup group) (begun h)
+      → All (λ (one : Extent). FitsGroup group one.size) (begun h).articles
+  -- each lies in one of them, at its front or past it, and the turn is that of one of them
+  pub laid : (h : ℕ) (group : Group) → slice_get w.groups h ≡ Some group
+      → IsLaid group (begun h)
   -- each open write is in a buffer of its group
   pub opened : (h : ℕ) (one : Opening) → openings h ≡ Some one → IsOpenIn w.groups h one
   -- each buffer and each group of the buffer set keeps what is said of it

@@ -12,6 +12,7 @@ use Rattle.cyc_buffer.specs.declared.answers.StartError.TheVariants as starts
 use Rattle.cyc_buffer.specs.declared.buffer.Buffer.{Buffer}
 use Rattle.cyc_buffer.specs.declared.restarting.RestartError.{RestartError}
 use Rattle.cyc_buffer.specs.declared.restarting.RestartError.TheVariants as errors
+use Rattle.news_terms.specs.Courses.{Course}
 use Rattle.news_terms.specs.HeadBlocks.{Open, head_image}
 use Rattle.news_terms.specs.Places as places
 use Rattle.relay_model.specs.State.{Kept}
@@ -34,7 +35,7 @@ pub record FailedAt (w : Terms) (number : ℕ) (before after : ℕ → ℕ) : Ty
 -- what it kept. Where it is done no device has failed; it is refused for memory, and over honest
 -- stores else for a device that failed alone.
 pub record StaysKept {S : Type 0} {g : Ghosts S} (trusted : Bool) (w : Terms)
-    (begun : ℕ → List ℕ) (kept : List Kept) (failures : ℕ → ℕ)
+    (begun : ℕ → Course) (kept : List Kept) (failures : ℕ → ℕ)
     (result : Result (Unit {0}) RestartFault) (new : BufferSet S g)
     : Type 0 where
   pub later : ℕ → ℕ
@@ -49,7 +50,7 @@ pub record StaysKept {S : Type 0} {g : Ghosts S} (trusted : Bool) (w : Terms)
 abbrev pub KeepsOn : {S : Type 0} {g : Ghosts S} → (old : BufferSet S g)
     → Result (Unit {0}) RestartFault → (new : BufferSet S g) → Type 0
 KeepsOn old result new =
-    (trusted : Bool) (w : Terms) (begun : ℕ → List ℕ) (kept : List Kept) (failures : ℕ → ℕ)
+    (trusted : Bool) (w : Terms) (begun : ℕ → Course) (kept : List Kept) (failures : ℕ → ℕ)
     → KeepsTexts trusted old w begun kept (λ h. None) failures
     → StaysKept trusted w begun kept failures result new
 

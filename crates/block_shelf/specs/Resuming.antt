@@ -6,9 +6,9 @@ use Rattle.cyc_buffer.specs.Agreement.{Agrees}
 use Rattle.cyc_buffer.specs.History.{History}
 use Rattle.cyc_buffer.specs.Stopped.{used_of}
 use Rattle.cyc_buffer.specs.declared.buffer.Buffer.{Buffer}
+use Rattle.news_terms.specs.Courses.{Course, position_in}
 use Rattle.news_terms.specs.Places as places
 use Rattle.news_terms.specs.Places.{Group, Sequential}
-use Rattle.news_terms.specs.Positions.{position_of}
 use Rattle.relay_conf.specs.Places.{group_over, group_view, numbered_buffers}
 use Rattle.relay_conf.specs.Settings.{places_of_groups}
 use Rattle.relay_conf.specs.declared.cycbuff.BufferConf.{BufferConf}
@@ -29,19 +29,19 @@ IsUsed b code used = (trusted : Bool) (h : History) → Agrees trusted code h �
 abbrev pub AreUsed : {S : Type 0} {g : Ghosts S} → List (Buffer S g) → (used : List ℕ) → Type 0
 AreUsed codes used = AreEach IsUsed codes used
 
--- The current buffer of a group after these sizes is there. Where one buffer is filled after the
+-- The current buffer of a group on this course is there. Where one buffer is filled after the
 -- other, as much is used of the group's run as is said to be used in the cycle of this one; of a
 -- buffer of which no use is told that is 0.
-pub record HasCurrent (used : List ℕ) (group : Group) (begun : List ℕ) : Type 0 where
+pub record HasCurrent (used : List ℕ) (group : Group) (begun : Course) : Type 0 where
   pub buffer : places.Buffer
-  pub there : slice_get group.buffers (position_of group begun).index ≡ Some buffer
+  pub there : slice_get group.buffers (position_in group begun).index ≡ Some buffer
   pub used_there : group.mode ≡ Sequential
-      → unwrap_or (slice_get used buffer.number) 0 ≡ (position_of group begun).used
+      → unwrap_or (slice_get used buffer.number) 0 ≡ (position_in group begun).used
 
 -- the placed group is that of a group at this position of it, over buffers with so many blocks used
 abbrev pub ResumesPlacedGroup : Group → (position : ℕ) → (used : List ℕ) → PlacedGroup → Type 0
 ResumesPlacedGroup group position used placed_group =
-    (begun : List ℕ) → (position_of group begun).index ≡ position → HasCurrent used group begun
+    (begun : Course) → (position_in group begun).index ≡ position → HasCurrent used group begun
     → KeepsPlacedGroup placed_group group begun
 
 -- the placed group is that of the group at this place of the settings, at its position; at its
@@ -57,7 +57,7 @@ IsResumedAt all positions used place group placed_group =
 -- groups are where that has brought the groups.
 abbrev pub ResumesByUse : Buffers → (positions used : List ℕ) → List PlacedGroup → Type 0
 ResumesByUse settings positions used placed_groups =
-    (w : Terms) (begun : ℕ → List ℕ) → w.groups ≡ places_of_groups settings
+    (w : Terms) (begun : ℕ → Course) → w.groups ≡ places_of_groups settings
     → ((h : ℕ) (group : Group) → slice_get w.groups h ≡ Some group
     → HasCurrent used group (begun h))
     → ArePositions w.groups begun positions → PlacedGroupsKeep placed_groups w begun

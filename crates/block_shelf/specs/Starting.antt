@@ -17,10 +17,11 @@ use Rattle.cyc_buffer.specs.declared.answers.StartError.TheVariants as errors
 use Rattle.cyc_buffer.specs.declared.buffer.Buffer.{Buffer}
 use Rattle.cyc_buffer.specs.declared.unopened.Unopened.{Unopened}
 use Rattle.cyc_token.specs.declared.Token as code
+use Rattle.news_terms.specs.Courses.{Course, IsLaid}
 use Rattle.news_terms.specs.Fronts.{FitsGroup}
 use Rattle.news_terms.specs.HeadBlocks.{head_blocks}
 use Rattle.news_terms.specs.Places as places
-use Rattle.news_terms.specs.Places.{Group}
+use Rattle.news_terms.specs.Places.{Extent, Group}
 use Rattle.news_terms.specs.Settings.{AreSound}
 use Rattle.relay_conf.specs.Settings.{places_of_buffers, places_of_groups}
 use Rattle.relay_conf.specs.declared.settings.Buffers.{Buffers}
@@ -43,28 +44,30 @@ use Rattle.block_shelf.specs.declared.opening.UnopenedBufferSet.{UnopenedBufferS
 abbrev pub buffers_inside : {S : Type 0} {g : Ghosts S} → List (Unopened S g) → List (Buffer S g)
 buffers_inside unopened = map inside unopened
 
--- These buffers keep, with these buffers and groups, these sizes begun, texts and counts of
--- failures; no write is open. Their stores are honest.
+-- These buffers keep, with these buffers and groups, these courses, texts and counts of failures;
+-- no write is open. Their stores are honest.
 pub record BuffersKeep {S : Type 0} {g : Ghosts S} (codes : List (Buffer S g)) (w : Terms)
-    (begun : ℕ → List ℕ) (kept : List Kept) (failures : ℕ → ℕ)
+    (begun : ℕ → Course) (kept : List Kept) (failures : ℕ → ℕ)
     : Type 0 where
   pub sound : AreSound w.buffers w.groups
   pub numbered : (b : ℕ) (buffer : places.Buffer) → slice_get w.buffers b ≡ Some buffer
       → buffer.number ≡ b
   pub fit : (h : ℕ) (group : Group) → slice_get w.groups h ≡ Some group
-      → All (FitsGroup group) (begun h)
+      → All (λ (one : Extent). FitsGroup group one.size) (begun h).articles
+  pub laid : (h : ℕ) (group : Group) → slice_get w.groups h ≡ Some group
+      → IsLaid group (begun h)
   pub count : length codes ≡ length w.buffers
   pub buffers : (b : ℕ) (buffer : places.Buffer) → slice_get w.buffers b ≡ Some buffer
       → HasBuffer true codes w.groups begun kept (λ h. None) failures b buffer
 
 -- so the buffers of a started buffer set do
-abbrev pub HoldsStarted : {S : Type 0} {g : Ghosts S} → UnopenedBufferSet S g → Terms → (ℕ → List ℕ)
-    → List Kept → (ℕ → ℕ) → Type 0
+abbrev pub HoldsStarted : {S : Type 0} {g : Ghosts S} → UnopenedBufferSet S g → Terms
+    → (ℕ → Course) → List Kept → (ℕ → ℕ) → Type 0
 HoldsStarted buffer_set w begun kept failures =
     BuffersKeep (buffers_inside buffer_set.buffers.items) w begun kept failures
 
--- the placed groups are where these sizes have brought the groups
-pub record PlacedGroupsKeep (placed_groups : List PlacedGroup) (w : Terms) (begun : ℕ → List ℕ)
+-- the placed groups are where the groups are on these courses
+pub record PlacedGroupsKeep (placed_groups : List PlacedGroup) (w : Terms) (begun : ℕ → Course)
     : Type 0 where
   pub count : length placed_groups ≡ length w.groups
   pub each : (h : ℕ) (group : Group) → slice_get w.groups h ≡ Some group
@@ -72,14 +75,14 @@ pub record PlacedGroupsKeep (placed_groups : List PlacedGroup) (w : Terms) (begu
 
 -- the started buffer set keeps, over honest stores, what it will keep once its heads are open
 pub record WillKeep {S : Type 0} {g : Ghosts S} (buffer_set : UnopenedBufferSet S g) (w : Terms)
-    (begun : ℕ → List ℕ) (kept : List Kept) (failures : ℕ → ℕ)
+    (begun : ℕ → Course) (kept : List Kept) (failures : ℕ → ℕ)
     : Type 0 where
   pub texts : HoldsStarted buffer_set w begun kept failures
   pub placed_groups : PlacedGroupsKeep buffer_set.placed_groups.items w begun
 
 -- what stores hold as stopped under this number, with the buffers and groups of the settings
 abbrev pub IsHeldBy : {S : Type 0} → Ghosts S → Buffers → (stores : List S) → (stop : ℕ) → Terms
-    → (ℕ → List ℕ) → List Kept → (ℕ → ℕ) → Type 0
+    → (ℕ → Course) → List Kept → (ℕ → ℕ) → Type 0
 IsHeldBy g settings stores stop w begun kept failures =
     (w.buffers ≡ places_of_buffers settings) × (w.groups ≡ places_of_groups settings)
     × HoldsTexts g stores stop w begun kept failures
@@ -88,7 +91,7 @@ IsHeldBy g settings stores stop w begun kept failures =
 abbrev pub KeepsHeld : {S : Type 0} {g : Ghosts S} → Buffers → (stores : List S) → (stop : ℕ)
     → UnopenedBufferSet S g → Type 0
 KeepsHeld {g = g} settings stores stop buffer_set =
-    (w : Terms) (begun : ℕ → List ℕ) (kept : List Kept) (failures : ℕ → ℕ)
+    (w : Terms) (begun : ℕ → Course) (kept : List Kept) (failures : ℕ → ℕ)
     → IsHeldBy g settings stores stop w begun kept failures
     → HoldsStarted buffer_set w begun kept failures
 
@@ -96,7 +99,7 @@ KeepsHeld {g = g} settings stores stop buffer_set =
 abbrev pub WillKeepHeld : {S : Type 0} {g : Ghosts S} → Buffers → (stores : List S) → (stop : ℕ)
     → (positions : List ℕ) → UnopenedBufferSet S g → Type 0
 WillKeepHeld {g = g} settings stores stop positions buffer_set =
-    (w : Terms) (begun : ℕ → List ℕ) (kept : List Kept) (failures : ℕ → ℕ)
+    (w : Terms) (begun : ℕ → Course) (kept : List Kept) (failures : ℕ → ℕ)
     → IsHeldBy g settings stores stop w begun kept failures
     → ArePositions w.groups begun positions → WillKeep buffer_set w begun kept failures
 
@@ -170,7 +173,7 @@ pub record IsStartedBufferSet {S : Type 0} {g : Ghosts S} (stores : List S) (sto
 abbrev pub ResumePlacedGroups : {S : Type 0} {g : Ghosts S} → Buffers → (positions : List ℕ)
     → List (Buffer S g) → List PlacedGroup → Type 0
 ResumePlacedGroups settings positions codes placed_groups =
-    (w : Terms) (begun : ℕ → List ℕ) (kept : List Kept) (failures : ℕ → ℕ)
+    (w : Terms) (begun : ℕ → Course) (kept : List Kept) (failures : ℕ → ℕ)
     → w.groups ≡ places_of_groups settings → BuffersKeep codes w begun kept failures
     → ArePositions w.groups begun positions → PlacedGroupsKeep placed_groups w begun
 
@@ -274,7 +277,7 @@ IsFromOutside faults.Ahead = ⊥
 abbrev pub HasCause : {S : Type 0} → Ghosts S → Buffers → (stores : List S) → (stop : ℕ)
     → Unstarted S → Type 0
 HasCause g settings stores stop refused =
-    (w : Terms) (begun : ℕ → List ℕ) (kept : List Kept) (failures : ℕ → ℕ)
+    (w : Terms) (begun : ℕ → Course) (kept : List Kept) (failures : ℕ → ℕ)
     → IsHeldBy g settings stores stop w begun kept failures → IsFromOutside refused.error
 
 -- STEP BY STEP

@@ -10,11 +10,11 @@ use Rattle.cyc_buffer.specs.Head.{is_busy}
 use Rattle.cyc_buffer.specs.History.{History}
 use Rattle.cyc_buffer.specs.Stopped.{HoldsStopped}
 use Rattle.cyc_buffer.specs.declared.buffer.Buffer.{Buffer}
+use Rattle.news_terms.specs.Courses.{Course, IsLaid, position_in}
 use Rattle.news_terms.specs.Fronts.{FitsGroup}
 use Rattle.news_terms.specs.HeadBlocks.{head_blocks}
 use Rattle.news_terms.specs.Places as places
-use Rattle.news_terms.specs.Places.{Group}
-use Rattle.news_terms.specs.Positions.{position_of}
+use Rattle.news_terms.specs.Places.{Extent, Group}
 use Rattle.news_terms.specs.Settings.{AreSound}
 use Rattle.relay_model.specs.State.{Kept}
 use Rattle.relay_model.specs.Terms.{Terms}
@@ -29,24 +29,24 @@ use Rattle.block_shelf.specs.declared.stopping.Unshut.TheVariants as answers
 
 -- THE POSITIONS
 
--- the positions are those of the groups after these sizes
-pub record ArePositions (groups : List Group) (begun : ℕ → List ℕ) (positions : List ℕ) : Type 0
+-- the positions are those of the groups on these courses
+pub record ArePositions (groups : List Group) (begun : ℕ → Course) (positions : List ℕ) : Type 0
   where
     pub count : length positions ≡ length groups
     pub each : (h : ℕ) (group : Group) → slice_get groups h ≡ Some group
-        → slice_get positions h ≡ Some (position_of group (begun h)).index
+        → slice_get positions h ≡ Some (position_in group (begun h)).index
 
 -- the position is that of the placed group's group, which has no more buffers than there are
 -- numbers
 abbrev pub TellsPosition : ℕ → PlacedGroup → (position : ℕ) → Type 0
 TellsPosition b placed_group position =
-    (group : Group) (begun : List ℕ) → KeepsPlacedGroup placed_group group begun
-    → length group.buffers ≤ 2 ^ 8 → position ≡ (position_of group begun).index
+    (group : Group) (begun : Course) → KeepsPlacedGroup placed_group group begun
+    → length group.buffers ≤ 2 ^ 8 → position ≡ (position_in group begun).index
 
 -- these are the positions of the buffer set's groups
 abbrev pub TellsPositions : {S : Type 0} {g : Ghosts S} → BufferSet S g → List ℕ → Type 0
 TellsPositions buffer_set positions =
-    (trusted : Bool) (w : Terms) (begun : ℕ → List ℕ) (kept : List Kept)
+    (trusted : Bool) (w : Terms) (begun : ℕ → Course) (kept : List Kept)
     (openings : ℕ → Option Opening) (failures : ℕ → ℕ)
     → KeepsTexts trusted buffer_set w begun kept openings failures
     → ArePositions w.groups begun positions
@@ -56,7 +56,7 @@ TellsPositions buffer_set positions =
 -- the store at this place holds, as stopped under this number, a history that is what the relay's
 -- state says of this buffer; the store is honest, and its device has failed as often as is said
 pub record HoldsBuffer {S : Type 0} (g : Ghosts S) (stores : List S) (stop : ℕ)
-    (groups : List Group) (begun : ℕ → List ℕ) (kept : List Kept) (failures : ℕ → ℕ) (b : ℕ)
+    (groups : List Group) (begun : ℕ → Course) (kept : List Kept) (failures : ℕ → ℕ) (b : ℕ)
     (buffer : places.Buffer)
     : Type 0 where
   pub store : S
@@ -68,16 +68,18 @@ pub record HoldsBuffer {S : Type 0} (g : Ghosts S) (stores : List S) (stop : ℕ
   pub is_said : IsHistoryOf groups begun kept (λ h. None) history
   pub failed : failures buffer.number ≡ g.failures store
 
--- The stores hold, as stopped under this number, with these buffers and groups, these sizes begun,
+-- The stores hold, as stopped under this number, with these buffers and groups, these courses,
 -- texts and counts of failures. No write is open. It is said of honest stores alone.
 pub record HoldsTexts {S : Type 0} (g : Ghosts S) (stores : List S) (stop : ℕ) (w : Terms)
-    (begun : ℕ → List ℕ) (kept : List Kept) (failures : ℕ → ℕ)
+    (begun : ℕ → Course) (kept : List Kept) (failures : ℕ → ℕ)
     : Type 0 where
   pub sound : AreSound w.buffers w.groups
   pub numbered : (b : ℕ) (buffer : places.Buffer) → slice_get w.buffers b ≡ Some buffer
       → buffer.number ≡ b
   pub fit : (h : ℕ) (group : Group) → slice_get w.groups h ≡ Some group
-      → All (FitsGroup group) (begun h)
+      → All (λ (one : Extent). FitsGroup group one.size) (begun h).articles
+  pub laid : (h : ℕ) (group : Group) → slice_get w.groups h ≡ Some group
+      → IsLaid group (begun h)
   pub count : length stores ≡ length w.buffers
   pub buffers : (b : ℕ) (buffer : places.Buffer) → slice_get w.buffers b ≡ Some buffer
       → HoldsBuffer g stores stop w.groups begun kept failures b buffer
@@ -85,7 +87,7 @@ pub record HoldsTexts {S : Type 0} (g : Ghosts S) (stores : List S) (stop : ℕ)
 -- the stores hold all that the buffer set kept over honest stores, where no write was open
 abbrev pub HoldsKept : {S : Type 0} {g : Ghosts S} → (stop : ℕ) → BufferSet S g → List S → Type 0
 HoldsKept {g = g} stop buffer_set stores =
-    (w : Terms) (begun : ℕ → List ℕ) (kept : List Kept) (failures : ℕ → ℕ)
+    (w : Terms) (begun : ℕ → Course) (kept : List Kept) (failures : ℕ → ℕ)
     → KeepsTexts true buffer_set w begun kept (λ h. None) failures
     → HoldsTexts g stores stop w begun kept failures
 
@@ -120,7 +122,7 @@ pub record IsBusyBufferSet {S : Type 0} {g : Ghosts S} (buffer_set : BufferSet S
   pub code : Buffer S g
   pub there : slice_get buffer_set.buffers.items at ≡ Some code
   pub busy : is_busy code ≡ true
-  pub writing : (trusted : Bool) (w : Terms) (begun : ℕ → List ℕ) (kept : List Kept)
+  pub writing : (trusted : Bool) (w : Terms) (begun : ℕ → Course) (kept : List Kept)
       (failures : ℕ → ℕ) → KeepsTexts trusted buffer_set w begun kept (λ h. None) failures → ⊥
 
 -- the store of a buffer, where the stop of the buffer at this place was refused: it stays honest

@@ -1,5 +1,5 @@
 //! All buffers with their groups: the store of the relay, in the relay's own words. What is above
-//! speaks of sizes begun, of texts that are whole and of tokens, and never of blocks, stamps or
+//! speaks of what was begun, of texts that are whole and of tokens, and never of blocks, stamps or
 //! rings.
 #![tactic(auto)]
 

@@ -10,16 +10,16 @@ pub struct Place {
 }
 
 impl PlacedGroup {
-    ghost use Rattle.std.specs.Prelude.{◌≡◌, ℕ, List, [], ◌∷◌, ◌++◌, IsSomeAnd};
+    ghost use Rattle.std.specs.Prelude.{◌≡◌, IsSomeAnd};
     ghost use Rattle.block_shelf.specs.Keeping.{KeepsPlacedGroup};
     ghost use Rattle.block_shelf.specs.Picking.{IsPicked};
     ghost use Rattle.buffer_group.specs.Groups.{pick_view};
-    ghost use Rattle.news_terms.specs.Picks.{pick_of};
+    ghost use Rattle.news_terms.specs.Courses.{Course, course_next, pick_in};
     ghost use Rattle.news_terms.specs.Places.{Group, size_of};
 
     /// Where the next article of the group goes, which has so many octets.
     pub fn pick(&self, length: u32) -> Option<Place>
-        ensures { (group : Group) (begun : List ℕ) → KeepsPlacedGroup self.now group begun
+        ensures { (group : Group) (begun : Course) → KeepsPlacedGroup self.now group begun
             → IsSomeAnd result (IsPicked group begun (size_of length)) }
     {
         let pick = self.group.pick(length);
@@ -29,9 +29,9 @@ impl PlacedGroup {
 
     /// Goes on after an article of so many octets was begun where it was picked.
     pub fn begun(&mut self, pick: &Pick, length: u32)
-        ensures { (group : Group) (begun : List ℕ) → KeepsPlacedGroup self.old group begun
-            → pick_view pick.now ≡ pick_of group begun (size_of length)
-            → KeepsPlacedGroup self.new group (begun ++ size_of length ∷ []) }
+        ensures { (group : Group) (begun : Course) → KeepsPlacedGroup self.old group begun
+            → pick_view pick.now ≡ pick_in group begun (size_of length)
+            → KeepsPlacedGroup self.new group (course_next group begun (size_of length)) }
     {
         self.group.begun(pick, length);
     }

@@ -2,9 +2,10 @@
 use Rattle.std.specs.Prelude.{◌≡◌, ℕ, List, length, map}
 use Rattle.buffer_group.specs.declared.group.Group.{Group}
 use Rattle.buffer_group.specs.declared.group.Pick.{Pick}
+use Rattle.news_terms.specs.Courses.{Course, position_in}
 use Rattle.news_terms.specs.Picks as picks
 use Rattle.news_terms.specs.Places as places
-use Rattle.news_terms.specs.Positions.{Position, position_of}
+use Rattle.news_terms.specs.Positions.{Position}
 use Rattle.relay_conf.specs.Places.{mode_view}
 use Rattle.relay_conf.specs.declared.cycbuff.Mode.{Mode}
 
@@ -32,8 +33,8 @@ position_view code = record { index = code.position; used = code.used }
 abbrev pub blocks_in : List places.Buffer → List ℕ
 blocks_in buffers = map (λ (b : places.Buffer). b.blocks) buffers
 
--- the code is where the group is after these sizes were begun
-pub record KeepsPlaces (code : Group) (group : places.Group) (begun : List ℕ) : Type 0 where
+-- the code is where the group is on this course
+pub record KeepsPlaces (code : Group) (group : places.Group) (begun : Course) : Type 0 where
   pub mode : mode_view (group_mode code) ≡ group.mode
   pub blocks : group_blocks code ≡ blocks_in group.buffers
-  pub position : position_of group begun ≡ position_view code
+  pub position : position_in group begun ≡ position_view code

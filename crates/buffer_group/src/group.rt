@@ -1,7 +1,7 @@
 ghost use Rattle.std.specs.Prelude.{◌<◌, length};
 
 use cyc_buffer::size_of;
-use news_terms::picks::positions_pick;
+use news_terms::courses::positions_follow;
 use relay_conf::Mode;
 
 /// Where an article goes in its group.
@@ -27,24 +27,24 @@ pub struct Group {
 }
 
 impl Group {
-    ghost use Rattle.std.specs.Prelude.{◌≡◌, ◌<◌, ℕ, List, [], ◌∷◌, ◌++◌, length, slice_get};
+    ghost use Rattle.std.specs.Prelude.{◌≡◌, ◌<◌, length, slice_get};
     ghost use Rattle.buffer_group.specs.Groups.{KeepsPlaces, blocks_in, pick_view, position_view};
     ghost use Rattle.buffer_group.specs.Groups.{group_mode, group_blocks, buffer_count};
-    ghost use Rattle.news_terms.specs.Picks.{pick_of};
+    ghost use Rattle.news_terms.specs.Courses.{Course, course_next, pick_in, position_in};
     ghost use Rattle.news_terms.specs.Places as places;
     ghost use Rattle.news_terms.specs.Places.{size_of};
-    ghost use Rattle.news_terms.specs.Positions.{index_after, position_of};
+    ghost use Rattle.news_terms.specs.Positions.{index_after};
     ghost use Rattle.relay_conf.specs.Places.{mode_view};
 
     /// A group that was at this place of its buffers, as it is again: where one is filled after the
     /// other with so many blocks used of the current one's run; where they take turns these are 0.
     pub fn resume(mode: Mode, blocks: Vec<u32>, position: usize, used: u32) -> Group
         requires { position < length blocks.items }
-        ensures places { (group : places.Group) (begun : List ℕ) → mode_view mode ≡ group.mode
+        ensures places { (group : places.Group) (begun : Course) → mode_view mode ≡ group.mode
             → blocks.items ≡ blocks_in group.buffers
-            → position_of group begun ≡ record { index = position; used = used }
+            → position_in group begun ≡ record { index = position; used = used }
             → KeepsPlaces result group begun }
-        // Whether sizes have brought a group there or not.
+        // Whether a course has brought a group there or not.
         ensures position { position_view result ≡ record { index = position; used = used } }
         ensures mode { group_mode result ≡ mode }
         ensures blocks { group_blocks result ≡ blocks.items }
@@ -59,8 +59,8 @@ impl Group {
 
     /// The place of the current buffer in the group, counted from 0.
     pub fn position(&self) -> usize
-        ensures places { (group : places.Group) (begun : List ℕ) → KeepsPlaces self.now group begun
-            → result ≡ (position_of group begun).index }
+        ensures places { (group : places.Group) (begun : Course) → KeepsPlaces self.now group begun
+            → result ≡ (position_in group begun).index }
         ensures here { result ≡ (position_view self.now).index }
         ensures within { result < buffer_count self.now }
     {
@@ -69,11 +69,10 @@ impl Group {
 
     /// Where the next article of the group goes, which has so many octets.
     pub fn pick(&self, length: u32) -> Pick
-        ensures places { (group : places.Group) (begun : List ℕ) → KeepsPlaces self.now group begun
-            → pick_view result ≡ pick_of group begun (size_of length) }
+        ensures places { (group : places.Group) (begun : Course) → KeepsPlaces self.now group begun
+            → pick_view result ≡ pick_in group begun (size_of length) }
         ensures within { result.buffer < buffer_count self.now }
     {
-        positions_pick();
         match self.mode {
             Mode::Interleave => Pick {
                 buffer: self.position,
@@ -98,13 +97,13 @@ impl Group {
 
     /// Goes on after an article of so many octets was begun where it was picked.
     pub fn begun(&mut self, pick: &Pick, length: u32)
-        ensures places { (group : places.Group) (begun : List ℕ) → KeepsPlaces self.old group begun
-            → pick_view pick.now ≡ pick_of group begun (size_of length)
-            → KeepsPlaces self.new group (begun ++ size_of length ∷ []) }
+        ensures places { (group : places.Group) (begun : Course) → KeepsPlaces self.old group begun
+            → pick_view pick.now ≡ pick_in group begun (size_of length)
+            → KeepsPlaces self.new group (course_next group begun (size_of length)) }
         ensures mode { group_mode self.new ≡ group_mode self.old }
         ensures blocks { group_blocks self.new ≡ group_blocks self.old }
     {
-        positions_pick();
+        positions_follow();
         match self.mode {
             Mode::Interleave => self.position = self.next(),
             Mode::Sequential => {

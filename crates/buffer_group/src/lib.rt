@@ -1,7 +1,7 @@
 //! Groups of buffers and their writers (docs/PROTOCOL.md, Groups and writers).
 //!
 //! A group says of each article which of its buffers it goes to. It keeps where it is, and not the
-//! list of sizes that the definitions walk. A writer is how far the storing of a group's articles
+//! articles that the definitions walk. A writer is how far the storing of a group's articles
 //! is: at most one job, in one phase, and the phase says what the next step is.
 #![tactic(auto)]
 

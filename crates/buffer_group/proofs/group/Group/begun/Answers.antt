@@ -1,11 +1,10 @@
-use Rattle.std.proofs.Common.{◌≡◌, ◌∙◌, ℕ, ◌+◌, ◌<◌, ◌≤◌, ◌++◌, ◌∷◌, [], length, get_or, false}
+use Rattle.std.proofs.Common.{◌≡◌, ◌∙◌, ℕ, ◌+◌, ◌<◌, ◌≤◌, length, get_or, false}
 use Rattle.std.proofs.Common.{sym, ap, arith}
 use Rattle.std.proofs.lemmas.Option.{same_Some, slice_get-get_or}
-use Rattle.buffer_group.proofs.Picking.{same_count, stays_here}
+use Rattle.buffer_group.proofs.Picking.{stays_here, turn_there}
+use Rattle.news_terms.specs.Courses.{course_next, pick_in, position_in}
 use Rattle.news_terms.specs.Picks as picks
-use Rattle.news_terms.specs.Picks.{pick_of}
 use Rattle.news_terms.specs.Places.{size_of}
-use Rattle.news_terms.specs.Positions.{position_of}
 use Rattle.buffer_group.proofs.group.Group.begun.Goals as goal
 
 pub returns-else-pick-clause-places : goal.returns-else-pick-clause-places
@@ -13,15 +12,13 @@ returns-else-pick-clause-places c = λ group begun keeps picked.
     let code = c.args.self.now in
     let size : ℕ = size_of c.args.length in
     let inside : code.position < length code.blocks.items = code.within in
-    let some : 0 < length group.buffers = omega (arith, same_count code group begun keeps) in
-    let plain : (pick_of group begun size).fresh ≡ false =
+    let plain : (pick_in group begun size).fresh ≡ false =
     ap (λ (k : picks.Pick). k.fresh) (sym picked) ∙ c.if-pick.false in
     let stays : (code.used + size ≤ get_or code.blocks.items code.position 0)
-    × (position_of group (begun ++ size ∷ [])
+    × (position_in group (course_next group begun size)
     ≡ record { index = code.position; used = code.used + size }) =
-    stays_here code group begun size keeps c.in-Sequential.is
-    (c.positions_pick.ensures.picks group some begun size)
-    (c.positions_pick.ensures.moves group some begun size) plain in
+    stays_here code group begun keeps size c.in-Sequential.is
+    (c.positions_follow.ensures.moves group begun (turn_there code group begun keeps) size) plain in
     let room : get_or code.blocks.items code.position 0 ≡ c.room.result =
     same_Some _ _ (sym (slice_get-get_or code.blocks.items code.position 0 inside)
     ∙ c.room.ensures) in

@@ -6,10 +6,8 @@ use Rattle.buffer_group.proofs.group.Group.pick.Goals as goal
 
 pub returns-then-used-from-clause-places : goal.returns-then-used-from-clause-places
 returns-then-used-from-clause-places c = λ group begun keeps.
-    fits_here c.args.self.now group begun (size_of c.args.length) c.room.result keeps
-    c.in-Sequential.is
-    (λ some. c.positions_pick.ensures.picks group some begun (size_of c.args.length))
-    c.room.ensures
+    fits_here c.args.self.now group begun keeps (size_of c.args.length) c.in-Sequential.is
+    c.room.result c.room.ensures
     (omega (
       arith,
       c.if-used-from.true,
@@ -22,10 +20,8 @@ returns-then-used-from-clause-places c = λ group begun keeps.
 pub returns-else-used-from-clause-places : goal.returns-else-used-from-clause-places
 returns-else-used-from-clause-places c = λ group begun keeps.
     ap (λ i. record { index = i; fresh = true }) c.next.ensures.after
-    ∙ goes_on c.args.self.now group begun (size_of c.args.length) c.room.result keeps
-    c.in-Sequential.is
-    (λ some. c.positions_pick.ensures.picks group some begun (size_of c.args.length))
-    c.room.ensures
+    ∙ goes_on c.args.self.now group begun keeps (size_of c.args.length) c.in-Sequential.is
+    c.room.result c.room.ensures
     (omega (
       arith,
       c.if-used-from.false,
