@@ -1,5 +1,5 @@
 //! The packed list.
-ghost use Rattle.std.specs.Prelude.{◌≡◌, ◌+◌, ◌<◌, ◌≤◌, ◌^◌, ◌++◌, [], ◌∷◌, length, OnOk};
+ghost use Rattle.std.specs.Prelude.{◌≡◌, ◌+◌, ◌<◌, ◌≤◌, ◌^◌, ◌++◌, [], ◌∷◌, length, OnOk, OnErr};
 ghost use Rattle.live_jobs.specs.Names.{id_limit, name_limit};
 
 use crate::left::NamesLeft;
@@ -57,6 +57,8 @@ impl JobNames {
     pub fn reserve_one(&mut self) -> Result<(), AllocError>
         ensures names { self.new.names ≡ self.old.names }
         ensures room { OnOk result (name_limit ≤ self.new.room) }
+        // No more than a name's room is asked for.
+        ensures refused { OnErr result (self.old.room < name_limit) }
     {
         self.octets.reserve(NAME_LIMIT)
     }

@@ -25,7 +25,7 @@ use Rattle.id_history.specs.History.{FeedHolds, Holds, IdHolds, IsThere, KeptFee
 use Rattle.id_history.specs.History as texts
 use Rattle.id_history.specs.Lasting.{AreLasting, claim_of_kept, claim_since, lasting}
 use Rattle.news_terms.specs.Places.{Buffer, Group, Interleave, Sequential, Mode}
-use Rattle.news_terms.specs.Positions.{position_by, position_of}
+use Rattle.news_terms.specs.Courses.{Course, IsLaid, position_in}
 use Rattle.news_terms.specs.Ring.{ring}
 use Rattle.news_terms.specs.Ring as rings
 use Rattle.news_terms.specs.Token.{Token}
@@ -157,24 +157,19 @@ module _ (config : Config) where
 
 -- POSITIONS
 
--- a group is at one of its buffers
-at_member : (mode : Mode) (buffers : List Buffer) (begun : List ℕ) → 1 ≤ length buffers
-    → (position_by mode buffers begun).index < length buffers
-at_member Interleave buffers begun some = mod-lt (length begun) some
-at_member Sequential buffers begun some = mod-lt _ some
-
 -- positions are those of buffers of their groups
-positions_fit : (groups : List Group) (begun : ℕ → List ℕ) (positions : List ℕ)
+positions_fit : (groups : List Group) (begun : ℕ → Course) (positions : List ℕ)
+    → ((h : ℕ) (group : Group) → slice_get groups h ≡ Some group → IsLaid group (begun h))
     → All (λ (group : Group). 1 ≤ length group.buffers) groups → ArePositions groups begun positions
     → AllZip (λ position m. position < m) positions (map members_of groups)
-positions_fit groups begun positions filled are =
+positions_fit groups begun positions laid filled are =
     zip_all (λ position m. position < m) positions (map members_of groups)
     (are.count ∙ sym (length-map groups members_of))
     (λ h position m at there.
     let group = mapped_at members_of groups h m there in
-    let is : (position_of group.0 (begun h)).index ≡ position =
+    let is : (position_in group.0 (begun h)).index ≡ position =
     same_Some _ position (sym (are.each h group.0 group.1) ∙ at) in
-    let below = at_member (group.0).mode (group.0).buffers (begun h)
+    let below = (laid h group.0 group.1).turn
     (holds_at (λ (one : Group). 1 ≤ length one.buffers) groups filled h group.0 group.1) in
     omega (arith, is, below, group.2))
 
@@ -290,7 +285,7 @@ module _ (config : Config) (x : World) (well : IsWell (terms_of config) x) where
         → Holds (setting_of config) kept
     record_holds positions =
         record {
-          positions = positions_fit w.groups x.state.begun kept.positions
+          positions = positions_fit w.groups x.state.begun kept.positions well.sized.laid
               (are_sound config).places.filled positions;
           feeds = zip_all (FeedHolds many) kept.feeds sizes feeds.count feed_fits;
           ids = weaker (λ one. claim_of_kept one ≡ lasting (x.state.claim one.id)) (IdHolds many)

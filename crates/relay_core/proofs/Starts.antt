@@ -131,6 +131,7 @@ module _ {S : Type 0} {g : Ghosts S} (config : Config) (stores : List S) where
               sound = holds.sound;
               numbered = holds.numbered;
               fit = holds.fit;
+              laid = holds.laid;
               count = holds.count;
               buffers = holds.buffers;
             })),

@@ -1,4 +1,5 @@
 -- What a Write does, by its writer: one call of one part each.
+use Rattle.std.specs.Prelude.{slice_get}
 use Rattle.std.proofs.Common.{◌≡◌, ◌<◌, ◌≤◌, ◌+◌, ◌++◌, ◌∷◌, ℕ, Bool, true, List, []}
 use Rattle.std.proofs.Common.{Option, None, Some, refl, sym, ap, subst, ◌∙◌, arith, le_refl}
 use Rattle.std.proofs.Common.{true≢false}
@@ -38,7 +39,8 @@ use Rattle.relay_model.specs.Terms.{Terms}
 use Rattle.relay_model.specs.World as world
 use Rattle.relay_model.specs.World.{World, with_failures}
 use Rattle.relay_model.specs.Writers as writers
-use Rattle.relay_model.specs.Writers.{IsHopeless, gaining, staged, with_stage, writer_at}
+use Rattle.relay_model.specs.Writers.{IsHopeless, begun_in, gaining, staged, with_stage}
+use Rattle.relay_model.specs.Writers.{writer_at}
 use Rattle.relay_core.specs.Peers.{peer_at}
 use Rattle.relay_core.specs.declared.peers.Peer.{Peer}
 use Rattle.relay_core.proofs.Marks.{forgotten_is, keeps_staged, room_to_count, settled_is}
@@ -126,7 +128,8 @@ module _ {S : Type 0} {g : Ghosts S} (h now : ℕ) (job : Job) (old : System S g
       let token = token_of b in
       let σ : State = record (with_stage x.state (job_view job) (claims.Begun token)) {
         begun = put_at x.state.begun job.article.group
-            (x.state.begun job.article.group ++ size ∷ []);
+            (begun_in (slice_get w.groups job.article.group) (x.state.begun job.article.group)
+            size);
       } in
       let Q : ℕ → Type 0 = λ k. KeepsTexts true buffer_set w σ.begun x.state.kept
       (put_at (openings x.work.writer) k (Some (IsOpen token job.article.text 0)))

@@ -25,8 +25,11 @@ use Rattle.live_jobs.specs.Desks.{desk_of}
 use Rattle.live_store.specs.Steps.{buffer_of}
 use Rattle.live_store.specs.declared.numbered.NumberedBuffer.{NumberedBuffer}
 use Rattle.live_store.specs.declared.record.StorePremises as store_premises
+use Rattle.news_terms.specs.Courses.{first_course}
+use Rattle.news_terms.proofs.CourseLaws.{first_laid}
 use Rattle.news_terms.specs.Fronts.{FitsGroup}
 use Rattle.news_terms.specs.Places as places
+use Rattle.news_terms.specs.Places.{Extent}
 use Rattle.news_terms.proofs.ListPlaces.{holds_at}
 use Rattle.relay_conf.specs.Places.{numbered_buffer}
 use Rattle.relay_conf.specs.Settings.{places_of_buffers, places_of_groups}
@@ -69,7 +72,7 @@ module _ {S J : Type 0} {s : blocks.Ghosts S} {j : store_premises.Ghosts J} (con
   new_buffer : (b : ℕ) (buffer : places.Buffer)
       → slice_get (places_of_buffers config.buffers) b ≡ Some buffer
       → HasBuffer true (map buffer_of buffers) (places_of_groups config.buffers)
-      (λ h. []) [] (λ h. None)
+      (λ h. first_course) [] (λ h. None)
       (failures_in s stores) b buffer
   new_buffer b buffer at =
       let one = store_there b buffer at in
@@ -93,7 +96,7 @@ module _ {S J : Type 0} {s : blocks.Ghosts S} {j : store_premises.Ghosts J} (con
       }
 
   -- all buffers do
-  pub new_buffers : BuffersKeep (map buffer_of buffers) (terms_of config) (λ h. []) []
+  pub new_buffers : BuffersKeep (map buffer_of buffers) (terms_of config) (λ h. first_course) []
       (failures_in s stores)
   new_buffers = record {
     sound = config.buffers.sound;
@@ -101,7 +104,8 @@ module _ {S J : Type 0} {s : blocks.Ghosts S} {j : store_premises.Ghosts J} (con
         let one = store_there b buffer at in
         ap (λ (each : places.Buffer). each.number)
         (buffer_is s config.buffers stores sized b buffer one.0 at one.1);
-    fit = λ h group at. All-nil (FitsGroup group);
+    fit = λ h group at. All-nil (λ (one : Extent). FitsGroup group one.size);
+    laid = λ h group at. first_laid group;
     count = length-map buffers buffer_of ∙ over.count ∙ same_count s config.buffers stores sized
         ∙ sym (buffers_count config.buffers);
     buffers = new_buffer;
@@ -111,7 +115,7 @@ module _ {S J : Type 0} {s : blocks.Ghosts S} {j : store_premises.Ghosts J} (con
 pub new_placed_groups : (config : Config) (placed_groups : List PlacedGroup)
     → length placed_groups ≡ length config.buffers.groups.items
     → AreNewPlacedGroups (places_of_groups config.buffers) placed_groups
-    → PlacedGroupsKeep placed_groups (terms_of config) (λ h. [])
+    → PlacedGroupsKeep placed_groups (terms_of config) (λ h. first_course)
 new_placed_groups config placed_groups count are = record {
   count = count ∙ sym (groups_count config);
   each = λ h group at. are h group at;

@@ -44,7 +44,7 @@ module _ {S : Type 0} {s : blocks.Ghosts S} (buffers : List (Unopened S s)) (w :
       says true h (subst (λ each. Agrees true each h) same had.keeps.agrees) in
       let of : h.buffer ≡ buffer = had.keeps.is_of_buffer in
       let told =
-      figures_agree w σ (λ g. None) keeps.sound keeps.fit keeps.numbered k h (at ∙ ap Some (sym of))
+      figures_agree w σ (λ g. None) keeps.sound keeps.laid keeps.numbered k h (at ∙ ap Some (sym of))
       had.keeps.is_said in
       ap filled_view is
       ∙ (λ i. record {

@@ -4,6 +4,7 @@ use Rattle.std.proofs.Common.{◌++◌, append-nil, append_assoc, length, map, N
 use Rattle.std.proofs.lemmas.List.{length-append, length-map, map_push}
 use Rattle.std.proofs.lemmas.Option.{none-some, slice_get-map}
 use Rattle.std.proofs.lemmas.Simd.{map-map}
+use Rattle.news_terms.specs.Courses.{Course}
 use Rattle.block_shelf.proofs.EachLemmas.{none_left, one_more_each, one_through}
 use Rattle.block_shelf.proofs.Opens.{behind_failed, first_failed}
 use Rattle.block_shelf.specs.Each.{AreEach}
@@ -195,7 +196,7 @@ not_opened {S} {J} {s} {j} stores stop buffers refused are failed = record {
 -- the opened buffers keep what the started ones did
 pub opened_keep : {S J : Type 0} {s : blocks.Ghosts S} {j : store_premises.Ghosts J}
     (unopened : List (UnopenedNumbered S J s j)) (buffers : List (NumberedBuffer S J s j))
-    → AreEach IsOpenedFrom unopened buffers → (w : Terms) (begun : ℕ → List ℕ) (kept : List Kept)
+    → AreEach IsOpenedFrom unopened buffers → (w : Terms) (begun : ℕ → Course) (kept : List Kept)
     (failures : ℕ → ℕ)
     → BuffersKeep (buffers_inside (map unopened_in unopened)) w begun kept failures
     → BuffersKeep (map buffer_of buffers) w begun kept failures
@@ -203,6 +204,7 @@ opened_keep {S} {J} {s} unopened buffers are w begun kept failures keeps = recor
   sound = keeps.sound;
   numbered = keeps.numbered;
   fit = keeps.fit;
+  laid = keeps.laid;
   count = length-map buffers buffer_of ∙ are.count
       ∙ sym (length-map (map unopened_in unopened) inside ∙ length-map unopened unopened_in)
       ∙ keeps.count;

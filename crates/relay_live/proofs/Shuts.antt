@@ -5,6 +5,7 @@ use Rattle.std.proofs.Common.{slice_get}
 use Rattle.std.proofs.Common.{is_some, option_map, subst, sym, true≢false}
 use Rattle.std.proofs.lemmas.List.{length-map}
 use Rattle.std.proofs.lemmas.Option.{none-some, slice_get-map}
+use Rattle.news_terms.specs.Courses.{Course}
 use Rattle.block_shelf.proofs.EachLemmas.{here_through}
 use Rattle.block_shelf.specs.Each.{AreEach}
 use Rattle.block_shelf.specs.Starting.{BuffersKeep}
@@ -30,13 +31,14 @@ some_none x e = none-some x (sym e)
 
 -- the stores hold what the buffers kept
 pub holds_buffers : {S : Type 0} {s : blocks.Ghosts S} (stop : ℕ) (codes : List (Buffer S s))
-    (stores : List S) → AreEach (IsShutOver stop) codes stores → (w : Terms) (begun : ℕ → List ℕ)
+    (stores : List S) → AreEach (IsShutOver stop) codes stores → (w : Terms) (begun : ℕ → Course)
     (kept : List Kept) (failures : ℕ → ℕ) → BuffersKeep codes w begun kept failures
     → HoldsTexts s stores stop w begun kept failures
 holds_buffers stop codes stores shut w begun kept failures keeps = record {
   sound = keeps.sound;
   numbered = keeps.numbered;
   fit = keeps.fit;
+  laid = keeps.laid;
   count = shut.count ∙ keeps.count;
   buffers = λ b buffer at.
       let had = keeps.buffers b buffer at in

@@ -4,6 +4,7 @@ use Rattle.std.proofs.Common.{List, [], ◌∷◌, ◌++◌, length, map, Option
 use Rattle.std.proofs.Common.{option_map}
 use Rattle.std.proofs.lemmas.List.{length-map, map_push}
 use Rattle.std.proofs.lemmas.Option.{none-some, slice_get-map, slice_get_within}
+use Rattle.news_terms.specs.Courses.{Course}
 use Rattle.block_shelf.proofs.EachLemmas.{comes_from, each_mapped, none_each, none_left}
 use Rattle.block_shelf.proofs.EachLemmas.{one_more_each}
 use Rattle.block_shelf.proofs.EachLemmas.{one_through}
@@ -220,13 +221,14 @@ pub buffers_keep : {S J : Type 0} {s : blocks.Ghosts S} {j : store_premises.Ghos
     → map (λ store. length (s.blocks store)) stores
     ≡ map (λ (conf : BufferConf). conf.blocks) settings.buffers.items
     → (buffers : List (UnopenedNumbered S J s j)) → AreEach IsStartedOver stores buffers
-    → (stop : ℕ) (w : Terms) (begun : ℕ → List ℕ) (kept : List Kept) (failures : ℕ → ℕ)
+    → (stop : ℕ) (w : Terms) (begun : ℕ → Course) (kept : List Kept) (failures : ℕ → ℕ)
     → IsHeldBy s settings stores stop w begun kept failures
     → BuffersKeep (buffers_inside (map unopened_in buffers)) w begun kept failures
 buffers_keep {s = s} settings stores sized buffers are stop w begun kept failures held = record {
   sound = held.2.sound;
   numbered = held.2.numbered;
   fit = held.2.fit;
+  laid = held.2.laid;
   count = length-map (map unopened_in buffers) inside ∙ length-map buffers unopened_in ∙ are.count
       ∙ held.2.count;
   buffers = λ b buffer at.

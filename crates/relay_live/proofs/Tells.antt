@@ -16,6 +16,7 @@ use Rattle.id_history.specs.declared.kept.KeptId.{KeptId}
 use Rattle.id_history.specs.Lasting.{AreLasting}
 use Rattle.live_jobs.specs.Desks.{desk_of}
 use Rattle.live_store.specs.declared.record.StorePremises as store_premises
+use Rattle.news_terms.specs.Courses.{Course}
 use Rattle.news_terms.specs.Settings.{AreSound}
 use Rattle.relay_core.specs.Agreement.{ring_sizes}
 use Rattle.relay_core.specs.Stopping.{AreKeptFeeds}
@@ -26,7 +27,7 @@ use Rattle.relay_live.specs.declared.alone.Alone.{Alone}
 use Rattle.relay_model.specs.Terms.{FeedTerms, Terms}
 
 -- the positions that placed groups tell are those of the groups
-pub told_placed_groups : (w : Terms) (begun : ℕ → List ℕ) (placed_groups : List PlacedGroup)
+pub told_placed_groups : (w : Terms) (begun : ℕ → Course) (placed_groups : List PlacedGroup)
     (positions : List ℕ)
     → AreSound w.buffers w.groups → PlacedGroupsKeep placed_groups w begun
     → AreEach TellsPosition placed_groups positions
