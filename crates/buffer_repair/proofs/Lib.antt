@@ -1,0 +1,13 @@
+pub mod AllTexts
+pub mod Changed
+pub mod KeptOn
+pub mod LeftBefore
+pub mod LeftBegins
+pub mod LeftCourses
+pub mod LeftExtents
+pub mod LeftRelay
+pub mod LeftTexts
+pub mod Recovered
+pub mod RejectedTexts
+pub mod Shut
+pub mod Without

@@ -1,0 +1,5 @@
+pub mod Finding
+pub mod Keeping
+pub mod Parts
+pub mod Remains
+pub mod Shutting
