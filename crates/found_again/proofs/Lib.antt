@@ -1,0 +1,9 @@
+pub mod BackLemmas
+pub mod ClaimLemmas
+pub mod DealLemmas
+pub mod DealtLemmas
+pub mod FillLemmas
+pub mod FindLemmas
+pub mod HoldLemmas
+pub mod LeftLemmas
+pub mod NewestLemmas
