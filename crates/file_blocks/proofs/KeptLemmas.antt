@@ -3,9 +3,11 @@ use Rattle.std.proofs.Common.{◌≡◌, ◌∙◌, ◌+◌, ◌-◌, ◌<◌, �
 use Rattle.std.proofs.Common.{[], length, sym, ap, subst, arith, Result, Ok, Err, OnErr, OnOk}
 use Rattle.std.proofs.lemmas.Bool.{cases_lt}
 use Rattle.file_blocks.proofs.CutLemmas.{length-blocks_of}
+use Rattle.file_blocks.proofs.SeenLemmas.{there_seen}
 use Rattle.file_blocks.specs.Run.{Holds}
-use Rattle.file_blocks.specs.Store.{AreWritten, IsSetAside, KeepsAside, PassesBy}
+use Rattle.file_blocks.specs.Store.{AreInFile, AreWritten, IsSetAside, KeepsAside, PassesBy}
 use Rattle.file_blocks.specs.Store.{gathered_of}
+use Rattle.file_blocks.specs.declared.file.RunFile.{Ghosts}
 use Rattle.file_blocks.specs.declared.run.Run.{Run}
 use Rattle.file_blocks.specs.declared.store.FileBlocks.{FileBlocks}
 
@@ -16,6 +18,14 @@ all_written store first last none j since until held =
     let long = length-blocks_of store.gathered.count store.gathered.octets.items in
     let empty : length (gathered_of store) ≡ 0 = ap (λ (bs : List (List ℕ)). length bs) none in
     omega (arith, long, empty, held.0, held.1)
+
+-- blocks none of which is in memory alone are in the file as they are seen
+pub in_file : {F : Type 0} (g : Ghosts F) (store : FileBlocks F) (first last : ℕ)
+    → AreWritten first last store → AreInFile g first last store
+in_file g store first last written j since until =
+    sym
+    (there_seen store.count store.gathered.first store.gathered.count j (g.held store.file)
+    store.gathered.octets.items store.gathered_within (λ after before. written j since until (after, before)))
 
 -- a run that was written leaves nothing, and one that wasn't is as it was
 pub keeps_asked : {F A E : Type 0} (result : Result A E) (k : ℕ) (old new : FileBlocks F)

@@ -22,6 +22,10 @@ failed_in [] = 0
 failed_in ((place, true) ∷ calls) = failed_in calls + 1
 failed_in ((place, false) ∷ calls) = failed_in calls
 
+-- the file was emptied since it was opened
+abbrev pub IsEmptied : HostFile → Type 0
+IsEmptied file = IsTrue file.emptied
+
 -- the device was had take all that was written to the file
 abbrev pub IsFlushed : HostFile → Type 0
 IsFlushed file = IsTrue file.flushed

@@ -30,6 +30,10 @@ was_blank store = store.blank
 abbrev pub gathered_of : {F : Type 0} → FileBlocks F → List (List ℕ)
 gathered_of store = blocks_in store.gathered
 
+-- how many blocks are kept that were read at once
+abbrev pub ahead_count : {F : Type 0} → FileBlocks F → ℕ
+ahead_count store = store.ahead.count
+
 -- the blocks in the file
 abbrev pub blocks_there : {F : Type 0} → Ghosts F → FileBlocks F → List (List ℕ)
 blocks_there g store = blocks_of store.count (g.held store.file)
@@ -64,6 +68,12 @@ IsInMemory store k = Holds store.gathered k
 -- none of the blocks from this one on up to that one is in memory alone
 abbrev pub AreWritten : {F : Type 0} → (first last : ℕ) → FileBlocks F → Type 0
 AreWritten first last store = (j : ℕ) → first ≤ j → j ≤ last → ¬ IsInMemory store j
+
+-- each of the blocks from this one on up to that one is in the file as it is seen
+abbrev pub AreInFile : {F : Type 0} → Ghosts F → (first last : ℕ) → FileBlocks F → Type 0
+AreInFile g first last store =
+    (j : ℕ) → first ≤ j → j ≤ last
+    → block_at (blocks_there g store) j ≡ block_at (blocks_seen g store) j
 
 -- A write of block k, which has this index in its article, doesn't wait for what is set aside:
 -- block k is the first of that, or none of the article's blocks up to it is in memory alone.

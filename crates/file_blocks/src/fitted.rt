@@ -113,7 +113,7 @@ impl FittedFile<HostFile> {
 }
 
 /// How many octets of a file n blocks and their head blocks take.
-fn size_of(n: u32) -> u64
+pub(crate) fn size_of(n: u32) -> u64
     ensures { result ≡ (n + head_blocks n) * BLOCK_OCTETS }
 {
     (u64::from(n) + u64::from(head_count(n))) * BLOCK_OCTETS as u64

@@ -4,7 +4,7 @@ ghost use Rattle.std.specs.Prelude.{◌↔◌, IfErr, IfOk, IsOk, IsTrue, OnErr,
 ghost use Rattle.std.specs.Fs.{file_type, IsFile};
 ghost use Rattle.file_blocks.specs.declared.host.Unusable.TheVariants as unusable;
 ghost use Rattle.file_blocks.specs.Host.{asked_of, failed_in, held_identity, identity_of};
-ghost use Rattle.file_blocks.specs.Host.{IsFlushed};
+ghost use Rattle.file_blocks.specs.Host.{IsEmptied, IsFlushed};
 
 use crate::file::RunFile;
 use cyc_block::{BLOCK_OCTETS, DeviceFailed, are_zeros};
@@ -126,6 +126,7 @@ impl HeldFile {
             identity,
             asked: Log::new(),
             flushed: false,
+            emptied: false,
         })
     }
 }
@@ -139,6 +140,8 @@ pub struct HostFile {
     asked: Log<u64, bool>,
     /// Whether the device was had take all that was written.
     flushed: bool,
+    /// Whether it was emptied since it was opened.
+    emptied: bool,
 }
 
 impl HostFile {
@@ -169,6 +172,25 @@ impl HostFile {
         }
     }
 
+    /// Empties the file, and makes it as long again, and so many octets at least, each of which is
+    /// 0 then: nothing of what was kept there stays, not even behind what is written next. It is
+    /// noted. The last block of these is tried.
+    pub(crate) fn empty(&mut self, size: u64) -> Result<(), Unusable>
+        ensures emptied { OnOk result (IsEmptied self.new) }
+        ensures failed { OnErr result (self.new.emptied ≡ self.old.emptied) }
+        ensures unflushed { ¬ IsFlushed self.new }
+        ensures asked { asked_of self.new ≡ asked_of self.old }
+        ensures same { identity_of self.new ≡ identity_of self.old }
+    {
+        self.flushed = false;
+        let length = self.file.metadata()?.len();
+        self.file.set_len(0)?;
+        self.file.set_len(length.max(size))?;
+        try_last_block(&self.file, size)?;
+        self.emptied = true;
+        Ok(())
+    }
+
     /// Notes the answer of a call at a place, and says whether it failed.
     fn answer(&mut self, place: u64, answer: io::Result<()>) -> Result<(), DeviceFailed>
         ensures answer { is_err result ≡ is_err answer }
@@ -178,6 +200,7 @@ impl HostFile {
         ensures no_failure { OnOk result (failed_in (asked_of self.new)
             ≡ failed_in (asked_of self.old)) }
         ensures flushed { IsFlushed self.new ↔ IsFlushed self.old }
+        ensures emptied { self.new.emptied ≡ self.old.emptied }
     {
         self.asked = self.asked.and(&place, &answer.is_err());
         match answer {

@@ -7,8 +7,8 @@ ghost use Rattle.file_blocks.specs.Fitted as fitted_file;
 
 use crate::course::Course;
 use crate::file::RunFile;
-use crate::fitted::{FittedFile, head_place_of};
-use crate::host::HostFile;
+use crate::fitted::{FittedFile, head_place_of, size_of};
+use crate::host::{HostFile, Unusable};
 use crate::run::Run;
 use cyc_block::{BLOCK_OCTETS, BlockStore, DeviceFailed, Tally};
 use std::alloc::{AllocError, Global};
@@ -58,7 +58,8 @@ impl<F: Drop> Drop for FileBlocks<F> {
 impl<F: RunFile> FileBlocks<F> {
     ghost use Rattle.file_blocks.specs.Store.{asked_of, count_of, file_of, gathered_of};
     ghost use Rattle.file_blocks.specs.Store.{IsHonest, AsksFile, KeepsBlocks, IsSetAside};
-    ghost use Rattle.file_blocks.specs.Store.{was_blank};
+    ghost use Rattle.file_blocks.specs.Store.{blocks_seen, blocks_there, heads_seen, was_blank};
+    ghost use Rattle.file_blocks.specs.Blocks.{blocks_of, heads_of};
 
     /// The first n blocks of a file, and their head blocks, in which no buffer was found, or one
     /// may have been; nothing is gathered. All memory is taken here: 65,536 octets for what is
@@ -73,6 +74,11 @@ impl<F: RunFile> FileBlocks<F> {
         ensures aside { IfOk result (λ store. ¬ IsSetAside store) }
         ensures honest { IfOk result (λ store. F.honest file → IsHonest F.RunFile store) }
         ensures blank { IfOk result (λ store. was_blank store ≡ blank) }
+        // Whoever opens a file anew, as after its program was killed, sees what the file has.
+        ensures blocks { IfOk result (λ store. blocks_seen F.RunFile store
+            ≡ blocks_of n (F.held file)) }
+        ensures heads { IfOk result (λ store. heads_seen F.RunFile store
+            ≡ heads_of n (F.held file)) }
     {
         Ok(FileBlocks {
             gathered: Run::new(alloc)?,
@@ -102,14 +108,18 @@ impl<F: RunFile> FileBlocks<F> {
         ensures aside { OnErr result (IsSetAside self.new) }
         ensures asked { asked_of self.new ≡ asked_of self.old }
         ensures file { AsksFile F.RunFile 1 self.old self.new result }
+        // All that is seen is in the file then.
+        ensures there { OnOk result (blocks_there F.RunFile self.new
+            ≡ blocks_seen F.RunFile self.new) }
     {
         self.write_run()
     }
 }
 
 impl FileBlocks<HostFile> {
-    ghost use Rattle.file_blocks.specs.Store.{asked_of, count_of, file_of, gathered_of, was_blank};
-    ghost use Rattle.file_blocks.specs.Host.{IsFlushed};
+    ghost use Rattle.file_blocks.specs.Store.{ahead_count, asked_of, count_of, file_of};
+    ghost use Rattle.file_blocks.specs.Store.{gathered_of, was_blank};
+    ghost use Rattle.file_blocks.specs.Host.{IsEmptied, IsFlushed};
 
     /// The blocks of a file that was made long enough for them. All memory that it ever takes is
     /// taken here, as by `new`.
@@ -122,6 +132,24 @@ impl FileBlocks<HostFile> {
     {
         let (file, count, blank) = fitted.into_parts();
         FileBlocks::new(alloc, file, count, blank)
+    }
+
+    /// Empties the file, and makes it as long again: each of its blocks and head blocks has zeros
+    /// alone then, as of a file that was just made. What was gathered or read at once is given up,
+    /// also where that fails.
+    pub fn empty(&mut self) -> Result<(), Unusable>
+        ensures emptied { OnOk result (IsEmptied (file_of self.new)) }
+        ensures gathered { gathered_of self.new ≡ [] }
+        ensures ahead { ahead_count self.new ≡ 0 }
+        ensures count { count_of self.new ≡ count_of self.old }
+        ensures asked { asked_of self.new ≡ asked_of self.old }
+        ensures blank { was_blank self.new ≡ was_blank self.old }
+    {
+        self.set_aside = false;
+        self.gathered.clear();
+        self.ahead.clear();
+        self.course = Course::new();
+        self.file.empty(size_of(self.count))
     }
 
     /// Has the device take all that was written to the file, which what is gathered is not.
@@ -146,7 +174,8 @@ impl<F: RunFile> BlockStore for FileBlocks<F> {
     ghost use Rattle.news_terms.specs.BlockImage.{chunk_size};
     ghost use Rattle.file_blocks.specs.Store.{asked_of, gathered_of, blocks_there, blocks_seen};
     ghost use Rattle.file_blocks.specs.Store.{heads_seen, IsHonest, AsksFile, IsInMemory};
-    ghost use Rattle.file_blocks.specs.Store.{IsSetAside, AreWritten, PassesBy, KeepsAside};
+    ghost use Rattle.file_blocks.specs.Store.{IsSetAside, AreInFile, AreWritten, PassesBy};
+    ghost use Rattle.file_blocks.specs.Store.{KeepsAside};
     ghost use Rattle.file_blocks.specs.Store.{StaysAside};
 
     ghost blocks = { λ store. blocks_seen F.RunFile store };
@@ -216,6 +245,10 @@ impl<F: RunFile> BlockStore for FileBlocks<F> {
         ensures article { (b : Block) → IsBlock b → octets.now ≡ image_of b
             → b.article_length ≤ chunk_size * (b.index + 1)
             → OnOk result (AreWritten (k - b.index) k self.new) }
+        // They are in the file as they are seen: a kill leaves each of them.
+        ensures kept { (b : Block) → IsBlock b → octets.now ≡ image_of b
+            → b.article_length ≤ chunk_size * (b.index + 1)
+            → OnOk result (AreInFile F.RunFile (k - b.index) k self.new) }
         // Where something is set aside the block goes into the file at once, and nothing is
         // gathered beside what is set aside, which loses block k alone, unless it is written.
         ensures there { IsSetAside self.old → IsHonest F.RunFile self.old

@@ -92,21 +92,26 @@ impl Control {
         count > 0
     }
 
-    /// What is asked for next, and by whom: none where nobody has asked for a part of a second, or
-    /// what was asked for is no word; then he is told so.
-    pub fn next_word<C: Clock>(&self, clock: &C) -> Option<(Word, Teller)> {
+    /// Whoever asks next: nobody where none has asked for a part of a second.
+    fn accept_one<C: Clock>(&self, clock: &C) -> Option<UnixStream> {
         if !self.has_one(clock) {
             return None;
         }
-        let stream = match self.listener.accept() {
-            Ok((stream, _address)) => stream,
+        match self.listener.accept() {
+            Ok((stream, _address)) => Some(stream),
             Err(error) => {
                 if !is_wait(&error) {
                     thread::sleep(clock, Duration::from_millis(PAUSE));
                 }
-                return None;
+                None
             }
-        };
+        }
+    }
+
+    /// What is asked for next, and by whom: none where nobody has asked for a part of a second, or
+    /// what was asked for is no word; then he is told so.
+    pub fn next_word<C: Clock>(&self, clock: &C) -> Option<(Word, Teller)> {
+        let stream = self.accept_one(clock)?;
         let word = hear(&stream);
         let teller = Teller::new(stream);
         match word {
@@ -118,8 +123,13 @@ impl Control {
         None
     }
 
-    /// Takes the socket away from its folder, where it is this one. Who has asked meanwhile can
-    /// still be heard, and nobody is waited for.
+    /// Whoever asks next, whatever for: his word isn't waited for.
+    pub fn next_one<C: Clock>(&self, clock: &C) -> Option<Teller> {
+        Some(Teller::new(self.accept_one(clock)?))
+    }
+
+    /// Takes the socket away from its folder, where it is this one. Who has asked meanwhile is still
+    /// given, and nobody is waited for.
     pub fn close<R: Files>(&self, rt: &R, alloc: Global, folder: &str) {
         let _left = take_away(rt, alloc, folder, self.identity);
         self.is_closed.store(true, Ordering::SeqCst);

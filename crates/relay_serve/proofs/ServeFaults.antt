@@ -132,6 +132,14 @@ port_serves : (config : Config) (error : ServeError) (held : Option (List ℕ))
 port_serves config (faults.Port lost) held names = (names, kept held)
 port_serves config error held e = memory_serves config error held e
 
+-- nor where it isn't known what it begins from, or a file of it can't be emptied
+pub unbegun_serves : (config : Config) (error : ServeError) (held : Option (List ℕ))
+    → IsOriginFault error ⊎ IsFileFault config.buffers error
+    → ServeGives config (Err error) held held
+unbegun_serves config error held (inl origin) =
+    none_served config error held (origin_serves config error origin)
+unbegun_serves config error held (inr file) = file_serves config error held file
+
 pub unopened_serves : (config : Config) (error : ServeError) (held : Option (List ℕ))
     → IsFileFault config.buffers error ⊎ IsPortFault config.relay.peers.items error
     → ServeGives config (Err error) held held

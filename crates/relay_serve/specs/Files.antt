@@ -1,8 +1,8 @@
 -- The files of the buffers (docs/FORMATS.md, cycbuff.conf).
 use Rattle.std.specs.Prelude.{◌≡◌, ℕ, Any, IsTrue, Some, slice_get, string_bytes}
 use Rattle.std.specs.Str.Lossy.{utf8_lossy}
-use Rattle.file_blocks.specs.Host.{held_identity}
-use Rattle.file_blocks.specs.Store.{was_blank}
+use Rattle.file_blocks.specs.Host.{IsEmptied, held_identity}
+use Rattle.file_blocks.specs.Store.{file_of, was_blank}
 use Rattle.file_blocks.specs.declared.host.HeldFile.{HeldFile}
 use Rattle.file_blocks.specs.declared.host.HostFile.{HostFile}
 use Rattle.file_blocks.specs.declared.store.FileBlocks.{FileBlocks}
@@ -42,6 +42,10 @@ SharesFile file other = held_identity file ≡ held_identity other
 -- they are two files
 abbrev pub DifferentFiles : (file other : HeldFile) → Type 0
 DifferentFiles file other = ¬ SharesFile file other
+
+-- the file of a store was emptied since it was opened
+abbrev pub WasEmptied : FileBlocks HostFile → Type 0
+WasEmptied store = IsEmptied (file_of store)
 
 -- no buffer was found in the file of a store
 abbrev pub WasBlank : FileBlocks HostFile → Type 0

@@ -1,12 +1,14 @@
 //! From what a relay begins, over the files of its buffers.
-ghost use Rattle.std.specs.Prelude.{◌≡◌, ◌⊎◌, All, IfErr, IfOk, IsTrue};
+ghost use Rattle.std.specs.Prelude.{◌≡◌, ◌⊎◌, All, IfErr, IfOk, IsTrue, map};
+ghost use Rattle.file_blocks.specs.Store.{count_of};
 ghost use Rattle.relay_folder.specs.Origin.{IsFormatted};
-ghost use Rattle.relay_serve.specs.Files.{WasBlank};
+ghost use Rattle.relay_serve.specs.Files.{IsFileFault, WasBlank, WasEmptied};
 ghost use Rattle.relay_serve.specs.History.{IsOriginFault};
 
-use crate::files::are_blank;
+use crate::files::{are_blank, empty_files};
 use crate::history::begun_from;
 use file_blocks::FileBlocks;
+use relay_conf::Buffers;
 use relay_folder::{HistoryPlace, Origin};
 use relay_report::ServeError;
 use std::alloc::Global;
@@ -24,14 +26,20 @@ pub(crate) struct Unbegun {
 pub(crate) trait Looked {
     /// None was found.
     ghost was_blank: { Self → Type 0 };
+
+    /// Its file was emptied since it was opened, so that nothing of what was kept there is left.
+    ghost was_emptied: { Self → Type 0 };
 }
 
 impl Looked for FileBlocks {
     ghost was_blank = { WasBlank };
+
+    ghost was_emptied = { WasEmptied };
 }
 
 /// What a relay begins over, and from what: from nothing, so that each store is formatted, only
-/// where that was asked for, or where no buffer was found in any of them.
+/// where that was asked for, or where no buffer was found in any of them; and over files that were
+/// emptied, since stamps of an earlier life would be found again after a crash.
 #[derive(Drop)]
 pub(crate) struct Beginning<S: Looked> {
     /// The store of each buffer, in their order.
@@ -41,28 +49,40 @@ pub(crate) struct Beginning<S: Looked> {
     /// Whether it was asked to begin from nothing.
     pub fresh: bool,
     ghost formatted: { IsFormatted origin → ∥ IsTrue fresh ⊎ All S.was_blank stores.items ∥₁ },
+    ghost emptied: { IsFormatted origin → ∥ All S.was_emptied stores.items ∥₁ },
 }
 
-/// Finds out what a relay begins from. The error is want of memory, or that the history can't be
-/// read, or not be taken away where all is to be formatted.
+/// Finds out what a relay begins from, and empties the files where that is nothing, once no history
+/// is kept. The error is want of memory, or that the history can't be read, or not be taken away
+/// where all is to be formatted, or the first file that can't be emptied.
 pub(crate) fn begin_over<H: HistoryPlace>(
     alloc: Global,
+    settings: &Buffers,
     history: &mut H,
     unbegun: Unbegun,
 ) -> Result<Beginning<FileBlocks>, ServeError>
-    ensures stores { IfOk result (λ begun. begun.stores ≡ unbegun.stores) }
+    ensures blocks { IfOk result (λ begun. map count_of begun.stores.items
+        ≡ map count_of unbegun.stores.items) }
+    ensures stores { IfOk result (λ begun. ¬ IsFormatted begun.origin
+        → begun.stores ≡ unbegun.stores) }
     ensures fresh { IfOk result (λ begun. begun.fresh ≡ unbegun.fresh) }
-    ensures fault { IfErr result IsOriginFault }
+    ensures fault { IfErr result (λ error. IsOriginFault error ⊎ IsFileFault settings.now error) }
 {
-    let blank = are_blank(&unbegun.stores);
-    match begun_from(alloc, history, unbegun.fresh, blank) {
-        Ok(origin) => Ok(Beginning {
-            stores: unbegun.stores,
-            origin,
-            fresh: unbegun.fresh,
+    let Unbegun { stores, fresh } = unbegun;
+    let blank = are_blank(&stores);
+    match begun_from(alloc, history, fresh, blank) {
+        Ok(Origin::Formatted) => Ok(Beginning {
+            stores: empty_files(alloc, settings, stores)?,
+            origin: Origin::Formatted,
+            fresh,
+        }),
+        Ok(Origin::Stopped(text)) => Ok(Beginning {
+            stores,
+            origin: Origin::Stopped(text),
+            fresh,
         }),
         Err(error) => {
-            drop(unbegun);
+            drop(stores);
             Err(error)
         }
     }

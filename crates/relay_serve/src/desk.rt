@@ -14,7 +14,7 @@ use std::time::Clock;
 /// How many seconds pass between two rounds of forgetting.
 const BETWEEN_ROUNDS: u64 = 60;
 
-/// How many of those who have asked while the relay ended are heard still, at most.
+/// How many of those who have asked while the relay ended wait for the end, at most.
 const LAST_ONES: usize = 64;
 
 /// Answers what is asked at the socket of a relay's folder: `report` is told its figures and what
@@ -84,12 +84,12 @@ impl<'a> Desk<'a> {
     }
 
     /// Takes the socket away. Who has asked meanwhile waits, as those who asked for the stop, until
-    /// the program has ended.
+    /// the program has ended, whatever he has said by now.
     pub(crate) fn close<R: Clock + Files>(&self, rt: &R, folder: &str) {
         self.control.close(rt, self.alloc, folder);
         for _ in 0..LAST_ONES {
-            match self.control.next_word(rt) {
-                Some((_word, teller)) => mem::forget(teller),
+            match self.control.next_one(rt) {
+                Some(teller) => mem::forget(teller),
                 None => break,
             }
         }

@@ -2,8 +2,8 @@
 ghost use Rattle.std.specs.Prelude.{◌≡◌, ◌↔◌, length, map, All, AllPairs, Any, IfErr, IfOk};
 ghost use Rattle.std.specs.Prelude.{IsSome, IsTrue, MatchBool};
 ghost use Rattle.relay_serve.specs.Files.{HasReason, IsFaultAt, IsFaultOf, IsFileFault};
-ghost use Rattle.relay_serve.specs.Files.{DifferentFiles, SharesFile, WasBlank};
-ghost use Rattle.file_blocks.specs.Store.{count_of};
+ghost use Rattle.relay_serve.specs.Files.{DifferentFiles, SharesFile, WasBlank, WasEmptied};
+ghost use Rattle.file_blocks.specs.Store.{count_of, was_blank};
 
 use crate::reasons::reason_of;
 use file_blocks::{FileBlocks, FittedFile, HeldFile, Unusable};
@@ -216,6 +216,57 @@ fn fit_file(alloc: Global, buffer: &BufferConf, file: HeldFile) -> Result<FileBl
             Ok(FileBlocks::of_fitted(alloc, file)?)
         }
         Err(refused) => Err(unfit(alloc, buffer, &refused)),
+    }
+}
+
+/// The stores, the file of each of which was emptied and made as long again. The error is want of
+/// memory, or the first file with which that can't be done.
+pub(crate) fn empty_files(
+    alloc: Global,
+    settings: &Buffers,
+    stores: Vec<FileBlocks>,
+) -> Result<Vec<FileBlocks>, ServeError>
+    ensures blocks { IfOk result (λ emptied. map count_of emptied.items
+        ≡ map count_of stores.items) }
+    ensures found { IfOk result (λ emptied. map was_blank emptied.items
+        ≡ map was_blank stores.items) }
+    ensures emptied { IfOk result (λ emptied. All WasEmptied emptied.items) }
+    ensures fault { IfErr result (IsFileFault settings.now) }
+{
+    let mut emptied = Vec::with_capacity(alloc, stores.len())?;
+    for store in stores {
+        let number = emptied.len();
+        let store = empty_file(alloc, settings, number, store)?;
+        emptied.push_reserved(store);
+    }
+    Ok(emptied)
+}
+
+/// The store of the buffer of this number, whose file was emptied.
+fn empty_file(
+    alloc: Global,
+    settings: &Buffers,
+    number: usize,
+    mut store: FileBlocks,
+) -> Result<FileBlocks, ServeError>
+    ensures blocks { IfOk result (λ emptied. count_of emptied ≡ count_of store) }
+    ensures found { IfOk result (λ emptied. was_blank emptied ≡ was_blank store) }
+    ensures emptied { IfOk result WasEmptied }
+    ensures fault { IfErr result (IsFileFault settings.now) }
+{
+    match store.empty() {
+        Ok(()) => Ok(store),
+        Err(refused) => Err(unfit_at(alloc, settings, number, &refused)),
+    }
+}
+
+/// The fault of the file of the buffer of this number that can't be used so.
+fn unfit_at(alloc: Global, settings: &Buffers, number: usize, refused: &Unusable) -> ServeError
+    ensures { IsFileFault settings.now result }
+{
+    match settings.buffers.get(number) {
+        Some(buffer) => unfit(alloc, buffer, refused),
+        None => ServeError::Memory,
     }
 }
 

@@ -215,7 +215,7 @@ where
     requires few { length access.peer_sources.items < 2 ^ 62 }
     ensures { ServeGives config.now result (W.contents writer.old) (W.contents writer.new) }
 {
-    let begun = match begin_over(alloc, history, unbegun) {
+    let begun = match begin_over(alloc, &config.buffers, history, unbegun) {
         Ok(begun) => begun,
         Err(error) => {
             drop(access);

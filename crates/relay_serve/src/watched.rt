@@ -72,6 +72,8 @@ impl<'a, S, R: Clock + Eprint> Watched<'a, S, R> {
 
 impl<S: Looked, R> Looked for Watched<'_, S, R> {
     ghost was_blank = { λ watched. S.was_blank watched.store };
+
+    ghost was_emptied = { λ watched. S.was_emptied watched.store };
 }
 
 impl<R> Synced for Watched<'_, FileBlocks, R> {

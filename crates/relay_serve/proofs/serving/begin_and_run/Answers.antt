@@ -4,14 +4,14 @@ use Rattle.std.specs.declared.alloc.AllocError.{AllocError}
 use Rattle.relay_report.proofs.Printed.{printed}
 use Rattle.relay_report.specs.declared.totals.Totals.{Totals}
 use Rattle.relay_report.specs.Serve.{AreOf}
-use Rattle.relay_serve.proofs.ServeFaults.{none_served, origin_serves, served_none, stop_serves}
+use Rattle.relay_serve.proofs.ServeFaults.{served_none, stop_serves, unbegun_serves}
 use Rattle.relay_serve.proofs.serving.begin_and_run.Goals as goal
 
 -- where it isn't known what it begins from nothing is written,
 pub returns-in-Err : goal.returns-in-Err
 returns-in-Err g c =
-    none_served c.args.config.now c.in-Err.error (g.W.Write.contents c.args.writer.now)
-    (origin_serves c.args.config.now _ c.in-Err.ensures.fault)
+    unbegun_serves c.args.config.now c.in-Err.error (g.W.Write.contents c.args.writer.now)
+    c.in-Err.ensures.fault
 
 -- nor by what isn't run,
 pub returns-in_err-finished : goal.returns-in_err-finished

@@ -13,4 +13,7 @@ invariant_of-result g c = record {
         | inr none ↦ inr (all_there g.S.Looked.was_blank store_in c.in_ok-stores.stores.items
             c.args.beginning.stores.items c.in_ok-stores.ensures.stores none)
       ]);
+  emptied = λ formats. ∥∥₁_map (c.args.beginning.emptied formats) (λ all.
+      all_there g.S.Looked.was_emptied store_in c.in_ok-stores.stores.items
+      c.args.beginning.stores.items c.in_ok-stores.ensures.stores all);
 }

@@ -3,7 +3,7 @@ use Rattle.std.proofs.Common.{◌∙◌, ◌-◌, refl, sym}
 use Rattle.std.proofs.lemmas.Bool.{false≢true}
 use Rattle.std.proofs.lemmas.Result.{on_ok_weaker}
 use Rattle.file_blocks.proofs.CallLemmas.{any_err, honest_as, is_within, same_seen}
-use Rattle.file_blocks.proofs.KeptLemmas.{all_written}
+use Rattle.file_blocks.proofs.KeptLemmas.{all_written, in_file}
 use Rattle.file_blocks.proofs.store.FileBlocksBlockStore.write.Goals as goal
 
 pub write_past-requires-clause-within : goal.write_past-requires-clause-within
@@ -89,3 +89,17 @@ returns-then-self-clause-calls g c = c.write_past.ensures.asked ∙ c.add_one.en
 
 pub returns-clause-calls : goal.returns-clause-calls
 returns-clause-calls g c = c.gather.ensures.asked ∙ c.add_one.ensures
+
+pub returns-then-self-clause-kept : goal.returns-then-self-clause-kept
+returns-then-self-clause-kept g c b block is ends =
+    on_ok_weaker c.write_past.result
+    (λ written. in_file g.F.RunFile c.write_past.new.self (c.args.k - b.index) c.args.k written)
+    (c.write_past.ensures.article b block is)
+
+pub returns-clause-kept : goal.returns-clause-kept
+returns-clause-kept g c b block is ends =
+    on_ok_weaker c.gather.result
+    (λ none.
+    in_file g.F.RunFile c.gather.new.self (c.args.k - b.index) c.args.k
+    (all_written c.gather.new.self (c.args.k - b.index) c.args.k none))
+    (c.gather.ensures.last b block is ends)
