@@ -9,7 +9,7 @@ use crate::stops::histories::Texts;
 
 /// The names of the calls, in the order of `answer`, but for those of a step.
 const NAMES: &str = "format zeros fail each store abandon unfinished read numbers octets put \
-    changes cuts setting text history text_changes text_cuts";
+    changes cuts setting text history text_changes text_cuts safe losses";
 
 impl Stops {
     /// Writes the answer of a call.
@@ -18,7 +18,9 @@ impl Stops {
             None => self.bench.put_step(call, cells, sheet),
             Some(place @ 0..=8) => self.bench.answer(place, cells, sheet),
             Some(place @ 9..=12) => self.bench.answer_of_block(place, cells, sheet),
-            Some(place) => self.texts.answer(place, cells, sheet),
+            Some(place @ 13..=17) => self.texts.answer(place, cells, sheet),
+            Some(18) => self.keep_safe(sheet),
+            Some(_) => self.put_losses(cells, sheet),
         }
     }
 }

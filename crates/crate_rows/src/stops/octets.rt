@@ -11,7 +11,7 @@ use std::alloc::AllocError;
 
 /// A block of a device.
 #[derive(Clone, Copy)]
-enum Block {
+pub(crate) enum Block {
     Head(u32),
     Data(u32),
 }
@@ -70,16 +70,12 @@ impl Bench {
         start: Step,
         sheet: &Sheet,
     ) -> Vec<u8> {
-        let said = Sheet::new(sheet.alloc);
-        self.put_block(block, octets, &said);
-        self.take_step(start, &said);
-        let unread = Sheet::new(sheet.alloc);
-        self.take_step(Step::Leave, &unread);
-        said.onto(sheet)
+        self.put_block(block, octets, sheet);
+        self.said_by(start, sheet)
     }
 
     /// The octets of a block; where there is none, the row has no answer.
-    fn octets_of(&mut self, block: Block, sheet: &Sheet) -> [u8; BLOCK_OCTETS] {
+    pub(crate) fn octets_of(&mut self, block: Block, sheet: &Sheet) -> [u8; BLOCK_OCTETS] {
         let mut octets = [0; BLOCK_OCTETS];
         let Bench::Stopped(device) = self else {
             sheet.refuse();
@@ -97,7 +93,7 @@ impl Bench {
     }
 
     /// Puts octets into a block; where there is none, the row has no answer.
-    fn put_block(&mut self, block: Block, octets: &[u8; BLOCK_OCTETS], sheet: &Sheet) {
+    pub(crate) fn put_block(&mut self, block: Block, octets: &[u8; BLOCK_OCTETS], sheet: &Sheet) {
         let Bench::Stopped(device) = self else {
             return sheet.refuse();
         };

@@ -16,6 +16,10 @@ pub(crate) enum Step {
     Leave,
     /// The buffer of this number and first cycle is started.
     Start(u8, u32),
+    /// The buffer of this number and first cycle, which was not stopped, is found again.
+    Recover(u8, u32),
+    /// The article that was found under a token is rejected.
+    Reject(Token),
     /// The head of the buffer is opened.
     Open,
     /// The buffer is stopped under this number and started in place.
@@ -56,6 +60,15 @@ impl Bench {
         self.arm(0);
     }
 
+    /// What a step answers. No buffer runs behind it.
+    pub(crate) fn said_by(&mut self, step: Step, sheet: &Sheet) -> Vec<u8> {
+        let said = Sheet::new(sheet.alloc);
+        self.take_step(step, &said);
+        let unread = Sheet::new(sheet.alloc);
+        self.take_step(Step::Leave, &unread);
+        said.onto(sheet)
+    }
+
     /// Takes a step, and writes its answer.
     pub(crate) fn take_step(&mut self, step: Step, sheet: &Sheet) {
         let after = match mem::replace(self, Bench::Nothing) {
@@ -73,11 +86,13 @@ impl Bench {
 
 /// The step of this name and these cells; where they are no step's, the row has no answer.
 fn step_of(name: &[u8], cells: &Cells, sheet: &Sheet) -> Option<Step> {
-    let step = match place_of("shut restart start open leave", name) {
+    let step = match place_of("shut restart start recover reject open leave", name) {
         Some(0) => Step::Shut(sheet.read(cells.next())),
         Some(1) => Step::Restart(sheet.read(cells.next())),
         Some(2) => start_in(cells, sheet),
-        Some(3) => Step::Open,
+        Some(3) => recovery_in(cells, sheet),
+        Some(4) => return rejected_in(cells, sheet),
+        Some(5) => Step::Open,
         Some(_) => Step::Leave,
         None => {
             sheet.refuse();
@@ -98,6 +113,24 @@ pub(crate) fn start_in(cells: &Cells, sheet: &Sheet) -> Step {
     Step::Start(buffer, cycle)
 }
 
+/// The recovery that the next two cells name.
+pub(crate) fn recovery_in(cells: &Cells, sheet: &Sheet) -> Step {
+    let buffer = octet(cells, sheet);
+    let cycle = number(cells, sheet);
+    Step::Recover(buffer, cycle)
+}
+
+/// The rejection of the article under the token in the last cell.
+fn rejected_in(cells: &Cells, sheet: &Sheet) -> Option<Step> {
+    match Token::parse(cells.next()) {
+        Ok(token) if cells.are_read() => Some(Step::Reject(token)),
+        _ => {
+            sheet.refuse();
+            None
+        }
+    }
+}
+
 /// Takes a step of a buffer that runs.
 fn stopped(buffer: Buffer<Store>, step: Step, sheet: &Sheet) -> Bench {
     match step {
@@ -107,7 +140,7 @@ fn stopped(buffer: Buffer<Store>, step: Step, sheet: &Sheet) -> Bench {
             sheet.put(b"left");
             Bench::Stopped(buffer.into_store())
         }
-        Step::Start(_, _) | Step::Open => {
+        _ => {
             sheet.refuse();
             Bench::Running(buffer)
         }
@@ -150,9 +183,30 @@ fn opened(buffer: Unopened<Store>, step: Step, sheet: &Sheet) -> Bench {
             Bench::Stopped(device)
         }
         Step::Open => open(buffer, sheet),
+        Step::Shut(stop) => shut_unopened(buffer, stop, sheet),
+        Step::Reject(token) => {
+            let mut buffer = buffer;
+            buffer.reject(&token);
+            sheet.put(b"done");
+            Bench::Unopened(buffer)
+        }
         _ => {
             sheet.refuse();
             Bench::Unopened(buffer)
+        }
+    }
+}
+
+/// Shuts a buffer whose head isn't open under the number of a stop.
+fn shut_unopened(buffer: Unopened<Store>, stop: u64, sheet: &Sheet) -> Bench {
+    match buffer.shut(stop) {
+        Ok(device) => {
+            sheet.put(b"shut");
+            Bench::Stopped(device)
+        }
+        Err(refused) => {
+            sheet.debug(&refused.error);
+            Bench::Unopened(refused.buffer)
         }
     }
 }
@@ -173,11 +227,15 @@ fn open(buffer: Unopened<Store>, sheet: &Sheet) -> Bench {
 
 /// Takes a step of a device on which no buffer runs.
 fn started(device: Store, step: Step, sheet: &Sheet) -> Bench {
-    let Step::Start(number, cycle) = step else {
-        sheet.refuse();
-        return Bench::Stopped(device);
+    let begun = match step {
+        Step::Start(number, cycle) => Buffer::start(sheet.alloc, device, number, cycle),
+        Step::Recover(number, cycle) => Buffer::recover(sheet.alloc, device, number, cycle),
+        _ => {
+            sheet.refuse();
+            return Bench::Stopped(device);
+        }
     };
-    match Buffer::start(sheet.alloc, device, number, cycle) {
+    match begun {
         Ok(started) => {
             sheet.numbered(b"stop ", started.stop);
             put_tokens(&started.tokens, sheet);
