@@ -11,14 +11,17 @@ ROWS = Path(__file__).resolve().parent
 DATA = ROWS / "data"
 # What a row begins with: how it is played, and what it shows.
 HEAD = re.compile(r"(?m)^(?==[=1#^] )")
-# A part of a library in front of the C library: the system gives no random numbers where the environment has REFUSE_RANDOM.
+# A part of a library in front of the C library: where the environment has REFUSE_RANDOM the system
+# gives no random numbers, but as often as GIVE_RANDOM says.
 UNSEEDED = r"""
 #include <errno.h>
 #include <stdlib.h>
 #include <sys/random.h>
 
 int getentropy(void *room, size_t size) {
-    if (getenv("REFUSE_RANDOM")) {
+    static int given;
+    const char *most = getenv("GIVE_RANDOM");
+    if (getenv("REFUSE_RANDOM") && given++ >= (most ? atoi(most) : 0)) {
         errno = ENOSYS;
         return -1;
     }

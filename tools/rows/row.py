@@ -10,6 +10,7 @@ import socket
 import threading
 import time
 from collections import Counter, namedtuple
+from pathlib import Path
 
 from peers import GREETING, NOBODY, TEXTS, Client, Started, Taken, Wrong, cut_to, listening
 from plays import PLAYS
@@ -61,7 +62,8 @@ FILES = ("file", "folder", "pipe", "link", "symlink", "mode", "cut", "poke", "re
          "holds")
 
 # The lines that set something of the program while it runs.
-SHARES = ("clock", "later", "pause", "pauses", "stall", "stalled", "release", "fails", "peers")
+SHARES = ("clock", "later", "pause", "pauses", "stall", "stalled", "release", "fails", "peers",
+          "crowded")
 
 # The users of programs that may have a few threads alone: each program has one of its own, since the
 # system counts a user's.
@@ -126,7 +128,7 @@ class Row:
                 return str(self.counts[words[1]]).rjust(int(words[0]))
             if word == "from":
                 return f"{{>{self.counts[words[0]]}}}"
-            if word == "now" or word.startswith("<"):
+            if word == "now" or word[0] in "<>":
                 return found[0]
             if re.fullmatch(r"[a-z]+\d*", word):
                 return str(self.port(word))
@@ -244,6 +246,8 @@ class Row:
             self.shared.set(clock=int(rest) + 1)
         elif name == "later":
             self.shared.set(later=int(rest))
+        elif name == "crowded":
+            self.shared.set(crowded=rest != "no more")
         elif name == "pause":
             self.shared.pause(*rest.split())
         elif name == "stall":
@@ -256,7 +260,8 @@ class Row:
             self.shared.set(fails=int(rest))
         else:
             takes = int(more) + 1 if more else 0
-            self.shared.set(takes=takes, breaks=word == "break", octets=word == "octets")
+            self.shared.set(takes=takes, breaks=word == "break", octets=word == "octets",
+                            hangs=word == "hang")
 
     def see_come(self, name):
         """A call that has to wait has come, or a thread that has to pause."""
@@ -321,6 +326,19 @@ class Row:
             if time.monotonic() > end:
                 raise Wrong(f"told {found} times")
             time.sleep(0.01)
+
+    def see_rest(self, seconds):
+        """In so many seconds the relay takes a fifth of one processor's time at most."""
+        path = Path(f"/proc/{self.programs[''].process.pid}/stat")
+
+        def taken():
+            times = path.read_text().rpartition(")")[2].split()[11:13]
+            return sum(map(int, times)) / os.sysconf("SC_CLK_TCK")
+
+        before = taken()
+        time.sleep(seconds)
+        if (took := taken() - before) > seconds / 5:
+            raise Wrong(f"it took {took:.2f} of {seconds} seconds")
 
     def pulse(self, seconds):
         """From here on the relay is stopped and goes on again and again, until it has ended."""
@@ -533,10 +551,14 @@ class Row:
             self.is_full = True
         elif name == "takes":
             self.make_fault(ROWS_TAKES=rest)
-        elif line == "unseeded":
-            self.make_fault(REFUSE_RANDOM="1")
+        elif name == "unseeded":
+            self.make_fault(REFUSE_RANDOM="1", GIVE_RANDOM=rest or "0")
         elif line == "unmoded":
             self.make_fault(REFUSE_MODES="1")
+        elif line == "unlocked":
+            self.make_fault(REFUSE_LOCKS="1")
+        elif name == "rests":
+            self.see_rest(float(rest))
         elif line == "narrow":
             self.make_fault(ROWS_NARROW="1")
         elif name == "tells":

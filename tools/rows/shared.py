@@ -22,7 +22,7 @@ SHARING = r"""
 
 static struct {
     uint64_t clock, writes, reads, stalled, fails, takes, breaks, octets, later, yields, pause, whose,
-        pauses;
+        pauses, crowded, hangs;
     char file[64];
 } *shared;
 
@@ -133,6 +133,15 @@ int chmod(const char *path, mode_t mode) {
     return syscall(SYS_chmod, path, mode);
 }
 
+/* Where REFUSE_LOCKS is set no file can be locked. */
+int flock(int file, int how) {
+    if (getenv("REFUSE_LOCKS")) {
+        errno = ENOLCK;
+        return -1;
+    }
+    return syscall(SYS_flock, file, how);
+}
+
 /* Whether a connection is one of this kind. */
 static int is_of(int file, int kind) {
     int domain = 0;
@@ -150,6 +159,19 @@ static void narrow(int file) {
     int least = 1;
     if (getenv("ROWS_NARROW") && is_of(file, AF_UNIX))
         setsockopt(file, SOL_SOCKET, SO_SNDBUF, &least, sizeof least);
+}
+
+/* Where the machine is crowded it has no descriptor for a connection of a peer. */
+int accept4(int file, struct sockaddr *address, socklen_t *size, int flags) {
+    if (shared && NOW(crowded) && is_peer(file)) {
+        errno = ENFILE;
+        return -1;
+    }
+    return syscall(SYS_accept4, file, address, size, flags);
+}
+
+int accept(int file, struct sockaddr *address, socklen_t *size) {
+    return accept4(file, address, size, 0);
 }
 
 /* Where connections go on by single octets, each second call of a thread is interrupted. */
@@ -181,6 +203,11 @@ ssize_t send(int file, const void *octets, size_t count, int flags) {
             return -1;
         count = count > 1 ? 1 : count;
     }
+    if (NOW(hangs)) {
+        usleep(100000);
+        errno = EAGAIN;
+        return -1;
+    }
     left = NOW(takes);
     if (left) {
         count = count < left - 1 ? count : left - 1;
@@ -196,7 +223,8 @@ ssize_t send(int file, const void *octets, size_t count, int flags) {
 }
 """
 NUMBERS = ("clock", "writes", "reads", "stalled", "fails", "takes", "breaks", "octets", "later",
-           "yields", "pause", "whose", "pauses")
+           "yields", "pause", "whose", "pauses", "crowded",
+           "hangs")
 # Whose pauses those are that a row asks for.
 WHOSE = {"others": 0, "writers": 1, "sessions": 2}
 # The octets of a number, and of the end of a path behind them.
