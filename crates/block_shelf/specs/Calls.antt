@@ -1,6 +1,6 @@
 -- What a begin, a write of a block, a finish and an abandon do to what the buffer set keeps. The
--- calls are total: what each needs stands as a premise, in the relay's own words. A block that can't
--- be written, and an article that can't be finished, is refused by name.
+-- calls are total: what each needs stands as a premise, in the relay's own words. A block that
+-- can't be written, and an article that can't be finished, is refused by name.
 use Rattle.std.specs.Prelude.{◌≡◌, ℕ, ◌+◌, ◌==◌, ◌≤◌, ◌<◌, Bool, List, [], ◌∷◌, ◌++◌, length}
 use Rattle.std.specs.Prelude.{slice_get, IsOkAnd, IsSomeAnd}
 use Rattle.std.specs.Prelude.{Option, None, Some, option_and_then, Result, Ok, Err}
@@ -161,8 +161,8 @@ FinishesOn token old result new =
     × KeepsTexts trusted new w begun
     (kept ++ record { token = token; id = id; text = text } ∷ []) (put_at openings h None) failures
 
--- a begun article can be finished: the buffer of its token is here, and can finish the open write of
--- this handle
+-- a begun article can be finished: the buffer of its token is here, and can finish the open write
+-- of this handle
 abbrev pub CanFinish : {S : Type 0} {g : Ghosts S} → BufferSet S g → Begun → Type 0
 CanFinish buffer_set begun =
     IsSomeAnd (slice_get buffer_set.buffers.items (token_of begun).buffer)

@@ -1,5 +1,5 @@
-//! Rows for what a clean stop or a crash leaves, and what a start or a recovery makes of it: buffers
-//! over blocks in memory, and texts of histories (cyc_buffer, id_history).
+//! Rows for what a clean stop or a crash leaves, and what a start or a recovery makes of it:
+//! buffers over blocks in memory, and texts of histories (cyc_buffer, id_history).
 
 mod articles;
 mod bench;

@@ -1,5 +1,5 @@
--- What a device holds of a buffer whose program was killed, or whose power failed, and what is found
--- of it again (docs/PROTOCOL.md, Crashes).
+-- What a device holds of a buffer whose program was killed, or whose power failed, and what is
+-- found of it again (docs/PROTOCOL.md, Crashes).
 use Rattle.std.specs.Prelude.{◌≡◌, ◌⊎◌, ◌↔◌, ℕ, ◌+◌, ◌-◌, ◌*◌, ◌^◌, ◌<◌, ◌≤◌, List, [], ◌∷◌, length}
 use Rattle.std.specs.Prelude.{map, None, Some, Bool, true}
 use Rattle.std.specs.List.{AllByRecursion, Contains}
@@ -174,8 +174,8 @@ abbrev pub IsFoundIn : (blocks : List (List ℕ)) → Buffer → List codes.Toke
 IsFoundIn blocks buffer tokens = (cycle used : ℕ) → IsFrontOn buffer blocks cycle used
     → ListsFound buffer blocks cycle used tokens
 
--- Why a buffer isn't found again: memory was refused, the device failed, or its head block 0 is none
--- of this buffer's.
+-- Why a buffer isn't found again: memory was refused, the device failed, or its head block 0 is
+-- none of this buffer's.
 abbrev pub IsUnfound : (heads : List (List ℕ)) → Buffer → StartError → Type 0
 IsUnfound heads buffer errors.Memory = Unit {0}
 IsUnfound heads buffer errors.Device = Unit {0}
@@ -183,8 +183,8 @@ IsUnfound heads buffer errors.NoHead = (b : HeadBlock) → Says heads buffer b �
 IsUnfound heads buffer errors.Unclosed = ⊥
 IsUnfound heads buffer errors.Damaged = ⊥
 
--- Block k of the article under a token was written whole or not at all: it holds what it held, or is
--- that block of the article.
+-- Block k of the article under a token was written whole or not at all: it holds what it held, or
+-- is that block of the article.
 abbrev pub IsWrittenWhole : Buffer → (old new : List (List ℕ)) → Token → (k : ℕ) → Type 0
 IsWrittenWhole buffer old new t k =
     (block_at new (t.first + k) ≡ block_at old (t.first + k)) ⊎ IsPiece buffer new t k

@@ -1,6 +1,6 @@
--- The history of a buffer that was found again (docs/PROTOCOL.md, Crashes): of what was begun before
--- no more is known than what the device has, so each block that the front passed and that is no found
--- article's is a begin of its own, which was never finished.
+-- The history of a buffer that was found again (docs/PROTOCOL.md, Crashes): of what was begun
+-- before no more is known than what the device has, so each block that the front passed and that is
+-- no found article's is a begin of its own, which was never finished.
 use Rattle.std.specs.Prelude.{ℕ, zero, suc, ◌+◌, ◌-◌, ◌*◌, List, [], ◌∷◌, ◌++◌, min, take, drop}
 use Rattle.std.specs.Prelude.{false, None, Some}
 use Rattle.news_terms.specs.BlockImage.{chunk_size}

@@ -1,5 +1,5 @@
--- What becomes of a history where an article is rejected: it is all there, but the layer above finds
--- that its text is no article (docs/PROTOCOL.md, Crashes).
+-- What becomes of a history where an article is rejected: it is all there, but the layer above
+-- finds that its text is no article (docs/PROTOCOL.md, Crashes).
 use Rattle.std.specs.Prelude.{◌≡◌, ◌⊎◌, ℕ, ◌<◌, ◌≤◌, nat_lt, true, false, List, [], ◌∷◌, None, Some}
 use Rattle.std.specs.Prelude.{if◌then◌else◌}
 use Rattle.std.specs.List.{Contains}
@@ -61,8 +61,9 @@ pub record IsMarkedAt (r : BufferState) (t : codes.Token) : Type 0 where
 abbrev pub limit_of : Line → (block : ℕ) → ℕ
 limit_of line block = if nat_lt block line.used then line.used else line.blocks
 
--- The article that begins at a block ends at this one, by the marks: in between each block is marked
--- as kept, and no other article begins; and this is the limit, or isn't kept, or another begins here.
+-- The article that begins at a block ends at this one, by the marks: in between each block is
+-- marked as kept, and no other article begins; and this is the limit, or isn't kept, or another
+-- begins here.
 pub record EndsAt (starts kept : List ℕ) (first limit end : ℕ) : Type 0 where
   pub behind : first < end
   pub within : end ≤ limit

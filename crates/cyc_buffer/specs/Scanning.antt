@@ -116,8 +116,8 @@ pub record AreMarksOf (tokens : List Token) (starts kept : List ℕ) : Type 0 wh
 abbrev pub passed_on : Line → ℕ
 passed_on line = (line.cycle - line.first_cycle) * line.blocks + line.used
 
--- The register of a buffer that was found again: its front, its marks, and its counts, by which each
--- block that is no found article's is a begin of its own.
+-- The register of a buffer that was found again: its front, its marks, and its counts, by which
+-- each block that is no found article's is a begin of its own.
 pub record HasFound (blocks : List (List ℕ)) (buffer : Buffer) (r : BufferState)
     (tokens : List Token) : Type 0 where
   pub buffer_is : buffer_of r.line ≡ buffer

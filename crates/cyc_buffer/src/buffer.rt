@@ -166,8 +166,8 @@ impl<S: BlockStore> Buffer<S> {
         self.buffer_state.begin(class, length, fresh)
     }
 
-    /// Whether the next block of a text can be written to the write of this handle: it is open here,
-    /// no block of it failed, one is left, and the text has the article's length.
+    /// Whether the next block of a text can be written to the write of this handle: it is open
+    /// here, no block of it failed, one is left, and the text has the article's length.
     pub fn can_write(&self, write: &Open, text: &[u8]) -> bool
         ensures { IsTrue result ↔ CanWrite self.now write.now text.now }
     {
@@ -209,8 +209,8 @@ impl<S: BlockStore> Buffer<S> {
         Ok(self.buffer_state.count_block(write))
     }
 
-    /// Whether the write of this handle can be finished: it is open here, no block of it failed, and
-    /// all of it is written.
+    /// Whether the write of this handle can be finished: it is open here, no block of it failed,
+    /// and all of it is written.
     pub fn can_finish(&self, write: &Open) -> bool
         ensures { IsTrue result ↔ CanFinish self.now write.now }
     {

@@ -137,8 +137,8 @@ pub fn open_writes_leave()
         → IsLeftOf h kept blocks → IsLeftOf (record h { writing = o }) kept blocks }
 {}
 
-/// Where writes are lost, any of those since a device was safe, each whole, what is left is a device
-/// of the later history, with what is still live and all there.
+/// Where writes are lost, any of those since a device was safe, each whole, what is left is a
+/// device of the later history, with what is still live and all there.
 pub fn losses_leave()
     ensures { (h later : History) (kept safe_now : Token → Bool) (safe blocks : List (List ℕ))
         → IsLeftOf h kept safe → IsLossOf h safe later blocks

@@ -55,8 +55,8 @@ fn said_by(octets: &[u8; BLOCK_OCTETS], number: u8) -> Option<Token>
     })
 }
 
-/// Whether the article under a token lies round a block, in this line's buffer, and isn't of a cycle
-/// before the first.
+/// Whether the article under a token lies round a block, in this line's buffer, and isn't of a
+/// cycle before the first.
 fn lies_round(token: &Token, line: &Line, block: u32) -> bool
     ensures behind { IsTrue result → token.now.first ≤ block }
     ensures before { IsTrue result → block < token.now.first + size_of token.now.length }

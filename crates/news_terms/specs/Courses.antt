@@ -1,7 +1,7 @@
 -- What a group began, each article with its place, and where the next one goes: after what its
--- buffer tells of itself, its newest article (the principle of INN's CNFS; docs/PROTOCOL.md, Store).
--- Without a crash that is what follows from the sizes that were ever begun. After a crash nobody
--- knows those sizes, and a course goes on from the fronts that the devices tell.
+-- buffer tells of itself, its newest article (the principle of INN's CNFS; docs/PROTOCOL.md,
+-- Store). Without a crash that is what follows from the sizes that were ever begun. After a crash
+-- nobody knows those sizes, and a course goes on from the fronts that the devices tell.
 use Rattle.std.specs.Prelude.{ℕ, ◌+◌, ◌<◌, ◌≤◌, ◌==◌, ◌&&◌, nat_lt, nat_le, Bool, List, [], ◌∷◌}
 use Rattle.std.specs.Prelude.{◌++◌, length, All, fold, slice_get, Option, None, Some, if◌then◌else◌}
 use Rattle.news_terms.specs.Fronts.{EndsInBuffer, IsAmongBuffers}

@@ -64,7 +64,8 @@ pub fn course_examples()
 
 /// Where the next articles go of what was found: after the newest in their buffer. Sequential, an
 /// article that doesn't fit the rest of its buffer's cycle goes to the front of the next buffer: of
-/// a cycle more where this one is in the middle of one, and of its first cycle where it has nothing.
+/// a cycle more where this one is in the middle of one, and of its first cycle where it has
+/// nothing.
 pub fn found_course_examples()
     ensures goes_on { place_next eight_then_six (found_at_turn 0) 2 ≡ Some (at_place eight 2 6) }
     ensures fresh { place_next eight_then_six (found_at_turn 0) 3 ≡ Some (at_place six 2 0) }
@@ -85,8 +86,8 @@ pub fn found_course_examples()
 {}
 
 /// Found articles of one buffer lie in order where each begins at the end of those before it, or
-/// past it; not where it begins before that end, nor where one ends outside of its buffer. A turn is
-/// one of the group's buffers.
+/// past it; not where it begins before that end, nor where one ends outside of its buffer. A turn
+/// is one of the group's buffers.
 pub fn laid_examples()
     ensures found { IsLaid eight_then_six (found_at_turn 1) }
     ensures before { ¬ IsLaid eight_then_six (record {

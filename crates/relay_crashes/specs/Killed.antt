@@ -30,8 +30,8 @@ found_by texts sizes listed =
       moment = found_at;
     }
 
--- the second text is found, and some of the third article's blocks, so that the front is past it and
--- the first is overwritten
+-- the second text is found, and some of the third article's blocks, so that the front is past it
+-- and the first is overwritten
 abbrev pub second_found : (two : List ℕ) → Article → List Listed → Found
 second_found two b listed =
     found_by (again_at 0 3 (codes "<2@x>") two b ∷ []) (3 ∷ 3 ∷ 3 ∷ []) listed

@@ -88,8 +88,8 @@ pub fn found_is_remembered()
         → is_remembered (y.state.claim (message_id a.fields)) ≡ true }
 {}
 
-/// The message-id of each text that was saved, and that no front had passed, is remembered after the
-/// crash.
+/// The message-id of each text that was saved, and that no front had passed, is remembered after
+/// the crash.
 pub fn saved_is_remembered()
     ensures { (w v : Terms) (saved : Token → Bool) (x y : World) (token : Token) (text : List ℕ)
         (a : Article) → Crash w v saved x y → text_under x.state.kept token ≡ Some text

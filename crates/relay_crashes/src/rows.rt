@@ -105,8 +105,8 @@ pub fn killed_while_writing()
         → claim_again (second_found two b []) (codes "<3@x>") ≡ Unknown }
 {}
 
-/// The power fails while the same article is written, and nothing was flushed: nothing is found, and
-/// no id is known.
+/// The power fails while the same article is written, and nothing was flushed: nothing is found,
+/// and no id is known.
 pub fn power_cut()
     ensures crash { (failures later : ℕ → ℕ) (one two : List ℕ)
         → Crash k1 k1 (λ t. false) (begun_world failures one two third_job [] 2)

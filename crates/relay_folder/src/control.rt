@@ -128,8 +128,8 @@ impl Control {
         Some(Teller::new(self.accept_one(clock)?))
     }
 
-    /// Takes the socket away from its folder, where it is this one. Who has asked meanwhile is still
-    /// given, and nobody is waited for.
+    /// Takes the socket away from its folder, where it is this one. Who has asked meanwhile is
+    /// still given, and nobody is waited for.
     pub fn close<R: Files>(&self, rt: &R, alloc: Global, folder: &str) {
         let _left = take_away(rt, alloc, folder, self.identity);
         self.is_closed.store(true, Ordering::SeqCst);

@@ -1,6 +1,6 @@
--- What a crash leaves of the relay (docs/PROTOCOL.md, Crashes): its program was killed, or the power
--- failed, and it was found again from what its devices have, and from what a file lists of earlier
--- message-ids.
+-- What a crash leaves of the relay (docs/PROTOCOL.md, Crashes): its program was killed, or the
+-- power failed, and it was found again from what its devices have, and from what a file lists of
+-- earlier message-ids.
 use Rattle.std.specs.Prelude.{◌≡◌, ◌⊎◌, ℕ, ◌≤◌, not, nat_lt, Bool, true, List, [], ◌∷◌}
 use Rattle.std.specs.Prelude.{length, map, filter, find, bytes_eq, count_by, All, slice_get}
 use Rattle.std.specs.Prelude.{Option, None, Some, if◌then◌else◌}
@@ -25,8 +25,8 @@ pub record Listed : Type 0 where
   pub id : List ℕ
   pub moment : ℕ
 
--- a text that is found again, and the article that it reads as. Its id is empty where it is no id's:
--- another text of its message-id is found too, and is the id's.
+-- a text that is found again, and the article that it reads as. Its id is empty where it is no
+-- id's: another text of its message-id is found too, and is the id's.
 pub record Again : Type 0 where
   pub kept : Kept
   pub read : Article
@@ -62,8 +62,8 @@ claim_again found id =
     (find (λ (one : Again). bytes_eq id one.kept.id) (claimed found.texts))
     (find (λ (one : Listed). bytes_eq one.id id) found.listed)
 
--- the numbers of the feeds that may have an article that is found again, as if no peer had brought it:
--- the one that did is in its Path, unless it gave another name there (RFC 5537 section 3.6)
+-- the numbers of the feeds that may have an article that is found again, as if no peer had brought
+-- it: the one that did is in its Path, unless it gave another name there (RFC 5537 section 3.6)
 abbrev pub permitted_again : Terms → Article → List ℕ
 permitted_again w a = permitted w (length w.peers) a
 
@@ -85,7 +85,8 @@ abbrev pub accepted_again : Terms → List Again → List (Token × List ℕ)
 accepted_again w [] = []
 accepted_again w (one ∷ later) = with_again w one (accepted_again w later)
 
--- the state: what is found, and what follows from it; nobody is here, and no feed has taken anything
+-- the state: what is found, and what follows from it; nobody is here, and no feed has taken
+-- anything
 abbrev pub state_again : Terms → Found → State
 state_again w found =
     let accepted = accepted_again w found.texts in
@@ -149,7 +150,8 @@ pub record IsFound (w v : Terms) (saved : Token → Bool) (σ : State) (found : 
   pub now : found.moment ≤ last_moment
   pub listed : All (λ one. one.moment ≤ last_moment) found.listed
 
--- A crash: the relay is found again, under settings with the same store. What it was in is gone.
+-- A crash: the relay is found again, under these settings. What it was in is gone. That they have
+-- the same store is asked where a life goes on after it.
 pub record Crash (w v : Terms) (saved : Token → Bool) (x y : World) : Type 0 where
   pub found : Found
   pub failures : ℕ → ℕ
