@@ -3,6 +3,7 @@ pub mod Dealing
 pub mod Filling
 pub mod Finding
 pub mod Lists
+pub mod Reading
 pub mod Rows
 pub mod Taken
 pub mod Texts
