@@ -1,0 +1,5 @@
+pub mod AmongLemmas
+pub mod GatherLemmas
+pub mod HeldLemmas
+pub mod JudgeLemmas
+pub mod ReadLemmas

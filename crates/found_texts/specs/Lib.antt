@@ -1,0 +1,4 @@
+pub mod Gathering
+pub mod Held
+pub mod Judging
+pub mod Reading

@@ -1,0 +1,3 @@
+pub mod Again
+pub mod Ended
+pub mod Latest

@@ -1,0 +1,6 @@
+pub mod EachStore
+pub mod FoundOver
+pub mod Handed
+pub mod RefusedAs
+pub mod Repaired
+pub mod Unshut

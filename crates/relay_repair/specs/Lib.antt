@@ -1,0 +1,3 @@
+pub mod Refusing
+pub mod Repairing
+pub mod Telling

@@ -1,0 +1,10 @@
+pub mod ArticlesLeft
+pub mod BeforePlaces
+pub mod BegunCounts
+pub mod Claimed
+pub mod FoundWhole
+pub mod Paired
+pub mod Positions
+pub mod RecoveredSet
+pub mod SameKept
+pub mod UnderTokens
