@@ -28,16 +28,17 @@ room_of octets k most = omega (arith, most)
 
 module _ {S : Type 0} {g : Ghosts S} (token : Token) where
   -- what a read finds of a block is put behind the others
-  pub chunk_next : (old new : FoundBufferSet S g) (k n : ℕ) (slice before after : List ℕ)
-      → KeepsRead token k old (Ok (found.Chunk n)) slice new → after ≡ before ++ take n slice
-      → ReadsNext token k old before true after new
-  chunk_next old new k n slice before after reads behind =
+  pub chunk_next : (old new : FoundBufferSet S g) (k m n : ℕ) (slice before after : List ℕ)
+      → KeepsRead token k old (Ok (found.Chunk n)) slice new → after ≡ before ++ take m slice
+      → m ≡ n → ReadsNext token k old before true after new
+  chunk_next old new k m n slice before after reads behind same =
       λ w begun kept failures text keeps under within.
       let read = reads w begun kept failures keeps in
       let is = subst (λ one. IsBlockOf token k one (found.Chunk n) slice) under read.0 in
       record {
         found = refl;
-        octets = behind ∙ ap (λ octets. before ++ octets) is.2;
+        octets = behind ∙ ap (λ i. before ++ take i slice) same
+            ∙ ap (λ octets. before ++ octets) is.2;
         keeps = read.1;
       }
 

@@ -14,6 +14,7 @@ use Rattle.buffer_repair.specs.Parts.{store_in, tokens_in}
 use Rattle.buffer_repair.specs.declared.found_set.FoundBufferSet.{FoundBufferSet}
 use Rattle.cyc_block.specs.declared.store.BlockStore.{Ghosts}
 use Rattle.cyc_buffer.proofs.Refusals.{held_on}
+use Rattle.cyc_buffer.specs.Answers.{HasRoom}
 use Rattle.cyc_buffer.specs.Reads.{StaysHeld}
 use Rattle.cyc_buffer.specs.declared.answers.BufError.{BufError}
 use Rattle.cyc_buffer.specs.declared.answers.Found.{Found}
@@ -228,14 +229,16 @@ module _ {S : Type 0} {g : Ghosts S} where
         by (Some one) is = record { one = one; there = is; each = each_fails }
 
     -- a chunk has no more octets than it was given room for
-    pub read_room : (n : ℕ) → ReadsAt token k old before (Ok (found.Chunk n)) after new
-        → n ≤ chunk_size
-    read_room n reads = by (slice_get old.found.items token.buffer) refl
+    pub read_room : (what : Found) (n : ℕ) → what ≡ found.Chunk n
+        → ReadsAt token k old before (Ok what) after new → n ≤ chunk_size
+    read_room what n is reads = by (slice_get old.found.items token.buffer) refl
       where
         by : (o : Option (Started S g)) → slice_get old.found.items token.buffer ≡ o
             → n ≤ chunk_size
-        by None is = absurd (not_chunk n (reads.missing is))
-        by (Some one) is = (reads.changes.here one is).comes.reads.room
+        by None none =
+            absurd (not_chunk n (sym (ap (λ (one : Found). Ok one) is) ∙ reads.missing none))
+        by (Some one) there =
+            subst HasRoom is (reads.changes.here one there).comes.reads.room
 
   module _ {token : code.Token} (old new : FoundBufferSet S g) (rejects : RejectsAt token old new)
     where

@@ -24,16 +24,19 @@ use Rattle.found_again.specs.Lists.{all_of, texts_of}
 use Rattle.found_again.specs.Reading.{AreArticlesOf, IsArticleOf}
 use Rattle.found_again.specs.declared.text.FoundText.{FoundText}
 use Rattle.news_terms.proofs.ListPlaces.{there_within}
+use Rattle.news_terms.specs.Courses.{Course}
 use Rattle.news_terms.specs.Token as terms
 use Rattle.relay_conf.specs.declared.settings.Relay.{Relay}
 use Rattle.relay_model.specs.Fetches.{text_under}
 use Rattle.relay_model.specs.State.{Kept}
+use Rattle.relay_model.specs.Terms.{Terms}
 use Rattle.found_texts.proofs.AmongLemmas.{under_it, without_it}
 use Rattle.found_texts.proofs.HeldLemmas.{same_tokens}
 use Rattle.found_texts.specs.Held.{AreHeld}
-use Rattle.found_texts.specs.Judging.{ReadsOne}
+use Rattle.found_texts.specs.Judging.{IsSetUp, ReadsOne}
 use Rattle.found_texts.specs.Reading.{AreAmong, AreAsLong, AreOfBuffer, AreUnder, ReadsAll}
-use Rattle.found_texts.specs.Reading.{ReadsEach, ReadsFurther, all_tokens_in, tokens_of}
+use Rattle.found_texts.specs.Reading.{HasReadAmong, ReadsEach, ReadsFurther, all_tokens_in}
+use Rattle.found_texts.specs.Reading.{tokens_of}
 
 -- lists that belong together, and further ones behind them
 zip_append : {A B : Type 0} (R : A → B → Type 0) (xs us : List A) (ys vs : List B) → AllZip R xs ys
@@ -206,9 +209,10 @@ module _ {S : Type 0} {g : Ghosts S} where
       }))
 
 -- the texts of one buffer more
-pub texts_more : (buffers : List (Vec FoundText Global)) (buffer : Vec FoundText Global)
-    → all_of (buffers ++ buffer ∷ []) ≡ all_of buffers ++ buffer.items
-texts_more buffers buffer = sym (flat_map_more texts_of [] buffers buffer)
+pub texts_more : (buffers after : List (Vec FoundText Global)) (buffer : Vec FoundText Global)
+    → after ≡ buffers ++ buffer ∷ [] → all_of after ≡ all_of buffers ++ buffer.items
+texts_more buffers after buffer behind =
+    ap all_of behind ∙ sym (flat_map_more texts_of [] buffers buffer)
 
 module _ {S : Type 0} {g : Ghosts S} (relay : Relay) where
   -- of no tokens nothing is read
@@ -223,6 +227,31 @@ module _ {S : Type 0} {g : Ghosts S} (relay : Relay) where
   reads_none old texts none w begun before (one ∷ read) after failures is under long keeps =
       absurd (cc)
 
+  -- those behind are read once those before them were
+  read_behind : (mid new : FoundBufferSet S g) (more : List code.Token)
+      (texts others : List FoundText) (w : Terms) (begun : ℕ → Course)
+      (before first rest after : List Kept) (failures : ℕ → ℕ) → IsSetUp w relay
+      → AreUnder more rest → AreAsLong rest
+      → HasReadAmong w begun before first (rest ++ after) failures texts mid
+      → ReadsEach relay more mid others new
+      → HasReadAmong w begun before (first ++ rest) after failures (texts ++ others) new
+  read_behind mid new more texts others w begun before first rest after failures is under long here
+      other =
+      both (other w begun (before ++ here.left) rest after failures is under long
+      (subst (λ (kept : List Kept). KeepsFound mid w begun kept failures)
+      (sym (append_assoc before here.left (rest ++ after))) here.keeps))
+    where
+      both : HasReadAmong w begun (before ++ here.left) rest after failures others new
+          → HasReadAmong w begun before (first ++ rest) after failures (texts ++ others) new
+      both behind = record {
+        left = here.left ++ behind.left;
+        articles = articles_append first rest here.left behind.left here.articles behind.articles;
+        values = zip_append (IsArticleOf w) texts others here.left behind.left here.values
+            behind.values;
+        keeps = subst (λ (kept : List Kept). KeepsFound new w begun kept failures)
+            (regrouped before here.left behind.left after) behind.keeps;
+      }
+
   -- those under some tokens are read, and those under further ones
   pub reads_on : (old mid new : FoundBufferSet S g) (tokens more : List code.Token)
       (texts others : List FoundText) → ReadsEach relay tokens old texts mid
@@ -230,28 +259,24 @@ module _ {S : Type 0} {g : Ghosts S} (relay : Relay) where
       → ReadsEach relay (tokens ++ more) old (texts ++ others) new
   reads_on old mid new tokens more texts others one other =
       λ w begun before read after failures is under long keeps.
-      let parts = cut tokens more read under in
-      let first = parts.first in
-      let rest = parts.rest in
-      let longs = all_parts (λ (x : Kept). x.token.length ≡ length x.text) first rest
-      (subst AreAsLong parts.is long) in
-      let here = one w begun before first (rest ++ after) failures is parts.first_under longs.0
-      (subst (λ (kept : List Kept). KeepsFound old w begun kept failures)
-      (parted before read first rest after parts.is) keeps) in
-      let left = here.left in
-      let behind = other w begun (before ++ left) rest after failures is parts.rest_under longs.1
-      (subst (λ (kept : List Kept). KeepsFound mid w begun kept failures)
-      (sym (append_assoc before left (rest ++ after))) here.keeps) in
-      record {
-        left = left ++ behind.left;
-        articles = subst (λ (kept : List Kept). AreArticlesOf kept (left ++ behind.left))
-            (sym parts.is)
-            (articles_append first rest left behind.left here.articles behind.articles);
-        values = zip_append (IsArticleOf w) texts others left behind.left here.values
-            behind.values;
-        keeps = subst (λ (kept : List Kept). KeepsFound new w begun kept failures)
-            (regrouped before left behind.left after) behind.keeps;
-      }
+      by w begun before read after failures is long keeps (cut tokens more read under)
+    where
+      by : (w : Terms) (begun : ℕ → Course) (before read after : List Kept) (failures : ℕ → ℕ)
+          → IsSetUp w relay → AreAsLong read
+          → KeepsFound old w begun (before ++ (read ++ after)) failures → IsCut tokens more read
+          → HasReadAmong w begun before read after failures (texts ++ others) new
+      by w begun before read after failures is long keeps parts =
+          let longs = all_parts (λ (x : Kept). x.token.length ≡ length x.text) parts.first
+          parts.rest (subst AreAsLong parts.is long) in
+          let first = parts.first in
+          let rest = parts.rest in
+          subst (λ (kept : List Kept).
+          HasReadAmong w begun before kept after failures (texts ++ others) new) (sym parts.is)
+          (read_behind mid new more texts others w begun before first rest after failures is
+          parts.rest_under longs.1
+          (one w begun before first (rest ++ after) failures is parts.first_under longs.0
+          (subst (λ (kept : List Kept). KeepsFound old w begun kept failures)
+          (parted before read first rest after parts.is) keeps)) other)
 
   -- what was read is put behind what was
   pub reads_further : (old mid new : FoundBufferSet S g) (tokens more : List code.Token)

@@ -1,5 +1,5 @@
 -- Stores that belong together place by place, through more than one call.
-use Rattle.std.proofs.Common.{◌≡◌, ◌∙◌, ℕ, List, [], ◌∷◌, length, map, Some, slice_get, ap, sym}
+use Rattle.std.proofs.Common.{◌≡◌, ◌∙◌, ℕ, List, length, map, ap, sym}
 use Rattle.std.proofs.Common.{◌<◌, arith, get_or, option_map, subst}
 use Rattle.std.proofs.lemmas.Grind.{same_number_lists}
 use Rattle.std.proofs.lemmas.List.{length-map}

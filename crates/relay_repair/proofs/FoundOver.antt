@@ -1,5 +1,5 @@
 -- What a crash left on stores is found again, over those that were only read since.
-use Rattle.std.proofs.Common.{◌≡◌, ◌∙◌, ℕ, Bool, true, List, None, Some, Option, ap, slice_get, subst}
+use Rattle.std.proofs.Common.{◌≡◌, ◌∙◌, ℕ, Bool, List, Option, ap, slice_get, subst}
 use Rattle.std.proofs.Common.{get_or, refl, sym}
 use Rattle.std.proofs.lemmas.Option.{slice_get-get_or}
 use Rattle.std.specs.Prelude.{All}
@@ -25,7 +25,7 @@ use Rattle.relay_model.specs.Terms.{Terms}
 use Rattle.relay_model.specs.World.{World}
 use Rattle.repair_laws.proofs.RecoveredSet.{recovered_are_found}
 use Rattle.relay_repair.proofs.Repaired.{nameless}
-use Rattle.relay_repair.specs.Repairing.{IsFoundOf, IsLeftBy, IsRepairOf, RepairsFrom, ShutsFound}
+use Rattle.relay_repair.specs.Repairing.{IsFoundOf, IsLeftBy, RepairsFrom}
 
 -- what is left of a relay is left of one with other settings that have its buffers and groups
 pub left_of : {S : Type 0} {g : Ghosts S} {stores : List S} {w v : Terms} {begun : ℕ → Course}

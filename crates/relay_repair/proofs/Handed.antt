@@ -1,11 +1,9 @@
 -- What the history that is handed in tells a repair.
-use Rattle.std.proofs.Common.{◌≡◌, ◌∙◌, ℕ, ◌≤◌, List, None, Some, Option, ap, refl, subst, sym}
+use Rattle.std.proofs.Common.{◌≡◌, ℕ, ◌≤◌, List, None, Some, Option, refl, subst, sym}
 use Rattle.std.specs.Option.{option_copied}
 use Rattle.std.specs.Borrow.{Bor}
-use Rattle.std.specs.Prelude.{All}
 use Rattle.std.proofs.lemmas.List.Elements.{All-map, All-from_recursion, All-nil, All-weaker}
 use Rattle.block_shelf.specs.Starting.{IsFromOutside}
-use Rattle.block_shelf.specs.declared.starting.StopFault.TheVariants as faults
 use Rattle.block_shelf.specs.declared.starting.Unstarted.{Unstarted}
 use Rattle.cyc_block.specs.declared.store.BlockStore.{Ghosts}
 use Rattle.id_history.specs.History as texts

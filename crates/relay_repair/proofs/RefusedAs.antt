@@ -1,5 +1,5 @@
 -- Why a repair is refused, whatever came before it.
-use Rattle.std.proofs.Common.{◌≡◌, ◌≢◌, ◌∙◌, ℕ, ◌<◌, List, length, map, None, Some, Option, ap, sym, arith}
+use Rattle.std.proofs.Common.{◌≡◌, ◌∙◌, ℕ, ◌<◌, List, None, Some, Option, ap, sym, arith}
 use Rattle.std.proofs.Common.{refl, subst, slice_get}
 use Rattle.std.proofs.lemmas.List.{length-map}
 use Rattle.std.proofs.lemmas.Option.{none-some, slice_get_within}
@@ -14,10 +14,8 @@ use Rattle.buffer_repair.specs.Finding.{IsUnfoundAt, IsUnfoundBy, stores_in}
 use Rattle.buffer_repair.specs.Parts.{store_in}
 use Rattle.buffer_repair.specs.declared.found_set.FoundBufferSet.{FoundBufferSet}
 use Rattle.cyc_block.specs.declared.store.BlockStore.{Ghosts}
-use Rattle.cyc_buffer.specs.Head.{LeavesBlocks}
 use Rattle.cyc_buffer.specs.Stopped.{Says}
 use Rattle.cyc_buffer.specs.declared.answers.StartError.{StartError}
-use Rattle.cyc_buffer.specs.declared.answers.StartError.TheVariants as errors
 use Rattle.cyc_buffer.specs.declared.starting.Started.{Started}
 use Rattle.news_terms.proofs.ListPlaces.{holds_at}
 use Rattle.news_terms.specs.HeadBlocks.{HeadBlock}
@@ -30,8 +28,8 @@ use Rattle.relay_repair.proofs.EachStore.{each_made, each_over}
 use Rattle.relay_repair.proofs.FoundOver.{honest_on}
 use Rattle.relay_repair.proofs.Unshut.{blocks_on, held_blocks}
 use Rattle.relay_repair.specs.Refusing.{AreUnfound, FailedFrom, FailsAfter, HasFailed, HasNoRoom}
-use Rattle.relay_repair.specs.Refusing.{IsByHead, IsLeftAt, IsLeftFrom, IsRefusedAfter, IsRefusedOver}
-use Rattle.relay_repair.specs.Refusing.{IsUnshutFrom, IsUnshutOver, IsUnwrittenFrom, LacksRoom}
+use Rattle.relay_repair.specs.Refusing.{IsByHead, IsLeftAt, IsRefusedAfter, IsRefusedOver}
+use Rattle.relay_repair.specs.Refusing.{IsUnshutFrom, IsUnshutOver, LacksRoom}
 use Rattle.relay_repair.specs.Refusing.{NoRoomFrom}
 
 -- unwritten through two calls, of which the first didn't fail

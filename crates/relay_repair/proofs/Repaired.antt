@@ -1,55 +1,41 @@
 -- What is found of a relay is shut as the stop of a world that a crash leads to.
-use Rattle.std.proofs.Common.{◌≡◌, ◌∙◌, ℕ, ◌<◌, ◌≤◌, Bool, true, false, List, [], ◌∷◌, ◌++◌, length}
-use Rattle.std.proofs.Common.{map, min, Option, None, Some, unwrap_or, slice_get, refl, sym, ap, arith}
+use Rattle.std.proofs.Common.{◌≡◌, ◌∙◌, ℕ, ◌<◌, false, List, [], length}
+use Rattle.std.proofs.Common.{map, min, Option, None, Some, unwrap_or, slice_get, refl, sym, ap}
 use Rattle.std.proofs.Common.{subst}
 use Rattle.std.specs.Borrow.{Bor}
-use Rattle.std.specs.Prelude.{All, IsPermutation}
-use Rattle.std.specs.List.{flat_map}
-use Rattle.std.proofs.lemmas.List.{map-append}
 use Rattle.std.proofs.lemmas.Simd.{map-map}
 use Rattle.std.proofs.Math.Nat.{min-le_right}
 use Rattle.article_verdict.proofs.FewFeeds.{has_feeds}
 use Rattle.article_verdict.specs.Config.{terms_of}
-use Rattle.block_shelf.specs.Stopping.{ArePositions, HoldsTexts}
+use Rattle.block_shelf.specs.Stopping.{ArePositions}
 use Rattle.buffer_repair.specs.Finding.{remains_in}
 use Rattle.buffer_repair.specs.Keeping.{KeepsFound}
-use Rattle.buffer_repair.specs.Parts.{remains_of}
-use Rattle.buffer_repair.specs.Remains.{AreTurns, Remains, all_texts_left, courses_left, text_left}
-use Rattle.buffer_repair.specs.Remains.{texts_left}
+use Rattle.buffer_repair.specs.Remains.{AreTurns, all_texts_left, courses_left}
 use Rattle.buffer_repair.specs.Shutting.{HoldsFound}
 use Rattle.buffer_repair.specs.declared.found_set.FoundBufferSet.{FoundBufferSet}
 use Rattle.cyc_block.specs.declared.store.BlockStore.{Ghosts}
-use Rattle.cyc_buffer.specs.declared.starting.Started.{Started}
-use Rattle.cyc_token.specs.Token.{token_view}
-use Rattle.cyc_token.specs.declared.Token as code
 use Rattle.feed_queue.specs.Feeds.{ring_size}
 use Rattle.feed_queue.specs.Permission.{feed_view}
 use Rattle.found_again.specs.Claiming.{claimed_by_last}
 use Rattle.found_again.specs.Texts.{IsOf, listed_view, ids_listed, newest_of, ring_sizes}
-use Rattle.found_texts.specs.Reading.{AreUnder, HasRead, all_tokens_in, tokens_of}
-use Rattle.id_history.specs.Views.{history_view, id_view}
+use Rattle.found_texts.proofs.LeftLemmas.{left_under}
+use Rattle.found_texts.specs.Reading.{HasRead}
+use Rattle.id_history.specs.Views.{id_view}
 use Rattle.id_history.specs.declared.kept.History.{History}
-use Rattle.id_history.specs.declared.kept.KeptId.{KeptId}
-use Rattle.news_terms.specs.Places.{Group}
 use Rattle.news_terms.specs.Token.{Token}
-use Rattle.relay_conf.specs.declared.relay.Feed.{Feed}
 use Rattle.relay_conf.specs.declared.settings.Config.{Config}
-use Rattle.relay_core.specs.Stopping.{IsShut}
 use Rattle.relay_crashes.proofs.WellAgain.{again_well, never_storing}
 use Rattle.relay_model.specs.Claims.{Claim, Unknown, Offered, Storing, Stored, Refused}
 use Rattle.relay_model.specs.Claims.{is_storing}
-use Rattle.relay_model.specs.Crash.{Again, Crash, Found, IsFound, Listed, claim_again}
+use Rattle.relay_model.specs.Crash.{Again, Found, IsFound, claim_again}
 use Rattle.relay_model.specs.Crash.{world_again}
-use Rattle.relay_model.specs.State.{Kept}
-use Rattle.relay_model.specs.Terms.{FeedTerms, Terms, last_moment}
-use Rattle.relay_model.specs.World.{World}
-use Rattle.relay_remains.specs.Positions.{ArePositionsAgain, HasPosition}
+use Rattle.relay_model.specs.Terms.{FeedTerms, last_moment}
 use Rattle.repair_laws.proofs.FoundWhole.{found_is_of_crash}
 use Rattle.repair_laws.proofs.Positions.{turn_positions}
 use Rattle.repair_laws.proofs.SameKept.{same_kept}
 use Rattle.repair_laws.specs.FoundAll.{AreBuffersFound, AreClaimed, IsOfCrash, found_with}
-use Rattle.relay_repair.specs.Repairing.{AreInTime, IsFoundOf, IsRepairOf, ShutsFound}
-use Rattle.relay_repair.specs.Telling.{TellsFound, last_lent, last_listed, last_stop, listed_of}
+use Rattle.relay_repair.specs.Repairing.{AreInTime, ShutsFound}
+use Rattle.relay_repair.specs.Telling.{TellsFound, last_lent, last_listed, listed_of}
 use Rattle.relay_repair.specs.Telling.{stop_again}
 
 -- the turns that these positions tell
@@ -59,28 +45,6 @@ turns_at positions h = unwrap_or (slice_get positions h) 0
 -- no id for any text
 abbrev pub nameless : Token → List ℕ
 nameless token = []
-
--- the token of a text
-abbrev pub token_in : Kept → Token
-token_in one = one.token
-
--- the texts of a buffer lie under its tokens
-under_texts : (r : Remains) → map token_in (texts_left nameless r) ≡ map token_view r.tokens
-under_texts r = map-map token_in (text_left nameless r.blocks) r.tokens
-
--- the texts that are left lie under the tokens that were found
-under_left : {S : Type 0} {g : Ghosts S} (found : List (Started S g))
-    → map token_in
-    (all_texts_left nameless (map (λ (one : Started S g). remains_of one) found))
-    ≡ map token_view (flat_map (λ (one : Started S g). tokens_of one) found)
-under_left [] = refl
-under_left {S} {g} (one ∷ later) =
-    let rest = map (λ (each : Started S g). remains_of each) later in
-    map-append token_in (texts_left nameless (remains_of one)) (all_texts_left nameless rest)
-    ∙ ap (λ ts. ts ++ map token_in (all_texts_left nameless rest)) (under_texts (remains_of one))
-    ∙ ap (λ ts. map token_view one.tokens.items ++ ts) (under_left later)
-    ∙ sym (map-append token_view one.tokens.items
-    (flat_map (λ (each : Started S g). tokens_of each) later))
 
 -- the feeds of the terms have the rings of the configuration
 rings_are : (config : Config)
@@ -141,7 +105,7 @@ module _ {S : Type 0} {g : Ghosts S} (config : Config) (old : Option (Bor Histor
       let failures = buffers.failures in
       let read : HasRead (terms_of config) begun kept failures told.found_texts after =
       told.reads (terms_of config) begun kept failures (has_feeds config)
-      (under_left before.found.items) buffers.on_record.lengths buffers.keeps in
+      (left_under nameless before) buffers.on_record.lengths buffers.keeps in
       let claims : AreClaimed (terms_of config) kept read.left
       (claimed_by_last told.tells.ordered) = record {
         articles = read.articles;

@@ -1,14 +1,13 @@
 -- Buffers that were found again aren't shut, and what that leaves.
-use Rattle.std.proofs.Common.{◌≡◌, ◌≢◌, ◌∙◌, ℕ, ◌<◌, List, length, map, None, Some, sym, subst, ap}
-use Rattle.std.proofs.Common.{arith, Option}
+use Rattle.std.proofs.Common.{◌≡◌, ◌∙◌, ℕ, ◌<◌, List, length, sym, subst}
+use Rattle.std.proofs.Common.{arith}
 use Rattle.std.proofs.lemmas.Option.{none-some, slice_get_within}
 use Rattle.block_shelf.proofs.EachLemmas.{each_mapped}
 use Rattle.block_shelf.specs.Each.{AreEach}
-use Rattle.block_shelf.specs.Starting.{IsUnwritten}
 use Rattle.block_shelf.specs.declared.starting.Unstarted.{Unstarted}
 use Rattle.buffer_repair.specs.Finding.{stores_in}
 use Rattle.buffer_repair.specs.Parts.{store_in}
-use Rattle.buffer_repair.specs.Shutting.{AreShutFound, IsLeftFound, IsShutFound, IsUnshutFound}
+use Rattle.buffer_repair.specs.Shutting.{AreShutFound, IsUnshutFound}
 use Rattle.buffer_repair.specs.declared.found_set.FoundBufferSet.{FoundBufferSet}
 use Rattle.cyc_block.specs.declared.store.BlockStore.{Ghosts}
 use Rattle.cyc_buffer.specs.Head.{LeavesBlocks}
@@ -18,7 +17,7 @@ use Rattle.found_texts.specs.Held.{AreHeld, FailsAt, IsHeld, IsReadFault, IsUnfa
 use Rattle.found_texts.specs.declared.fault.ReadFault.{ReadFault}
 use Rattle.found_texts.specs.declared.fault.ReadFault.TheVariants as reads
 use Rattle.relay_repair.proofs.EachStore.{each_both, each_made, each_over, same_numbers}
-use Rattle.relay_repair.specs.Refusing.{FailedFrom, IsLeftAt, IsLeftFrom, IsToldAs, IsUnshutFrom}
+use Rattle.relay_repair.specs.Refusing.{FailedFrom, IsLeftFrom, IsToldAs, IsUnshutFrom}
 use Rattle.relay_repair.specs.Refusing.{IsUnwrittenFrom, NoRoomFrom}
 use Rattle.relay_repair.specs.Repairing.{counts_of}
 

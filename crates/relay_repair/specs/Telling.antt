@@ -1,7 +1,6 @@
 -- What the history of a relay's last stop tells a repair, and what is written of what is found
 -- (docs/PROTOCOL.md, Crashes).
-use Rattle.std.specs.Prelude.{◌≡◌, ◌≢◌, ℕ, ◌≤◌, min, List, [], map, Option, None, Some, IsPermutation}
-use Rattle.std.specs.Prelude.{Result, Ok, Err}
+use Rattle.std.specs.Prelude.{◌≡◌, ℕ, min, List, [], map, Option, None, Some, IsPermutation}
 use Rattle.std.specs.Borrow.{Bor}
 use Rattle.article_verdict.specs.Config.{terms_of}
 use Rattle.block_shelf.specs.Stopping.{ArePositions}
@@ -18,7 +17,7 @@ use Rattle.relay_conf.specs.declared.settings.Config.{Config}
 use Rattle.relay_core.specs.Desks.{Reads}
 use Rattle.relay_core.specs.Stopping.{Tells, next_stop}
 use Rattle.relay_model.specs.Crash.{Found, Listed, state_again}
-use Rattle.relay_model.specs.Terms.{Terms, last_moment}
+use Rattle.relay_model.specs.Terms.{last_moment}
 use Rattle.buffer_repair.specs.declared.found_set.FoundBufferSet.{FoundBufferSet}
 use Rattle.cyc_block.specs.declared.store.BlockStore.{Ghosts}
 use Rattle.found_texts.specs.Reading.{ReadsAll}

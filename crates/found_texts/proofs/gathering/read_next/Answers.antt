@@ -1,6 +1,6 @@
-use Rattle.std.proofs.Common.{◌≤◌, ◌∙◌, ◌++◌, ap, arith, subst, sym, take, Ok}
+use Rattle.std.proofs.Common.{arith, subst, sym, Ok}
 use Rattle.std.proofs.lemmas.List.{length-take-le}
-use Rattle.buffer_repair.specs.Keeping.{KeepsRead, ReadsAt}
+use Rattle.buffer_repair.specs.Keeping.{KeepsRead}
 use Rattle.cyc_buffer.specs.declared.answers.Found.{Found}
 use Rattle.cyc_token.specs.Token.{token_view}
 use Rattle.found_texts.proofs.GatherLemmas.{chunk_next, gone_next, unknown_next}
@@ -9,26 +9,18 @@ use Rattle.found_texts.proofs.HeldLemmas.{read_unfailed}
 use Rattle.found_texts.proofs.gathering.read_next.Goals as goal
 
 pub slice_bounds-chunk-end : goal.slice_bounds-chunk-end
-slice_bounds-chunk-end g c =
-    let old = c.args.found_set.now in
-    let new = c.read_block.new.self in
-    omega (
-      arith,
-      c.in-Ok-Chunk.count-is,
-      c.type_inv.chunk,
-      read_room old new c.in-Ok-Chunk.count
-          (subst (λ (one : Found). ReadsAt c.args.token c.args.k old _ (Ok one)
-          c.read_block.new.chunk new) c.in-Ok-Chunk.field-0-is c.in-Ok-Chunk.ensures.reads),
-    )
+slice_bounds-chunk-end g c = omega (
+  arith,
+  c.in-Ok-Chunk.count-is,
+  c.type_inv.chunk,
+  read_room c.args.found_set.now c.read_block.new.self c.in-Ok-Chunk.field-0 c.in-Ok-Chunk.count
+      c.in-Ok-Chunk.field-0-is c.in-Ok-Chunk.ensures.reads,
+)
 
 pub slice_bounds-extend_from_slice-end : goal.slice_bounds-extend_from_slice-end
 slice_bounds-extend_from_slice-end g c =
-    let old = c.args.found_set.now in
-    let new = c.read_block.new.self in
-    let room : c.in-Ok-Chunk.count ≤ 480 =
-    read_room old new c.in-Ok-Chunk.count
-    (subst (λ (one : Found). ReadsAt c.args.token c.args.k old _ (Ok one)
-    c.read_block.new.chunk new) c.in-Ok-Chunk.field-0-is c.in-Ok-Chunk.ensures.reads) in
+    let room = read_room c.args.found_set.now c.read_block.new.self c.in-Ok-Chunk.field-0
+    c.in-Ok-Chunk.count c.in-Ok-Chunk.field-0-is c.in-Ok-Chunk.ensures.reads in
     rw c.in-Ok-Chunk.count-is
     (sym (length-take-le c.in-Ok-Chunk.count c.read_block.new.chunk
     (omega (arith, room, c.read_block.array_long))))
@@ -53,13 +45,11 @@ returns-in_ok-extend_from_slice-in-Ok-Chunk g c =
     let old = c.args.found_set.now in
     let new = c.read_block.new.self in
     record {
-      next = chunk_next (token_view c.args.token) old new c.args.k c.in-Ok-Chunk.count
+      next = chunk_next (token_view c.args.token) old new c.args.k _ c.in-Ok-Chunk.count
           c.read_block.new.chunk c.args.octets.now.items c.extend_from_slice.new.self.items
           (subst (λ (one : Found). KeepsRead (token_view c.args.token) c.args.k old (Ok one)
           c.read_block.new.chunk new) c.in-Ok-Chunk.field-0-is c.in-Ok-Chunk.ensures.keeps)
-          (c.in_ok-extend_from_slice-in-Ok-Chunk.ensures.items
-          ∙ ap (λ n. c.args.octets.now.items ++ take n c.read_block.new.chunk)
-          c.in-Ok-Chunk.count-is);
+          c.in_ok-extend_from_slice-in-Ok-Chunk.ensures.items c.in-Ok-Chunk.count-is;
       unfailed = read_unfailed old new c.in-Ok-Chunk.field-0 c.in-Ok-Chunk.ensures.reads;
       refused = tt;
       held = read_held old new c.read_block.result c.read_block.ensures.reads;

@@ -1,4 +1,4 @@
-use Rattle.std.proofs.Common.{◌++◌, ◌∙◌, ◌<◌, ap, arith, length, subst, sym, take}
+use Rattle.std.proofs.Common.{◌++◌, ◌<◌, ap, arith, length, subst, sym, take}
 use Rattle.std.proofs.lemmas.List.{take_all}
 use Rattle.std.specs.Prelude.{flat_map}
 use Rattle.block_shelf.proofs.EachLemmas.{all_read}
@@ -63,7 +63,7 @@ loop-number-preserved g c =
           new)
           (buffer_more found number within)
           (subst (λ all. ReadsEach c.args.relay.now (before ++ tokens_at old number) old all new)
-          (sym (ap all_of c.in_ok-push.ensures.items ∙ texts_more texts buffer))
+          (sym (texts_more texts c.push.new.self.items buffer c.in_ok-push.ensures.items))
           (reads_on c.args.relay.now old mid new before (tokens_at old number) (all_of texts)
           buffer.items c.loop-number.invariant.reads
           (subst (λ tokens. ReadsEach c.args.relay.now tokens mid buffer.items new)

@@ -1,6 +1,5 @@
-use Rattle.std.proofs.Common.{◌≡◌, ◌∙◌, length}
+use Rattle.std.proofs.Common.{◌∙◌, length}
 use Rattle.std.proofs.lemmas.Result.{IfOk-weaker, IfErr-weaker}
-use Rattle.block_shelf.specs.Starting.{IsUnwritten}
 use Rattle.relay_repair.proofs.EachStore.{same_numbers}
 use Rattle.relay_repair.proofs.FoundOver.{found_over}
 use Rattle.relay_repair.proofs.RefusedAs.{unshut_over}

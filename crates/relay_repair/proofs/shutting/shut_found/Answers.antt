@@ -1,4 +1,4 @@
-use Rattle.std.proofs.Common.{◌≡◌, ◌∙◌, ap, subst, sym}
+use Rattle.std.proofs.Common.{◌∙◌, ap, subst}
 use Rattle.buffer_repair.specs.Shutting.{HoldsFound}
 use Rattle.relay_core.specs.Stopping.{next_stop}
 use Rattle.relay_repair.proofs.Repaired.{is_repaired}

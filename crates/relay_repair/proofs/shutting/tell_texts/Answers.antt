@@ -1,4 +1,4 @@
-use Rattle.std.proofs.Common.{◌∙◌, ap, arith, length}
+use Rattle.std.proofs.Common.{ap, arith, length}
 use Rattle.std.proofs.lemmas.List.{length-map}
 use Rattle.article_verdict.proofs.FewFeeds.{few_feeds}
 use Rattle.feed_queue.specs.Feeds.{ring_size}
