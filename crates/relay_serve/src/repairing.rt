@@ -19,7 +19,7 @@ use live_session::Clock;
 use relay_conf::Config;
 use relay_core::Stopped;
 use relay_folder::{HistoryPlace, Origin};
-use relay_repair::{Standing, repair, standing_of};
+use relay_repair::{HeadFault, Standing, repair, standing_of};
 use relay_report::ServeError;
 use std::alloc::Global;
 use std::random::RandomSource;
@@ -133,8 +133,15 @@ fn is_unstopped<S: Synced>(
         Ok(Standing::Stopped) => Ok(false),
         // Where nothing was kept, that the history isn't there is what a start says first.
         Err(fault) if text.is_empty() && !is_of_device(fault.error) => Ok(false),
-        Err(fault) => Err(refusal(alloc, &config.buffers, Some(fault.number), fault.error)),
+        Err(fault) => Err(refused_head(alloc, config, fault)),
     }
+}
+
+/// The head of a buffer is one that no relay of this history has.
+fn refused_head(alloc: Global, config: &Config, fault: HeadFault) -> ServeError
+    ensures { IsServeFault config.now result }
+{
+    refusal(alloc, &config.buffers, Some(fault.number), fault.error)
 }
 
 /// Whether a device failed.

@@ -268,20 +268,10 @@ where
     ensures totals { IfOk result (λ run. IfOk run.totals (AreOf config.now)) }
     ensures fault { IfErr result (IsServeFault config.now) }
 {
-    let begun = match watch(rt, &config.buffers, begun) {
-        Ok(watched) => begin_again(rt, alloc, config, history, watched),
-        Err(_) => Err(ServeError::Memory),
-    };
-    match begun {
-        Ok(begun) => {
-            tell_start(rt, &begun.origin);
-            run_watched(rt, alloc, config, begun, access)
-        }
-        Err(error) => {
-            drop(access);
-            Err(error)
-        }
-    }
+    let watched = watch(rt, &config.buffers, begun)?;
+    let begun = begin_again(rt, alloc, config, history, watched)?;
+    tell_start(rt, &begun.origin);
+    run_watched(rt, alloc, config, begun, access)
 }
 
 /// Runs the relay over stores that are watched, by the machine's clock.
