@@ -186,9 +186,12 @@ def each_start(row):
                 raise Wrong(f"call {number}: {told}, and {path.name} was changed")
             path.write_bytes(octets)
     row.shared.set(fails=0)
+    # The heads are looked at first, to see whether it was stopped.
     reads = [it for it in came[:-3] if it[0].endswith(" 1 Device")]
     devices = [f"{it}: 1 Device" for it in "ABC"]
+    heads, reads = reads[:3], reads[3:]
     if (came[-3:] != [(it, "ABC"[:place]) for place, it in enumerate(devices)]
+            or heads != [(it, "") for it in devices]
             or reads != sorted(reads) or set(reads) != {(it, "") for it in devices}):
         raise Wrong(f"the calls that failed came to {came}")
 

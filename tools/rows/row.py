@@ -55,7 +55,7 @@ Printed = namedtuple("Printed", "out err events most statuses")
 NOTHING = Printed([], [], [], [], [0])
 
 # The lines that tell what happens while a relay is served (docs/OPERATING.md, Lines).
-EVENT = re.compile(r"(serving|starting|closed|failed|waiting)( \w+=\S*)+|stopping|stopped")
+EVENT = re.compile(r"(serving|recovering|recovered|starting|closed|failed|waiting)( \w+=\S*)+|stopping|stopped")
 
 # The lines that say what of a file.
 FILES = ("file", "folder", "pipe", "link", "symlink", "mode", "cut", "poke", "remove", "missing",

@@ -3,6 +3,7 @@ mod FileFaults
 mod Founds
 mod Kept
 mod PeerSources
+mod Repairs
 mod Rows
 mod ServeFaults
 mod Sizes

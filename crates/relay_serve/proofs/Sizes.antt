@@ -16,16 +16,20 @@ abbrev pub seen_of : FileBlocks HostFile → ℕ
 seen_of store =
     length (overlaid store.gathered.first (blocks_in store.gathered) (blocks_of store.count []))
 
--- Of files of the machine contracts see as many blocks as were asked for; those that are watched
--- are these.
+-- it is as many as were asked for
+pub seen_count : (store : FileBlocks HostFile) → seen_of store ≡ count_of store
+seen_count store =
+    length-seen store.count store.gathered.first store.gathered.count []
+    store.gathered.octets.items store.gathered_within
+
+-- Those that are watched are these.
 pub watched_sizes : {R : Type 0} (all : List (Watched (FileBlocks HostFile) R))
     → map (λ (one : Watched (FileBlocks HostFile) R). seen_of one.store) all
     ≡ map count_of (map store_in all)
 watched_sizes [] = refl
 watched_sizes {R} (one ∷ all) =
     ap (λ n. n ∷ map (λ (other : Watched (FileBlocks HostFile) R). seen_of other.store) all)
-    (length-seen one.store.count one.store.gathered.first one.store.gathered.count []
-    one.store.gathered.octets.items one.store.gathered_within)
+    (seen_count one.store)
     ∙ ap (λ (ns : List ℕ). one.store.count ∷ ns) (watched_sizes all)
 
 -- There are as many of one as of the other where so much is the same of both, one by one.

@@ -135,7 +135,7 @@ at_any g config stores (Some number) fault error e =
     (slice_get config.buffers.buffers.items number) refl e
 
 -- What a start is refused for is a reason that a relay isn't run,
-refusal_stays : {S : Type 0} (g : Ghosts S) (config : Config) (stores : List S) (number : Option ℕ)
+pub refusal_stays : {S : Type 0} (g : Ghosts S) (config : Config) (stores : List S) (number : Option ℕ)
     (reason : StopFault) (error : ServeError) → IsRefusal config.buffers number reason error
     → IsRelayFault g config stores error
 refusal_stays g config stores number reasons.Memory error e =
@@ -156,7 +156,7 @@ refusal_stays g config stores number reasons.Ahead error e =
     subst (IsRelayFault g config stores) (sym e) tt
 
 -- Where the host lets none begin, that ends a run.
-unbegun_runs : (kind : ErrorKind) → IsRunFault (unbegun_as kind)
+pub unbegun_runs : (kind : ErrorKind) → IsRunFault (unbegun_as kind)
 unbegun_runs OutOfMemory = inl refl
 unbegun_runs kind = inr (inl refl)
 

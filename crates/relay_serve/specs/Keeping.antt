@@ -5,15 +5,14 @@ use Rattle.relay_folder.specs.declared.history_place.HistoryPlace as places
 use Rattle.relay_report.specs.declared.fault.ServeError.{ServeError}
 use Rattle.relay_report.specs.declared.fault.ServeError.TheVariants as faults
 use Rattle.relay_report.specs.declared.keeping.StopFault.TheVariants as stops
-use Rattle.relay_serve.specs.declared.synced.Synced as synced
 
 -- The error tells why this history isn't kept: the device of a store couldn't be had take all that
 -- was written, and what was kept before was not touched; or each device has it, and the text can't
 -- be kept.
-abbrev pub TellsKeeping : {S H : Type 0} → synced.Ghosts S → places.Ghosts H → (text : List ℕ)
-    → (stores : List S) → (old new : H) → ServeError → Type 0
-TellsKeeping s h text stores old new (faults.Stop stops.Device) =
-    Any (λ store. ¬ s.is_synced store) stores × (new ≡ old)
-TellsKeeping s h text stores old new (faults.Stop stops.History) =
-    All s.is_synced stores × (h.honest old → IsNotKept h text old new)
-TellsKeeping s h text stores old new error = ⊥
+abbrev pub TellsKeeping : {S H : Type 0} → (is_synced : S → Type 0) → places.Ghosts H
+    → (text : List ℕ) → (stores : List S) → (old new : H) → ServeError → Type 0
+TellsKeeping is_synced h text stores old new (faults.Stop stops.Device) =
+    Any (λ store. ¬ is_synced store) stores × (new ≡ old)
+TellsKeeping is_synced h text stores old new (faults.Stop stops.History) =
+    All is_synced stores × (h.honest old → IsNotKept h text old new)
+TellsKeeping is_synced h text stores old new error = ⊥

@@ -1,5 +1,6 @@
 //! What a relay was stopped with is kept.
 ghost use Rattle.std.specs.Prelude.{◌≡◌, ◌∷◌, [], Ok, Some, All, IfErr, IfOk, OnOk};
+ghost use Rattle.std.specs.Prelude.{length, map};
 ghost use Rattle.relay_serve.specs.Keeping.{TellsKeeping};
 ghost use Rattle.relay_serve.specs.Running.{IsStopFault};
 
@@ -61,13 +62,15 @@ fn keep_stopped<S: Synced + Drop, H: HistoryPlace>(
 
 /// Keeps this history of a relay, once the device of each of its stores has all that was written:
 /// it is not to speak of blocks that a device hasn't got.
-fn keep_synced<S: Synced, H: HistoryPlace>(
+pub(crate) fn keep_synced<S: Synced, H: HistoryPlace>(
     history: &mut H,
     stores: &mut [S],
     text: &[u8],
 ) -> Result<(), ServeError>
     ensures synced { OnOk result (All S.is_synced stores.new) }
-    ensures told { IfErr result (TellsKeeping S.Synced H.HistoryPlace text.now stores.new
+    ensures blocks { map (λ store. length (S.blocks store)) stores.new
+        ≡ map (λ store. length (S.blocks store)) stores.old }
+    ensures told { IfErr result (TellsKeeping S.is_synced H.HistoryPlace text.now stores.new
         history.old history.new) }
     ensures kept { H.honest history.old → OnOk result (H.kept history.new ≡ Some text.now) }
     ensures lasts { H.honest history.old

@@ -20,6 +20,8 @@ mod keeping;
 mod lives;
 mod ports;
 mod reasons;
+mod recovered;
+mod repairing;
 mod running;
 mod serving;
 mod side_thread;

@@ -5,6 +5,7 @@ ghost use Rattle.relay_serve.specs.Ports.{IsPortFault};
 ghost use Rattle.relay_serve.specs.Running.{IsServeFault, IsStopFault};
 ghost use Rattle.relay_report.specs.Serve.{AreOf, ServeGives};
 ghost use Rattle.file_blocks.specs.Store.{count_of};
+ghost use Rattle.relay_serve.specs.Watched.{store_in};
 
 use crate::begun::{Beginning, Unbegun, begin_over};
 use crate::clock::MachineClock;
@@ -13,6 +14,7 @@ use crate::files::{fit_files, hold_files};
 use crate::gate::CountingGate;
 use crate::keeping::keep_finished;
 use crate::ports::open_ports;
+use crate::repairing::begin_again;
 use crate::running::{Finished, Records, Surroundings, channels_of, run_relay};
 use crate::streams::fill_streams;
 use crate::watched::{Watched, watch};
@@ -222,8 +224,7 @@ where
             return Err(error);
         }
     };
-    tell_start(rt, &begun.origin);
-    let finished = run_watched(rt, alloc, config, begun, access)?;
+    let finished = run_begun(rt, alloc, config, begun, history, access)?;
     let totals = keep_finished(history, finished)?;
     tell_counted(rt, &totals);
     let printed = print_totals(alloc, &totals, writer);
@@ -248,25 +249,48 @@ fn tell_start<R: Eprint>(rt: &R, origin: &Origin) {
     }
 }
 
-/// Runs the relay over what was opened, by the machine's clock. Nothing says that a file of the
-/// machine is honest, so nothing is promised of what the stores give.
-fn run_watched<'a, R>(
+/// Runs the relay over what was opened, each store watched: one that was left without a stop is
+/// repaired first. Nothing says that a file of the machine is honest, so nothing is promised of
+/// what the stores give.
+fn run_begun<'a, R, H: HistoryPlace>(
     rt: &'a R,
     alloc: Global,
     config: &'a Config,
-    beginning: Beginning<FileBlocks>,
+    begun: Beginning<FileBlocks>,
+    history: &mut H,
     access: Access<'_>,
 ) -> Result<Finished<Watched<'a, FileBlocks, R>>, ServeError>
 where
     R: Threads + Wait + Clock + Eprint + RandomSource + Sync,
-    requires stores { map count_of beginning.stores.items
+    requires stores { map count_of begun.stores.items
+        ≡ map (λ buffer. buffer.blocks) config.now.buffers.buffers.items }
+    requires few { length access.peer_sources.items < 2 ^ 62 }
+    ensures totals { IfOk result (λ run. IfOk run.totals (AreOf config.now)) }
+    ensures fault { IfErr result (IsServeFault config.now) }
+{
+    let watched = watch(rt, &config.buffers, begun)?;
+    let begun = begin_again(rt, alloc, config, history, watched)?;
+    tell_start(rt, &begun.origin);
+    run_watched(rt, alloc, config, begun, access)
+}
+
+/// Runs the relay over stores that are watched, by the machine's clock.
+fn run_watched<'a, R>(
+    rt: &'a R,
+    alloc: Global,
+    config: &'a Config,
+    beginning: Beginning<Watched<'a, FileBlocks, R>>,
+    access: Access<'_>,
+) -> Result<Finished<Watched<'a, FileBlocks, R>>, ServeError>
+where
+    R: Threads + Wait + Clock + Eprint + RandomSource + Sync,
+    requires stores { map count_of (map store_in beginning.stores.items)
         ≡ map (λ buffer. buffer.blocks) config.now.buffers.buffers.items }
     requires few { length access.peer_sources.items < 2 ^ 62 }
     ensures totals { IfOk result (λ run. IfOk run.totals (AreOf config.now)) }
     ensures fault { IfErr result (IsServeFault config.now) }
 {
     let register = ArticleLog::new(alloc)?;
-    let beginning = watch(rt, &config.buffers, beginning)?;
     let clock = MachineClock::new(rt);
     run_relay::<Watched<'a, FileBlocks, R>, Brand, Brand, R>(
         rt,

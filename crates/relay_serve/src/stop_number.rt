@@ -31,7 +31,7 @@ pub(crate) fn stop_kept<P: HistoryPlace>(
 }
 
 /// The number of the stop of a history that is one of this configuration.
-fn stop_in(alloc: Global, config: &Config, text: &[u8]) -> Result<u64, ServeError>
+pub(crate) fn stop_in(alloc: Global, config: &Config, text: &[u8]) -> Result<u64, ServeError>
     ensures stop { IfOk result (IsStopIn config.now text.now) }
     ensures none { IfErr result (TellsNone config.now (Some text.now)) }
     ensures fault { IfErr result IsHistoryFault }

@@ -1,17 +1,18 @@
 //! Stores whose devices are had take what was written.
-ghost use Rattle.std.specs.Prelude.{All, Any, OnErr, OnOk};
+ghost use Rattle.std.specs.Prelude.{◌≡◌, All, Any, OnErr, OnOk, length, map};
 
-use cyc_block::DeviceFailed;
+use cyc_block::{BlockStore, DeviceFailed};
 
 /// A store of which is known whether its device has what was written.
-pub(crate) trait Synced {
+pub(crate) trait Synced: BlockStore {
     /// The device was had take all that was written, and has said that it did.
     ghost is_synced: { Self → Type 0 };
 
     /// Has the device take all that was written.
     fn sync(&mut self) -> Result<(), DeviceFailed>
         ensures synced { OnOk result (is_synced self.new) }
-        ensures failed { OnErr result (¬ is_synced self.new) };
+        ensures failed { OnErr result (¬ is_synced self.new) }
+        ensures blocks { length (Self.blocks self.new) ≡ length (Self.blocks self.old) };
 }
 
 /// Has the device of each store take all that was written, one after the other, up to the first
@@ -19,6 +20,8 @@ pub(crate) trait Synced {
 pub(crate) fn sync_all<S: Synced>(stores: &mut [S]) -> Result<(), DeviceFailed>
     ensures synced { OnOk result (All S.is_synced stores.new) }
     ensures failed { OnErr result (Any (λ store. ¬ S.is_synced store) stores.new) }
+    ensures blocks { map (λ store. length (S.blocks store)) stores.new
+        ≡ map (λ store. length (S.blocks store)) stores.old }
 {
     for store in stores.iter_mut() {
         store.sync()?;

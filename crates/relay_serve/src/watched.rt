@@ -76,7 +76,7 @@ impl<S: Looked, R> Looked for Watched<'_, S, R> {
     ghost was_emptied = { λ watched. S.was_emptied watched.store };
 }
 
-impl<R> Synced for Watched<'_, FileBlocks, R> {
+impl<R: Clock + Eprint> Synced for Watched<'_, FileBlocks, R> {
     ghost use Rattle.file_blocks.specs.Host.{IsFlushed};
     ghost use Rattle.file_blocks.specs.Store.{file_of};
 

@@ -1,6 +1,10 @@
-use Rattle.std.proofs.Common.{All, take}
+use Rattle.std.proofs.Common.{◌≡◌, All, length, map, take}
 use Rattle.relay_serve.proofs.synced.sync_all.Given as goal
 
--- the device of each store so far has said that it took all
+-- the device of each store so far has said that it took all, and all have as many blocks as before
 abbrev pub invariant-loop-store : goal.invariant-loop-store
-invariant-loop-store g l = All g.S.Synced.is_synced (take l.store-index l.stores)
+invariant-loop-store g l = record {
+  synced : All g.S.Synced.is_synced (take l.store-index l.stores);
+  blocks : map (λ store. length (g.S.BlockStore.blocks store)) l.stores
+      ≡ map (λ store. length (g.S.BlockStore.blocks store)) l.fn.stores;
+}

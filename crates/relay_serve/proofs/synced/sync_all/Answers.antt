@@ -1,0 +1,25 @@
+use Rattle.std.proofs.Common.{◌≡◌, ◌∙◌, arith, length}
+use Rattle.std.proofs.Math.Seq.{map-set_same}
+use Rattle.std.proofs.lemmas.Grind.{common_steps}
+use Rattle.relay_serve.proofs.synced.sync_all.Goals as goal
+
+-- one that was synced has as many blocks as before,
+pub returns-in_err-sync-clause-blocks : goal.returns-in_err-sync-clause-blocks
+returns-in_err-sync-clause-blocks g c =
+    map-set_same (λ store. length (g.S.BlockStore.blocks store)) c.loop-store.stores
+    c.loop-store.store-index c.sync.new.self c.store-item.result
+    c.sync.ensures.blocks
+    ∙ c.loop-store.invariant.blocks
+
+-- and its device has said so
+pub loop-store-preserved : goal.loop-store-preserved
+loop-store-preserved g c = record {
+  synced = grind (arith, common_steps, c.loop-store.invariant.synced, c.in_ok-sync.ensures.synced);
+  blocks = map-set_same (λ store. length (g.S.BlockStore.blocks store)) c.loop-store.stores
+      c.loop-store.store-index c.sync.new.self c.store-item.result
+      c.sync.ensures.blocks
+      ∙ c.loop-store.invariant.blocks;
+}
+
+pub returns-clause-blocks : goal.returns-clause-blocks
+returns-clause-blocks g c = c.loop-store.invariant.blocks

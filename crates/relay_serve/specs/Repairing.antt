@@ -1,0 +1,80 @@
+-- What a relay goes on from that is not begun from nothing (docs/PROTOCOL.md, Crashes: the relay).
+use Rattle.std.specs.Prelude.{◌≡◌, ◌⊎◌, ◌∷◌, ℕ, Bool, true, false, List, [], All, Option, None}
+use Rattle.std.specs.Prelude.{Some}
+use Rattle.std.specs.Global.{Vec}
+use Rattle.cyc_block.specs.declared.store.BlockStore.{Ghosts}
+use Rattle.relay_conf.specs.declared.settings.Config.{Config}
+use Rattle.relay_core.specs.declared.stopped.Stopped.{Stopped}
+use Rattle.relay_folder.specs.declared.history_place.HistoryPlace as places
+use Rattle.relay_folder.specs.declared.origin.Origin.{Origin}
+use Rattle.relay_folder.specs.declared.origin.Origin.TheVariants as origins
+use Rattle.relay_remains.specs.Heads.{HaveEnded}
+use Rattle.relay_remains.specs.declared.heads.Standing.TheVariants as standings
+use Rattle.relay_repair.specs.Repairing.{Repairs}
+use Rattle.relay_serve.specs.Adding.{IsStopIn}
+
+-- the history that a text is, none where it is empty
+abbrev pub kept_text : List ℕ → Option (List ℕ)
+kept_text [] = None
+kept_text (octet ∷ octets) = Some (octet ∷ octets)
+
+-- This history is kept for good: each store's device has all that was written, and a power cut
+-- leaves this text.
+pub record IsKeptAs {S H : Type 0} (is_synced : S → Type 0) (h : places.Ghosts H)
+    (text : List ℕ) (stores : List S) (old new : H) : Type 0 where
+  pub synced : All is_synced stores
+  pub kept : h.honest old → h.kept new ≡ Some text
+  pub lasting : h.honest old → h.lasting new ≡ Some text ∷ []
+
+-- the number of the last stop: that of the text, 0 where no history was kept
+abbrev pub IsLastStop : Config → (kept : Option (List ℕ)) → (stop : ℕ) → Type 0
+IsLastStop config None stop = stop ≡ 0
+IsLastStop config (Some text) stop = IsStopIn config text stop
+
+-- The heads say so whether a relay was left without a stop: it was where one of them says that; it
+-- was not where each is closed at the last stop, and where no history was kept nothing is said.
+abbrev pub IsSaidByHeads : {S : Type 0} → Ghosts S → (kept : Option (List ℕ)) → (stop : ℕ)
+    → (stores : List S) → (unstopped : Bool) → Type 0
+IsSaidByHeads g kept stop stores true = HaveEnded g stop stores standings.Unstopped
+IsSaidByHeads g None stop stores false = Unit {0}
+IsSaidByHeads g (Some text) stop stores false = HaveEnded g stop stores standings.Stopped
+
+-- it is said of the last stop that is kept
+pub record IsUnstoppedBy {S : Type 0} (g : Ghosts S) (config : Config) (text : List ℕ)
+    (stores : List S) (unstopped : Bool)
+    : Type 0 where
+  pub stop : ℕ
+  pub last : IsLastStop config (kept_text text) stop
+  pub said : IsSaidByHeads g (kept_text text) stop stores unstopped
+
+-- a text is the history that a repair of these stores gives, whatever it did to them afterwards
+pub record IsOfRepair {S : Type 0} (g : Ghosts S) (config : Config) (text : List ℕ)
+    (stores : List S) (written : List ℕ)
+    : Type 0 where
+  pub now : ℕ
+  pub back : List S
+  pub repairs : Repairs g config stores (kept_text text) now back written
+
+-- What was left of a relay is gone on with as it is where it was stopped; where it wasn't, with
+-- what a repair of it gives, which is kept.
+abbrev pub GoesOnFrom : {S H : Type 0} → (is_synced : S → Type 0) → Ghosts S → places.Ghosts H
+    → Config → (left : Stopped S) → (stopped : Stopped S) → (old new : H) → Type 0
+GoesOnFrom is_synced g h config left stopped old new =
+    (IsUnstoppedBy g config left.history.items left.stores.items false
+    × (stopped.history ≡ left.history) × (new ≡ old))
+    ⊎ (IsUnstoppedBy g config left.history.items left.stores.items true
+    × IsOfRepair g config left.history.items left.stores.items stopped.history.items
+    × IsKeptAs is_synced h stopped.history.items stopped.stores.items old new)
+
+-- what a relay begins over, as what was left of one
+abbrev pub left_of : {S : Type 0} → Vec S → Vec ℕ → Stopped S
+left_of stores text = record { stores = stores; history = text }
+
+-- so a relay goes on that is not begun from nothing; one that is has nothing to go on from
+abbrev pub GoesOn : {S H : Type 0} → (is_synced : S → Type 0) → Ghosts S → places.Ghosts H
+    → Config → (before after : Origin) → (stores back : Vec S) → (old new : H) → Type 0
+GoesOn is_synced g h config origins.Formatted after stores back old new =
+    (after ≡ origins.Formatted) × (back ≡ stores) × (new ≡ old)
+GoesOn is_synced g h config (origins.Stopped text) origins.Formatted stores back old new = ⊥
+GoesOn is_synced g h config (origins.Stopped text) (origins.Stopped kept) stores back old new =
+    GoesOnFrom is_synced g h config (left_of stores text) (left_of back kept) old new

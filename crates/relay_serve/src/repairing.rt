@@ -1,0 +1,251 @@
+//! A relay that was left without a stop is repaired before it starts (docs/PROTOCOL.md, Crashes:
+//! the relay).
+ghost use Rattle.std.specs.Prelude.{◌≡◌, IfErr, IfOk, None, OnOk, length, map};
+ghost use Rattle.relay_serve.specs.Adding.{IsHistoryFault};
+ghost use Rattle.relay_serve.specs.Repairing.{GoesOn, GoesOnFrom, IsKeptAs, IsLastStop};
+ghost use Rattle.relay_serve.specs.Repairing.{IsOfRepair, IsUnstoppedBy, kept_text};
+ghost use Rattle.relay_repair.specs.Telling.{octets_in};
+ghost use Rattle.block_shelf.specs.Each.{AreEach};
+ghost use Rattle.block_shelf.specs.Starting.{IsUnwritten};
+ghost use Rattle.relay_serve.specs.Running.{IsServeFault, IsStopFault};
+
+use crate::begun::{Beginning, Looked};
+use crate::clock::MachineClock;
+use crate::keeping::keep_synced;
+use crate::lives::unstarted;
+use crate::recovered::{tell_recovered, tell_recovering};
+use crate::starting::refusal;
+use crate::stop_number::stop_in;
+use crate::synced::Synced;
+use block_shelf::{StopFault, number_of};
+use cyc_block::BlockStore;
+use live_session::Clock;
+use relay_conf::Config;
+use relay_core::Stopped;
+use relay_folder::{HistoryPlace, Origin};
+use relay_remains::{HeadFault, Standing, standing_of};
+use relay_repair::repair;
+use relay_report::ServeError;
+use std::alloc::Global;
+use std::random::RandomSource;
+use std::time;
+
+/// What a relay begins over, once one that was left without a stop is repaired: what is found of it
+/// is kept as what a stop leaves, and it begins from that. Any other begins as it was to.
+pub(crate) fn begin_again<S, H, R>(
+    rt: &R,
+    alloc: Global,
+    config: &Config,
+    history: &mut H,
+    beginning: Beginning<S>,
+) -> Result<Beginning<S>, ServeError>
+where
+    S: Synced + Looked + Drop,
+    H: HistoryPlace,
+    R: time::Clock + Eprint + RandomSource,
+    requires stores { map (λ store. length (S.blocks store)) beginning.stores.items
+        ≡ map (λ buffer. buffer.blocks) config.now.buffers.buffers.items }
+    ensures stores { IfOk result (λ begun. map (λ store. length (S.blocks store)) begun.stores.items
+        ≡ map (λ buffer. buffer.blocks) config.now.buffers.buffers.items) }
+    // One that was stopped goes on as it is, one that wasn't with what a repair gives.
+    ensures goes { IfOk result (λ begun. GoesOn S.is_synced ⟦<S as BlockStore>⟧ H.HistoryPlace
+        config.now beginning.origin begun.origin beginning.stores begun.stores
+        history.old history.new) }
+    ensures fault { IfErr result (IsServeFault config.now) }
+{
+    let Beginning {
+        stores,
+        origin,
+        fresh,
+    } = beginning;
+    match origin {
+        Origin::Formatted => Ok(Beginning {
+            stores,
+            origin: Origin::Formatted,
+            fresh,
+        }),
+        Origin::Stopped(text) => {
+            let left = Stopped {
+                stores,
+                history: text,
+            };
+            let Stopped { stores, history } = go_on(rt, alloc, config, history, left)?;
+            Ok(Beginning {
+                stores,
+                origin: Origin::Stopped(history),
+                fresh,
+            })
+        }
+    }
+}
+
+/// What a relay that wasn't begun from nothing goes on from: what was left of it, or what a repair
+/// of that has kept, where it wasn't stopped.
+fn go_on<S, H, R>(
+    rt: &R,
+    alloc: Global,
+    config: &Config,
+    history: &mut H,
+    left: Stopped<S>,
+) -> Result<Stopped<S>, ServeError>
+where
+    S: Synced + Drop,
+    H: HistoryPlace,
+    R: time::Clock + Eprint + RandomSource,
+    requires stores { map (λ store. length (S.blocks store)) left.stores.items
+        ≡ map (λ buffer. buffer.blocks) config.now.buffers.buffers.items }
+    ensures stores { IfOk result (λ stopped.
+        map (λ store. length (S.blocks store)) stopped.stores.items
+        ≡ map (λ store. length (S.blocks store)) left.stores.items) }
+    ensures goes { IfOk result (λ stopped. GoesOnFrom S.is_synced ⟦<S as BlockStore>⟧
+        H.HistoryPlace config.now left stopped history.old history.new) }
+    ensures fault { IfErr result (IsServeFault config.now) }
+{
+    let Stopped {
+        stores,
+        history: text,
+    } = left;
+    let mut stores = stores;
+    match is_unstopped(alloc, config, &mut stores, &text) {
+        Ok(false) => Ok(Stopped {
+            stores,
+            history: text,
+        }),
+        Ok(true) => repaired(rt, alloc, config, history, stores, text),
+        Err(error) => {
+            drop(text);
+            drop(stores);
+            Err(error)
+        }
+    }
+}
+
+/// Whether the heads say that the relay of this history was left without a stop. The error is that
+/// the text is no history, or the first head that no relay of this history has.
+fn is_unstopped<S: Synced>(
+    alloc: Global,
+    config: &Config,
+    stores: &mut [S],
+    text: &[u8],
+) -> Result<bool, ServeError>
+    ensures told { IfOk result (IsUnstoppedBy ⟦<S as BlockStore>⟧ config.now text.now stores.old) }
+    ensures unwritten { OnOk result
+        (AreEach (IsUnwritten ⟦<S as BlockStore>⟧ None) stores.old stores.new) }
+    ensures blocks { map (λ store. length (S.blocks store)) stores.new
+        ≡ map (λ store. length (S.blocks store)) stores.old }
+    ensures fault { IfErr result (IsServeFault config.now) }
+{
+    let stop = last_stop(alloc, config, text)?;
+    match standing_of(stores, stop) {
+        Ok(Standing::Unstopped) => Ok(true),
+        Ok(Standing::Stopped) => Ok(false),
+        // Where nothing was kept, that the history isn't there is what a start says first.
+        Err(fault) if text.is_empty() && !is_of_device(fault.error) => Ok(false),
+        Err(fault) => Err(refused_head(alloc, config, fault)),
+    }
+}
+
+/// The head of a buffer is one that no relay of this history has.
+fn refused_head(alloc: Global, config: &Config, fault: HeadFault) -> ServeError
+    ensures { IsServeFault config.now result }
+{
+    let number = number_of(fault.place);
+    refusal(alloc, &config.buffers, Some(number), fault.error)
+}
+
+/// Whether a device failed.
+fn is_of_device(error: StopFault) -> bool {
+    match error {
+        StopFault::Device => true,
+        _ => false,
+    }
+}
+
+/// The number of the last stop: 0 where no history was kept. The error is that the text is no
+/// history of this configuration, or want of memory.
+fn last_stop(alloc: Global, config: &Config, text: &[u8]) -> Result<u64, ServeError>
+    ensures stop { IfOk result (IsLastStop config.now (kept_text text.now)) }
+    ensures fault { IfErr result IsHistoryFault }
+{
+    if text.is_empty() {
+        return Ok(0);
+    }
+    stop_in(alloc, config, text)
+}
+
+/// Repairs the relay that was left on these stores, with this history of its last stop, and keeps
+/// what is found, telling of both.
+fn repaired<S, H, R>(
+    rt: &R,
+    alloc: Global,
+    config: &Config,
+    history: &mut H,
+    stores: Vec<S>,
+    text: Vec<u8>,
+) -> Result<Stopped<S>, ServeError>
+where
+    S: Synced + Drop,
+    H: HistoryPlace,
+    R: time::Clock + Eprint + RandomSource,
+    requires stores { map (λ store. length (S.blocks store)) stores.items
+        ≡ map (λ buffer. buffer.blocks) config.now.buffers.buffers.items }
+    ensures stores { IfOk result (λ stopped.
+        map (λ store. length (S.blocks store)) stopped.stores.items
+        ≡ map (λ store. length (S.blocks store)) stores.items) }
+    ensures repaired { IfOk result (λ stopped. IsOfRepair ⟦<S as BlockStore>⟧ config.now text.items
+        stores.items stopped.history.items) }
+    ensures kept { IfOk result (λ stopped. IsKeptAs S.is_synced H.HistoryPlace
+        stopped.history.items stopped.stores.items history.old history.new) }
+    ensures fault { IfErr result (IsServeFault config.now) }
+{
+    tell_recovering(rt, stores.len(), text.len());
+    let now = MachineClock::new(rt).now();
+    let answer = repair(rt, alloc, config, stores, history_of(&text), now);
+    drop(text);
+    match answer {
+        Ok(stopped) => {
+            let stopped = keep_repaired(history, stopped)?;
+            tell_recovered(rt, alloc, config, &stopped.history);
+            Ok(stopped)
+        }
+        Err(refused) => Err(unstarted(alloc, config, refused)),
+    }
+}
+
+/// The history that a text is, none where it is empty.
+fn history_of(text: &[u8]) -> Option<&[u8]>
+    ensures { octets_in result ≡ kept_text text.now }
+{
+    if text.is_empty() { None } else { Some(text) }
+}
+
+/// Keeps what a repair gave: its history once all of its stores are on their devices.
+fn keep_repaired<S: Synced + Drop, H: HistoryPlace>(
+    history: &mut H,
+    stopped: Stopped<S>,
+) -> Result<Stopped<S>, ServeError>
+    ensures stores { IfOk result (λ kept.
+        map (λ store. length (S.blocks store)) kept.stores.items
+        ≡ map (λ store. length (S.blocks store)) stopped.stores.items) }
+    ensures text { IfOk result (λ kept. kept.history.items ≡ stopped.history.items) }
+    ensures kept { IfOk result (λ kept. IsKeptAs S.is_synced H.HistoryPlace kept.history.items
+        kept.stores.items history.old history.new) }
+    ensures fault { IfErr result IsStopFault }
+{
+    let Stopped {
+        stores,
+        history: text,
+    } = stopped;
+    let mut stores = stores;
+    match keep_synced(history, &mut stores, &text) {
+        Ok(()) => Ok(Stopped {
+            stores,
+            history: text,
+        }),
+        Err(error) => {
+            drop(text);
+            drop(stores);
+            Err(error)
+        }
+    }
+}
