@@ -1,10 +1,12 @@
 //! A relay that was left without a stop is repaired before it starts (docs/PROTOCOL.md, Crashes:
 //! the relay).
-ghost use Rattle.std.specs.Prelude.{◌≡◌, ◌⊎◌, IfErr, IfOk, length, map};
+ghost use Rattle.std.specs.Prelude.{◌≡◌, ◌⊎◌, ◌↔◌, [], IfErr, IfOk, IsTrue, Ok, Some, length, map};
 ghost use Rattle.std.specs.Option.{option_map};
-ghost use Rattle.relay_serve.specs.Adding.{IsHistoryFault};
+ghost use Rattle.relay_serve.specs.Adding.{IsHistoryFault, IsStopIn};
 ghost use Rattle.relay_serve.specs.Repairing.{GoesOn, IsKeptAs, kept_text};
 ghost use Rattle.relay_serve.specs.Running.{IsServeFault, IsStopFault};
+ghost use Rattle.relay_serve.specs.Starting.{IsRefusal};
+ghost use Rattle.block_shelf.specs.declared.starting.StopFault.TheVariants as stops;
 
 use crate::begun::{Beginning, Looked};
 use crate::clock::MachineClock;
@@ -139,13 +141,16 @@ fn is_unstopped<S: Synced>(
 
 /// The head of a buffer is one that no relay of this history has.
 fn refused_head(alloc: Global, config: &Config, fault: HeadFault) -> ServeError
-    ensures { IsServeFault config.now result }
+    ensures told { IsRefusal config.now.buffers (Some fault.number) fault.error result }
+    ensures fault { IsServeFault config.now result }
 {
     refusal(alloc, &config.buffers, Some(fault.number), fault.error)
 }
 
 /// Whether a device failed.
-fn is_of_device(error: StopFault) -> bool {
+fn is_of_device(error: StopFault) -> bool
+    ensures { IsTrue result ↔ error ≡ stops.Device }
+{
     match error {
         StopFault::Device => true,
         _ => false,
@@ -155,7 +160,9 @@ fn is_of_device(error: StopFault) -> bool {
 /// The number of the last stop: 0 where no history was kept. The error is that the text is no
 /// history of this configuration, or want of memory.
 fn last_stop(alloc: Global, config: &Config, text: &[u8]) -> Result<u64, ServeError>
-    ensures { IfErr result IsHistoryFault }
+    ensures none { text.now ≡ [] → result ≡ Ok 0 }
+    ensures stop { IfOk result (λ stop. (text.now ≡ []) ⊎ IsStopIn config.now text.now stop) }
+    ensures fault { IfErr result IsHistoryFault }
 {
     if text.is_empty() {
         return Ok(0);
