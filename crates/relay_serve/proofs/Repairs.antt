@@ -1,5 +1,5 @@
 -- Why a relay that was left isn't repaired is why it isn't served.
-use Rattle.std.proofs.Common.{◌≡◌, ◌⊎◌, inl, inr, List, [], ℕ, Option, subst, sym}
+use Rattle.std.proofs.Common.{inl, inr, [], ℕ, Option, subst, sym}
 use Rattle.std.specs.IoError.{error_kind}
 use Rattle.block_shelf.specs.declared.starting.StopFault.{StopFault}
 use Rattle.cyc_block.specs.declared.store.BlockStore.{Ghosts}

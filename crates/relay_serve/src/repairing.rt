@@ -1,6 +1,6 @@
 //! A relay that was left without a stop is repaired before it starts (docs/PROTOCOL.md, Crashes:
 //! the relay).
-ghost use Rattle.std.specs.Prelude.{◌≡◌, IfErr, IfOk, None, OnOk, length, map};
+ghost use Rattle.std.specs.Prelude.{◌≡◌, ◌<◌, ◌^◌, ◌↔◌, ℕ, IfErr, IfOk, IsTrue, None, OnOk, Some, length, map};
 ghost use Rattle.relay_serve.specs.Adding.{IsHistoryFault};
 ghost use Rattle.relay_serve.specs.Repairing.{GoesOn, GoesOnFrom, IsKeptAs, IsLastStop};
 ghost use Rattle.relay_serve.specs.Repairing.{IsOfRepair, IsUnstoppedBy, kept_text};
@@ -8,6 +8,8 @@ ghost use Rattle.relay_repair.specs.Telling.{octets_in};
 ghost use Rattle.block_shelf.specs.Each.{AreEach};
 ghost use Rattle.block_shelf.specs.Starting.{IsUnwritten};
 ghost use Rattle.relay_serve.specs.Running.{IsServeFault, IsStopFault};
+ghost use Rattle.relay_serve.specs.Starting.{IsRefusal};
+ghost use Rattle.block_shelf.specs.declared.starting.StopFault.TheVariants as stops;
 
 use crate::begun::{Beginning, Looked};
 use crate::clock::MachineClock;
@@ -147,14 +149,18 @@ fn is_unstopped<S: Synced>(
 
 /// The head of a buffer is one that no relay of this history has.
 fn refused_head(alloc: Global, config: &Config, fault: HeadFault) -> ServeError
-    ensures { IsServeFault config.now result }
+    ensures told { (number : ℕ) × (fault.place < 2 ^ 8 → number ≡ fault.place)
+        × IsRefusal config.now.buffers (Some number) fault.error result }
+    ensures fault { IsServeFault config.now result }
 {
     let number = number_of(fault.place);
     refusal(alloc, &config.buffers, Some(number), fault.error)
 }
 
 /// Whether a device failed.
-fn is_of_device(error: StopFault) -> bool {
+fn is_of_device(error: StopFault) -> bool
+    ensures { IsTrue result ↔ error ≡ stops.Device }
+{
     match error {
         StopFault::Device => true,
         _ => false,

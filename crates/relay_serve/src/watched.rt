@@ -5,12 +5,24 @@ ghost use Rattle.relay_serve.specs.Watched.{name_in, store_in};
 
 use crate::begun::{Beginning, Looked};
 use crate::synced::Synced;
-use cyc_block::{BLOCK_OCTETS, BlockStore, DeviceFailed};
+use cyc_block::{BLOCK_OCTETS, BlockStore, DeviceFailed, HeadState, read_head_image};
 use file_blocks::FileBlocks;
 use relay_conf::Buffers;
 use std::alloc::AllocError;
 use std::str;
 use std::time::Clock;
+
+/// A store whose device can be had take what was written.
+pub(crate) trait Flushing: BlockStore {
+    /// Has the device take all that was written.
+    fn flush(&self) -> Result<(), DeviceFailed>;
+}
+
+impl Flushing for FileBlocks {
+    fn flush(&self) -> Result<(), DeviceFailed> {
+        self.sync()
+    }
+}
 
 /// A store of blocks that is asked by another, which tells of each call that failed, in a line a
 /// second at most on standard error, by the name of the buffer.
@@ -70,6 +82,30 @@ impl<'a, S, R: Clock + Eprint> Watched<'a, S, R> {
     }
 }
 
+impl<'a, S: Flushing, R: Clock + Eprint> Watched<'a, S, R> {
+    /// Has the device take a head that says open before blocks are written behind it: else a power
+    /// cut could leave a head that says closed, and blocks that are newer. Where it can't that is
+    /// told, and the relay goes on.
+    fn flush_opened(&mut self)
+        ensures same { self.new.store ≡ self.old.store }
+    {
+        if self.store.flush().is_err() {
+            self.tell("Write");
+        }
+    }
+}
+
+/// Whether this is written as the head block 0 of a buffer that is open.
+fn is_opened(k: u32, octets: &[u8; BLOCK_OCTETS]) -> bool {
+    match read_head_image(octets) {
+        Some(numbers) => match numbers.state {
+            HeadState::Open => k == 0,
+            HeadState::Closed => false,
+        },
+        None => false,
+    }
+}
+
 impl<S: Looked, R> Looked for Watched<'_, S, R> {
     ghost was_blank = { λ watched. S.was_blank watched.store };
 
@@ -87,7 +123,7 @@ impl<R: Clock + Eprint> Synced for Watched<'_, FileBlocks, R> {
     }
 }
 
-impl<S: BlockStore, R: Clock + Eprint> BlockStore for Watched<'_, S, R> {
+impl<S: Flushing, R: Clock + Eprint> BlockStore for Watched<'_, S, R> {
     ghost blocks = { λ watched. S.blocks watched.store };
 
     ghost heads = { λ watched. S.heads watched.store };
@@ -119,12 +155,15 @@ impl<S: BlockStore, R: Clock + Eprint> BlockStore for Watched<'_, S, R> {
 
     fn write_head(&mut self, k: u32, octets: &[u8; BLOCK_OCTETS]) -> Result<(), DeviceFailed> {
         let answer = self.store.write_head(k, octets);
+        if answer.is_ok() && is_opened(k, octets) {
+            self.flush_opened();
+        }
         self.hand_on(answer, "Write")
     }
 }
 
 /// What a relay begins over, each store watched by the name of its buffer.
-pub(crate) fn watch<'a, S: BlockStore + Looked + Drop, R: Clock + Eprint>(
+pub(crate) fn watch<'a, S: Flushing + Looked + Drop, R: Clock + Eprint>(
     rt: &'a R,
     settings: &'a Buffers,
     beginning: Beginning<S>,
@@ -151,7 +190,7 @@ pub(crate) fn watch<'a, S: BlockStore + Looked + Drop, R: Clock + Eprint>(
 }
 
 /// Each store, watched by the name of its buffer.
-fn watch_all<'a, S: BlockStore + Drop, R: Clock + Eprint>(
+fn watch_all<'a, S: Flushing + Drop, R: Clock + Eprint>(
     rt: &'a R,
     settings: &'a Buffers,
     stores: Vec<S>,

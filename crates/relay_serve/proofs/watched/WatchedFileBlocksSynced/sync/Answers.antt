@@ -1,4 +1,4 @@
-use Rattle.std.proofs.Common.{◌≡◌, ◌∙◌, sym}
+use Rattle.std.proofs.Common.{◌∙◌, sym}
 use Rattle.relay_serve.proofs.Sizes.{seen_count}
 use Rattle.relay_serve.proofs.watched.WatchedFileBlocksSynced.sync.Goals as goal
 
