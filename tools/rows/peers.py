@@ -67,8 +67,8 @@ def cut_to(text, most=200):
 
 
 class Numbers:
-    """Numbers of a range, each given out once. What runs beside this program has others: of each part
-    of the range one program has a socket, whose name says which and has no file, until it ends."""
+    """Numbers of a range, each given out once. What runs beside this program has others: of each
+    part of the range one program has a socket until it ends, whose name says which."""
 
     PART = 40
 

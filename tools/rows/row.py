@@ -65,8 +65,8 @@ FILES = ("file", "folder", "pipe", "link", "symlink", "mode", "cut", "poke", "re
 SHARES = ("clock", "later", "pause", "pauses", "stall", "stalled", "release", "fails", "peers",
           "crowded")
 
-# The users of programs that may have a few threads alone: each program has one of its own, since the
-# system counts a user's.
+# The users of programs that may have a few threads alone: each program has one of its own, since
+# the system counts a user's.
 USERS = Numbers("users", 61_000, 64_000)
 
 
