@@ -66,23 +66,56 @@ def cut_to(text, most=200):
 # ---- ports
 
 
-class Ports:
-    """Ports of this machine that nobody has, each given out once."""
+class Numbers:
+    """Numbers of a range, each given out once. What runs beside this program has others: of each
+    part of the range one program has a socket until it ends, whose name says which."""
+
+    PART = 40
+
+    def __init__(self, what, first, end):
+        self.what, self.lock, self.left, self.held = what, threading.Lock(), range(0), []
+        count = (end - first) // self.PART
+        # Runs that follow each other begin at other places.
+        self.parts = [first + self.PART * ((os.getpid() * 3 + it) % count) for it in range(count)]
+
+    def has(self, part):
+        """Whether this program has this part from here on."""
+        self.held.append(socket.socket(socket.AF_UNIX))
+        try:
+            self.held[-1].bind(f"\0cnrelay {self.what} {part}")
+            return True
+        except OSError:
+            self.held.pop().close()
+            return False
+
+    def row(self, count=1):
+        """So many in a row."""
+        with self.lock:
+            while len(self.left) < count:
+                if not self.parts:
+                    raise Wrong(f"no {self.what} of this machine are free")
+                part = self.parts.pop(0)
+                self.left = range(part, part + self.PART) if self.has(part) else range(0)
+            row, self.left = self.left[:count], self.left[count:]
+            return row
+
+
+class Ports(Numbers):
+    """Ports of this machine that nobody has."""
 
     def __init__(self):
-        self.lock = threading.Lock()
-        self.next = 22_000 + os.getpid() * 97 % 8_000
+        super().__init__("ports", 22_000, 30_000)
 
-    def free(self):
-        with self.lock:
-            for _ in range(8_000):
-                self.next = self.next + 1 if self.next < 29_999 else 22_000
-                try:
-                    socket.create_server(("0.0.0.0", self.next)).close()
-                    return self.next
-                except OSError:
-                    pass
-        raise Wrong("no port of this machine is free")
+    def free(self, count=1):
+        """The first of so many in a row."""
+        while True:
+            row = self.row(count)
+            try:
+                for port in row:
+                    socket.create_server(("0.0.0.0", port)).close()
+                return row[0]
+            except OSError:
+                pass
 
 
 def listening():

@@ -1,6 +1,5 @@
 """A row that is played: what its lines do."""
 
-import itertools
 import os
 import re
 import resource
@@ -12,7 +11,8 @@ import time
 from collections import Counter, namedtuple
 from pathlib import Path
 
-from peers import GREETING, NOBODY, TEXTS, Client, Started, Taken, Wrong, cut_to, listening
+from peers import (GREETING, NOBODY, TEXTS, Client, Numbers, Started, Taken, Wrong, cut_to,
+                   listening)
 from plays import PLAYS
 from shared import Shared
 
@@ -65,9 +65,9 @@ FILES = ("file", "folder", "pipe", "link", "symlink", "mode", "cut", "poke", "re
 SHARES = ("clock", "later", "pause", "pauses", "stall", "stalled", "release", "fails", "peers",
           "crowded")
 
-# The users of programs that may have a few threads alone: each program has one of its own, since the
-# system counts a user's.
-USERS = itertools.count(61_000 + os.getpid() % 3_000)
+# The users of programs that may have a few threads alone: each program has one of its own, since
+# the system counts a user's.
+USERS = Numbers("users", 61_000, 64_000)
 
 
 class Row:
@@ -542,7 +542,7 @@ class Row:
         elif line == "nobody":
             self.user = NOBODY if os.geteuid() == 0 else None
         elif name == "threads" and os.geteuid() == 0:
-            self.user, self.threads = next(USERS), int(rest)
+            self.user, self.threads = USERS.row()[0], int(rest)
         elif name == "limit":
             self.limit = int(rest)
         elif name == "closed":
