@@ -1,0 +1,9 @@
+mod Appends
+mod Beginnings
+mod Checked
+mod Cuts
+mod Entries
+mod Fields
+mod Sums
+mod Texts
+mod Tokens
