@@ -2,7 +2,7 @@
 use Rattle.std.proofs.Common.{◌≡◌, ℕ, ◌+◌, ◌^◌, ◌<◌, Bool, true, cond, eqb}
 use Rattle.std.proofs.Common.{List, [], ◌∷◌, ◌++◌, length, take, Option, Some, None, ◌≢◌}
 use Rattle.std.proofs.Common.{refl, sym, ap, subst, ◌∙◌, append_assoc, arith}
-use Rattle.std.proofs.lemmas.Bool.{eqb-true, eq-eqb, neq-eqb}
+use Rattle.std.proofs.lemmas.Bool.{eqb-true, eq-eqb, ne_eqb}
 use Rattle.std.proofs.lemmas.List.{take_at, length-append}
 use Rattle.std.specs.Int.{w16, w32, to_be_bytes}
 use Rattle.relay_log.specs.Check.{check}
@@ -102,7 +102,7 @@ other_check said rest sum small fits differs =
     (λ x. said_of x.0 >>= λ e. Some (e, x.1))
     (checked_is said rest sum small fits
     ∙ ap (λ (b : Bool). cond b (Some (said, rest)) None)
-    (neq-eqb sum (check (counted_octets said)) differs))
+    (ne_eqb sum (check (counted_octets said)) differs))
 
 -- an entry that is read is written so
 pub entry_takes : (bytes : List ℕ) (x : Entry × List ℕ) → IsBytes bytes

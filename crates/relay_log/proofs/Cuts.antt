@@ -35,7 +35,9 @@ cut_entries n [] is =
       ends = zeros_begin_none 0;
       are = tt;
     }
-cut_entries n (entry ∷ entries) is = chosen (leb (length octets) n) refl
+cut_entries n (entry ∷ entries) is =
+    chosen (cut_entries (n - length (entry_octets entry)) entries is.1)
+    (leb (length (entry_octets entry)) n) refl
   where
     octets : List ℕ
     octets = entry_octets entry
@@ -43,12 +45,14 @@ cut_entries n (entry ∷ entries) is = chosen (leb (length octets) n) refl
     others : List ℕ
     others = flat_map entry_octets entries
 
-    chosen : (b : Bool) → leb (length octets) n ≡ b → IsCut (take n (octets ++ others))
-        (cond b (entry ∷ whole_within (n - length octets) entries) [])
-    chosen true whole =
+    within : List Entry
+    within = whole_within (n - length octets) entries
+
+    chosen : IsCut (take (n - length octets) others) within → (b : Bool)
+        → leb (length octets) n ≡ b → IsCut (take n (octets ++ others)) (cond b (entry ∷ within) [])
+    chosen later true whole =
         let le : length octets ≤ n = leb-true (length octets) n whole in
-        let later = cut_entries (n - length octets) entries is.1 in
-        let kept = flat_map entry_octets (whole_within (n - length octets) entries) in
+        let kept = flat_map entry_octets within in
         record {
           torn = later.torn;
           parts = take_past octets others n le ∙ ap (λ (o : List ℕ). octets ++ o) later.parts
@@ -56,7 +60,7 @@ cut_entries n (entry ∷ entries) is = chosen (leb (length octets) n) refl
           ends = later.ends;
           are = (is.0, later.are);
         }
-    chosen false torn =
+    chosen later false torn =
         record {
           torn = take n (octets ++ others);
           parts = refl;
