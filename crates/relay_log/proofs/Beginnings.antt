@@ -56,11 +56,19 @@ one_list : (ones others : List Entry) (rest more : List ℕ) → AllByRecursion 
     → flat_map entry_octets ones ++ rest ≡ flat_map entry_octets others ++ more → ones ≡ others
 one_list [] [] rest more is was ends stops same = refl
 one_list [] (other ∷ others) rest more is was ends stops same =
-    absurd (ends (other, flat_map entry_octets others ++ more, was.0,
-    same ∙ append_assoc (entry_octets other) (flat_map entry_octets others) more))
+    absurd (ends (
+      other,
+      flat_map entry_octets others ++ more,
+      was.0,
+      same ∙ append_assoc (entry_octets other) (flat_map entry_octets others) more,
+    ))
 one_list (one ∷ ones) [] rest more is was ends stops same =
-    absurd (stops (one, flat_map entry_octets ones ++ rest, is.0,
-    sym same ∙ append_assoc (entry_octets one) (flat_map entry_octets ones) rest))
+    absurd (stops (
+      one,
+      flat_map entry_octets ones ++ rest,
+      is.0,
+      sym same ∙ append_assoc (entry_octets one) (flat_map entry_octets ones) rest,
+    ))
 one_list (one ∷ ones) (other ∷ others) rest more is was ends stops same =
     let first = one_entry one other (flat_map entry_octets ones ++ rest)
     (flat_map entry_octets others ++ more) is.0 was.0
@@ -125,9 +133,10 @@ pub written_alone : (text : List ℕ) (stop : ℕ) (entries : List Entry) (tail 
 written_alone text stop entries tail journal parts small is ends =
     let there : IsLongest text (written stop entries) =
     subst (λ (t : List ℕ). IsLongest t (written stop entries)) (sym parts)
-    (written_is stop entries tail small is ends) in
-    (λ longest. one_longest text journal (written stop entries) longest there,
-    λ same. subst (λ (j : Journal). IsLongest text j) (sym same) there)
+    (written_is stop entries tail small is ends) in (
+      λ longest. one_longest text journal (written stop entries) longest there,
+      λ same. subst (λ (j : Journal). IsLongest text j) (sym same) there,
+    )
 
 -- the third octet of an entry isn't 0
 kind_is : (entry : Entry) (rest : List ℕ) → 0 < get_or (entry_octets entry ++ rest) 2 0

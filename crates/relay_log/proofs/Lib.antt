@@ -3,6 +3,7 @@ mod Beginnings
 mod Checked
 mod Cuts
 mod Entries
+mod Existence
 mod Fields
 mod Sums
 mod Texts

@@ -1,5 +1,5 @@
 -- Sums of octets, and checks.
-use Rattle.std.proofs.Common.{◌≡◌, ◌∙◌, ℕ, zero, suc, ◌+◌, ◌*◌, ◌%◌, ◌^◌, ◌<◌, List, [], ◌∷◌, ◌++◌}
+use Rattle.std.proofs.Common.{◌≡◌, ◌≢◌, ◌∙◌, ℕ, zero, suc, ◌+◌, ◌*◌, ◌%◌, ◌^◌, ◌<◌, List, [], ◌∷◌, ◌++◌}
 use Rattle.std.proofs.Common.{length, get_or, take, refl, ap, arith}
 use Rattle.std.specs.Prelude.{bit_xor, fold}
 use Rattle.std.proofs.lemmas.List.Sums.{fold-append, fold_more}
@@ -32,6 +32,15 @@ check_fits octets = fits (sum_on 2166136261 octets) (sum_fits 2166136261 octets 
     fits : (sum : ℕ) → sum < 2 ^ 32 → not_zero sum < 2 ^ 32
     fits zero small = omega arith
     fits (suc sum) small = small
+
+-- no check is 0
+pub check_is_not_zero : (octets : List ℕ) → 0 ≢ check octets
+unfolding check
+check_is_not_zero octets = differs (sum_on 2166136261 octets)
+  where
+    differs : (sum : ℕ) → 0 ≢ not_zero sum
+    differs zero = λ same. absurd (omega (arith, same))
+    differs (suc sum) = λ same. absurd (omega (arith, same))
 
 -- the check of three texts behind one another
 pub check_of_three : (one two three : List ℕ)

@@ -15,6 +15,11 @@ pub fn one_is_longest()
         → one ≡ other }
 {}
 
+/// A text that has a front has one, so nothing is said of it in vain.
+pub fn one_is_there(text: &[u8])
+    ensures { HasFront text.now → (journal : Journal) × IsLongest text.now journal }
+{}
+
 /// What was written is read as just these entries, whole.
 pub fn read_is_written()
     ensures { (stop : ℕ) (entries : List Entry) (journal : Journal) → stop < 2 ^ 64
@@ -50,6 +55,12 @@ pub fn other_check_ends_it()
     ensures { (said rest : List ℕ) (sum : ℕ) → length said < 2 ^ 16 → sum < 2 ^ 32
         → sum ≢ check (counted_octets said)
         → ¬ BeginsWithEntry (counted_octets said ++ to_be_bytes w32 sum ++ rest) }
+{}
+
+/// So are octets behind their number of which the check was not written.
+pub fn unwritten_check_ends_it()
+    ensures { (said rest : List ℕ) → length said < 2 ^ 16
+        → ¬ BeginsWithEntry (counted_octets said ++ zeros 4 ++ rest) }
 {}
 
 /// Up to where it was read a text is one that was written: what is appended there goes on.

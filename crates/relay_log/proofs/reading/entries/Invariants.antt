@@ -10,7 +10,7 @@ abbrev pub invariant-loop-all : goal.invariant-loop-all
 invariant-loop-all l = record {
   octets : l.bytes ≡ flat_map entry_octets (map entry_view l.all.items) ++ l.rest;
   entries : AllByRecursion IsEntry (map entry_view l.all.items);
-  are_octets : IsBytes l.rest
+  are_octets : IsBytes l.rest;
 }
 
 -- fewer octets are left
