@@ -1,22 +1,19 @@
 -- A text has one longest beginning that is a journal.
-use Rattle.std.proofs.Common.{◌≡◌, ℕ, zero, suc, ◌+◌, ◌-◌, ◌^◌, ◌<◌, ◌≤◌, Bool, true, false, cond}
-use Rattle.std.proofs.Common.{leb, List, [], ◌∷◌, ◌++◌, length, take, drop, get_or, replicate}
-use Rattle.std.proofs.Common.{Option, Some, None, refl, sym, ap, subst, ◌∙◌, append_assoc, arith}
-use Rattle.std.proofs.Common.{inl, inr}
+use Rattle.std.proofs.Common.{◌≡◌, ℕ, zero, suc, ◌^◌, ◌<◌}
+use Rattle.std.proofs.Common.{List, [], ◌∷◌, ◌++◌, length, take, drop, get_or}
+use Rattle.std.proofs.Common.{Some, None, refl, sym, ap, subst, ◌∙◌, append_assoc, arith}
 use Rattle.std.specs.Prelude.{◌↔◌}
-use Rattle.std.proofs.lemmas.Bool.{cases_lt, cases_Bool, leb-true}
-use Rattle.std.proofs.lemmas.List.{append-nil, drop_at, drop_all, length-append, take-append-drop}
-use Rattle.std.proofs.lemmas.List.{length-take, get_or-replicate, get_or_past}
-use Rattle.std.proofs.lemmas.Option.{none-some}
-use Rattle.std.specs.Int.{w64, to_be_bytes}
+use Rattle.std.proofs.lemmas.List.{drop_at, length-append, take-append-drop}
+use Rattle.std.proofs.lemmas.List.{length-take}
+use Rattle.std.specs.Int.{w64}
 use Rattle.std.specs.List.{AllByRecursion, flat_map}
-use Rattle.relay_log.specs.Beginning.{IsLongest, written, whole_within, zeros}
+use Rattle.relay_log.specs.Beginning.{IsLongest, written, zeros}
 use Rattle.relay_log.specs.Journal.{Entry, Refused, Stored, Taken, Journal, IsEntry}
-use Rattle.relay_log.specs.Journal.{BeginsWithEntry, HasFront, entry_octets, front_octets}
+use Rattle.relay_log.specs.Journal.{BeginsWithEntry, entry_octets, front_octets}
 use Rattle.relay_log.specs.Journal.{journal_octets}
-use Rattle.relay_log.specs.Reading.{◌>>=◌, number_at, marked_at, entry_at, front_at}
+use Rattle.relay_log.specs.Reading.{entry_at, front_at}
 use Rattle.relay_log.proofs.Checked.{entry_again}
-use Rattle.relay_log.proofs.Fields.{bind_is, some_is, wide64, number_again}
+use Rattle.relay_log.proofs.Fields.{some_is, wide64, number_again}
 
 -- no value is a value
 pub none_is_some : {A : Type 0} (x : A) → None ≡ Some x → ⊥

@@ -1,24 +1,21 @@
 -- Entries that are read are those that were written, and entries that were written are read again.
-use Rattle.std.proofs.Common.{◌≡◌, ◌≢◌, ℕ, zero, suc, ◌+◌, ◌^◌, ◌<◌, ◌≤◌, Bool, true, false, cond}
-use Rattle.std.proofs.Common.{eqb, leb, List, [], ◌∷◌, ◌++◌, length, take, Option, Some, None}
-use Rattle.std.proofs.Common.{refl, sym, ap, subst, ◌∙◌, append_assoc, arith}
-use Rattle.std.proofs.lemmas.Bool.{eqb-true, eq-eqb, leb-true, le-leb}
-use Rattle.std.proofs.lemmas.List.{append-nil, nil_from_length, take_at, length-append}
-use Rattle.std.specs.Int.{w16, w32, w64, to_be_bytes}
-use Rattle.news_terms.specs.MessageId.{IdFault, id_fault, IsMessageId}
+use Rattle.std.proofs.Common.{◌≡◌, ℕ, zero, suc, ◌^◌, ◌<◌, ◌≤◌, cond}
+use Rattle.std.proofs.Common.{eqb, leb, List, [], ◌∷◌, ◌++◌, length, Option, Some, None}
+use Rattle.std.proofs.Common.{refl, sym, ap, subst, ◌∙◌, arith}
+use Rattle.std.proofs.lemmas.Bool.{eqb-true, leb-true, le-leb}
+use Rattle.std.proofs.lemmas.List.{append-nil, nil_from_length}
+use Rattle.std.specs.Int.{w16, w64, to_be_bytes}
+use Rattle.news_terms.specs.MessageId.{IdFault, id_fault}
 use Rattle.news_terms.specs.Token.{Token, IsToken, token_octets}
 use Rattle.news_terms.proofs.IdFaults.{id_fault-none}
 use Rattle.relay_model.specs.Terms.{last_moment}
-use Rattle.relay_log.specs.Check.{check}
 use Rattle.relay_log.specs.Journal.{Entry, Refused, Stored, Taken, IsEntry, IsDated, IsCounted}
-use Rattle.relay_log.specs.Journal.{said_octets, counted_octets, checked_octets, entry_octets}
-use Rattle.relay_log.specs.Reading.{◌>>=◌, number_at, text_at, moment_at, token_at, without_fault}
-use Rattle.relay_log.specs.Reading.{id_of, refused_of, stored_of, taken_of, said_of, checked_at}
-use Rattle.relay_log.specs.Reading.{entry_at}
-use Rattle.relay_log.proofs.Fields.{IsBytes, IsBytes-take, IsBytes-rest, bind_some, bind_is}
-use Rattle.relay_log.proofs.Fields.{guard_some, held_some, some_is, Takes, Takes-then, wide16, wide32}
-use Rattle.relay_log.proofs.Fields.{wide64, number_takes, number_again, text_takes, text_again}
-use Rattle.relay_log.proofs.Sums.{check_fits}
+use Rattle.relay_log.specs.Journal.{said_octets}
+use Rattle.relay_log.specs.Reading.{◌>>=◌, number_at, moment_at, token_at, without_fault}
+use Rattle.relay_log.specs.Reading.{id_of, refused_of, stored_of, taken_of, said_of}
+use Rattle.relay_log.proofs.Fields.{IsBytes, IsBytes-rest, bind_some, bind_is}
+use Rattle.relay_log.proofs.Fields.{held_some, some_is, Takes, wide16}
+use Rattle.relay_log.proofs.Fields.{wide64, number_takes, number_again}
 use Rattle.relay_log.proofs.Tokens.{token_takes, token_again}
 
 -- a moment

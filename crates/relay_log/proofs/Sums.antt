@@ -1,7 +1,7 @@
 -- Sums of octets, and checks.
 use Rattle.std.proofs.Common.{◌≡◌, ◌≢◌, ◌∙◌, ℕ, zero, suc, ◌+◌, ◌*◌, ◌%◌, ◌^◌, ◌<◌, List, [], ◌∷◌, ◌++◌}
-use Rattle.std.proofs.Common.{length, get_or, take, refl, ap, arith}
-use Rattle.std.specs.Prelude.{bit_xor, fold}
+use Rattle.std.proofs.Common.{length, get_or, take, ap, arith}
+use Rattle.std.specs.Prelude.{bit_xor}
 use Rattle.std.proofs.lemmas.List.Sums.{fold-append, fold_more}
 use Rattle.relay_log.specs.Check.{sum_step, sum_on, not_zero, check}
 

@@ -1,6 +1,6 @@
 -- What is read of a text, piece by piece, is its longest beginning.
-use Rattle.std.proofs.Common.{◌≡◌, ℕ, ◌+◌, ◌-◌, ◌^◌, ◌<◌, ◌≤◌, List, [], ◌∷◌, ◌++◌, length, take, drop}
-use Rattle.std.proofs.Common.{Option, Some, None, refl, sym, ap, subst, ◌∙◌, append_assoc, arith}
+use Rattle.std.proofs.Common.{◌≡◌, ℕ, ◌-◌, ◌^◌, ◌<◌, ◌≤◌, List, [], ◌∷◌, ◌++◌, length, take, drop}
+use Rattle.std.proofs.Common.{Some, None, sym, ap, subst, ◌∙◌, append_assoc, arith}
 use Rattle.std.proofs.lemmas.List.{append-nil, length-append, take-append-drop}
 use Rattle.std.proofs.lemmas.List.Concat.{flat_map-append}
 use Rattle.std.proofs.lemmas.Slice.Eq.{bytes_eq-Decides}
@@ -8,9 +8,9 @@ use Rattle.std.specs.Int.{w64, to_be_bytes}
 use Rattle.std.specs.List.{AllByRecursion, flat_map}
 use Rattle.std.specs.Str.{bytes_eq}
 use Rattle.relay_log.specs.Beginning.{IsLongest, written}
-use Rattle.relay_log.specs.Journal.{Entry, Journal, IsEntry, BeginsWithEntry, HasFront, mark}
+use Rattle.relay_log.specs.Journal.{Entry, IsEntry, BeginsWithEntry, HasFront, mark}
 use Rattle.relay_log.specs.Journal.{entry_octets, front_octets, journal_octets}
-use Rattle.relay_log.specs.Reading.{◌>>=◌, number_at, marked_at, front_at}
+use Rattle.relay_log.specs.Reading.{marked_at, front_at}
 use Rattle.relay_log.proofs.Beginnings.{front_again, none_is_some, written_is}
 use Rattle.relay_log.proofs.Fields.{IsBytes, IsBytes-drop, bind_some, held_some, Takes, Takes-then}
 use Rattle.relay_log.proofs.Fields.{wide64, number_takes}

@@ -1,13 +1,13 @@
 -- Tokens that are read are those that were written.
-use Rattle.std.proofs.Common.{◌≡◌, ℕ, zero, suc, ◌^◌, ◌<◌, List, [], ◌∷◌, ◌++◌, length}
+use Rattle.std.proofs.Common.{◌≡◌, ℕ, ◌^◌, ◌<◌, List, [], ◌∷◌, ◌++◌, length}
 use Rattle.std.proofs.Common.{Option, Some, None, refl, sym, ap, subst, ◌∙◌, append_assoc}
 use Rattle.std.proofs.Common.{arith, take, drop}
 use Rattle.std.proofs.lemmas.List.{length-append, take-append-drop}
-use Rattle.std.specs.Int.{w32, w64, to_be_bytes}
+use Rattle.std.specs.Int.{w32, to_be_bytes}
 use Rattle.news_terms.specs.Token.{Token, IsToken, token_octets}
 use Rattle.relay_log.specs.Reading.{octet_at, number_at, token_at}
-use Rattle.relay_log.proofs.Fields.{IsBytes, IsBytes-rest, bind_some, some_is, Takes, Takes-then}
-use Rattle.relay_log.proofs.Fields.{octet_takes, wide32, wide64, number_takes, number_again}
+use Rattle.relay_log.proofs.Fields.{IsBytes, bind_some, some_is, Takes, Takes-then}
+use Rattle.relay_log.proofs.Fields.{octet_takes, wide32, number_takes, number_again}
 
 -- a token of these parts
 abbrev of_parts : ℕ → ℕ → ℕ → ℕ → ℕ → Token

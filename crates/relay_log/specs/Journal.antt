@@ -1,7 +1,7 @@
 -- A relay's journal and its octets, relay.log (docs/FORMATS.md, Journal file).
 use Rattle.std.specs.Prelude.{◌≡◌, ℕ, ◌≤◌, ◌<◌, ◌^◌, List, [], ◌∷◌, ◌++◌, length, None}
 use Rattle.std.specs.Int.{to_be_bytes, w16, w32, w64}
-use Rattle.std.specs.List.{AllByRecursion, flat_map}
+use Rattle.std.specs.List.{flat_map}
 use Rattle.news_terms.specs.MessageId.{id_fault}
 use Rattle.news_terms.specs.Token.{Token, IsToken, token_octets}
 use Rattle.relay_model.specs.Terms.{last_moment}

@@ -1,8 +1,6 @@
-use Rattle.std.proofs.Common.{◌≡◌, ◌++◌, ◌∷◌, [], ◌∙◌, sym, ap, map, Some, None, List}
+use Rattle.std.proofs.Common.{◌≡◌, ◌++◌, ◌∷◌, [], sym, map}
 use Rattle.std.proofs.lemmas.List.{map_push}
-use Rattle.std.specs.List.{AllByRecursion}
 use Rattle.relay_log.specs.Journal.{IsEntry}
-use Rattle.relay_log.specs.Reading.{entry_at}
 use Rattle.relay_log.specs.Views.{entry_view}
 use Rattle.relay_log.proofs.Beginnings.{none_begins}
 use Rattle.relay_log.proofs.Checked.{entry_takes, entry_shorter}

@@ -1,5 +1,4 @@
-use Rattle.std.proofs.Common.{◌≡◌, ◌∙◌, sym, arith, map, Some}
-use Rattle.relay_log.specs.Reading.{front_at}
+use Rattle.std.proofs.Common.{arith, map}
 use Rattle.relay_log.specs.Views.{entry_view}
 use Rattle.relay_log.proofs.Texts.{front_takes, none_front, both_parts, rest_is_shorter, read_is}
 use Rattle.relay_log.proofs.reading.read.Goals as goal

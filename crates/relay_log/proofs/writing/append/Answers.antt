@@ -1,6 +1,6 @@
 use Rattle.std.proofs.Common.{◌≡◌, ◌∙◌, sym, ap, ◌+◌, ◌++◌, ◌∷◌, [], length, List, ℕ, arith, refl}
 use Rattle.std.proofs.lemmas.Result.{on_ok_weaker}
-use Rattle.std.specs.Int.{to_be_bytes, w16, w64}
+use Rattle.std.specs.Int.{to_be_bytes, w64}
 use Rattle.cyc_token.specs.Token.{token_view}
 use Rattle.relay_log.specs.Journal.{Entry, Refused, Stored, Taken, entry_octets, said_octets}
 use Rattle.relay_log.specs.Views.{entry_view}
