@@ -22,8 +22,8 @@ none_is_some x e = absurd cc
 -- where no entry is read none begins
 pub none_begins : (octets : List ℕ) → entry_at octets ≡ None → ¬ BeginsWithEntry octets
 none_begins octets none = λ begins.
-    none_is_some (begins.0, begins.1)
-    (sym none ∙ ap entry_at begins.3 ∙ entry_again begins.0 begins.1 begins.2)
+    none_is_some (begins.entry, begins.rest)
+    (sym none ∙ ap entry_at begins.parts ∙ entry_again begins.entry begins.rest begins.is)
 
 -- octets begin with one entry
 pub one_entry : (one other : Entry) (rest more : List ℕ) → IsEntry one → IsEntry other
@@ -47,25 +47,25 @@ one_front one other rest more small low same =
     (sym (front_again one rest small) ∙ ap front_at same ∙ front_again other more low) in
     (ap (λ (x : ℕ × List ℕ). x.0) pair, ap (λ (x : ℕ × List ℕ). x.1) pair)
 
--- octets are of one list of entries, as long as it can be
+-- octets begin with one list of entries, where none begins behind it
 one_list : (ones others : List Entry) (rest more : List ℕ) → AllByRecursion IsEntry ones
     → AllByRecursion IsEntry others → ¬ BeginsWithEntry rest → ¬ BeginsWithEntry more
     → flat_map entry_octets ones ++ rest ≡ flat_map entry_octets others ++ more → ones ≡ others
 one_list [] [] rest more is was ends stops same = refl
 one_list [] (other ∷ others) rest more is was ends stops same =
-    absurd (ends (
-      other,
-      flat_map entry_octets others ++ more,
-      was.0,
-      same ∙ append_assoc (entry_octets other) (flat_map entry_octets others) more,
-    ))
+    absurd (ends (record {
+      entry = other;
+      rest = flat_map entry_octets others ++ more;
+      is = was.0;
+      parts = same ∙ append_assoc (entry_octets other) (flat_map entry_octets others) more;
+    }))
 one_list (one ∷ ones) [] rest more is was ends stops same =
-    absurd (stops (
-      one,
-      flat_map entry_octets ones ++ rest,
-      is.0,
-      sym same ∙ append_assoc (entry_octets one) (flat_map entry_octets ones) rest,
-    ))
+    absurd (stops (record {
+      entry = one;
+      rest = flat_map entry_octets ones ++ rest;
+      is = is.0;
+      parts = sym same ∙ append_assoc (entry_octets one) (flat_map entry_octets ones) rest;
+    }))
 one_list (one ∷ ones) (other ∷ others) rest more is was ends stops same =
     let first = one_entry one other (flat_map entry_octets ones ++ rest)
     (flat_map entry_octets others ++ more) is.0 was.0
@@ -150,26 +150,26 @@ zero_at (suc n) (suc i) = zero_at n i
 -- no entry begins with zeros
 pub zeros_begin_none : (n : ℕ) → ¬ BeginsWithEntry (zeros n)
 zeros_begin_none n = λ begins.
-    let kind : zero ≡ get_or (entry_octets begins.0 ++ begins.1) 2 0 =
-    sym (zero_at n 2) ∙ ap (λ (o : List ℕ). get_or o 2 0) begins.3 in
-    absurd (omega (arith, kind, kind_is begins.0 begins.1))
+    let kind : zero ≡ get_or (entry_octets begins.entry ++ begins.rest) 2 0 =
+    sym (zero_at n 2) ∙ ap (λ (o : List ℕ). get_or o 2 0) begins.parts in
+    absurd (omega (arith, kind, kind_is begins.entry begins.rest))
 
 -- an entry that is cut begins none
 pub torn_begins_none : (entry : Entry) (rest : List ℕ) (n : ℕ) → IsEntry entry
     → n < length (entry_octets entry) → ¬ BeginsWithEntry (take n (entry_octets entry ++ rest))
 torn_begins_none entry rest n is short = λ begins.
     let all = entry_octets entry ++ rest in
-    let other = begins.0 in
+    let other = begins.entry in
     let parts : entry_octets entry ++ rest
-    ≡ entry_octets other ++ (begins.1 ++ drop n all) =
-    sym (take-append-drop n all) ∙ ap (λ (o : List ℕ). o ++ drop n all) begins.3
-    ∙ append_assoc (entry_octets other) begins.1 (drop n all) in
-    let same = one_entry entry other rest (begins.1 ++ drop n all) is begins.2 parts in
+    ≡ entry_octets other ++ (begins.rest ++ drop n all) =
+    sym (take-append-drop n all) ∙ ap (λ (o : List ℕ). o ++ drop n all) begins.parts
+    ∙ append_assoc (entry_octets other) begins.rest (drop n all) in
+    let same = one_entry entry other rest (begins.rest ++ drop n all) is begins.is parts in
     absurd (omega (
       arith,
       short,
       ap (λ (e : Entry). length (entry_octets e)) same.0,
-      ap (λ (o : List ℕ). length o) begins.3,
-      length-append (entry_octets other) begins.1,
+      ap (λ (o : List ℕ). length o) begins.parts,
+      length-append (entry_octets other) begins.rest,
       length-take n all,
     ))

@@ -10,7 +10,8 @@ use Rattle.relay_log.specs.Journal.{Entry, IsEntry, said_octets, counted_octets,
 use Rattle.relay_log.specs.Journal.{entry_octets}
 use Rattle.relay_log.specs.Reading.{◌>>=◌, number_at, text_at, said_of, checked_at, entry_at}
 use Rattle.relay_log.proofs.Entries.{said_takes, said_again, said_fits}
-use Rattle.relay_log.proofs.Fields.{IsBytes, IsBytes-take, bind_some, bind_is, bind_is_none, guard_some, held_some}
+use Rattle.relay_log.proofs.Fields.{IsBytes, IsBytes-take, bind_some, bind_is, bind_is_none}
+use Rattle.relay_log.proofs.Fields.{guard_some, held_some}
 use Rattle.relay_log.proofs.Fields.{some_is, Takes, Takes-then, wide16, wide32, number_takes}
 use Rattle.relay_log.proofs.Fields.{number_again, text_takes, text_again}
 use Rattle.relay_log.proofs.Sums.{check_fits}

@@ -90,6 +90,6 @@ short_front text short = λ front.
     absurd (omega (
       arith,
       short,
-      ap (λ (o : List ℕ). length o) front.3,
-      length-append (front_octets front.0) front.1,
+      ap (λ (o : List ℕ). length o) front.parts,
+      length-append (front_octets front.stop) front.rest,
     ))

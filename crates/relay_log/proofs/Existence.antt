@@ -62,10 +62,10 @@ are_entries (suc most) octets fits few =
 pub one_is_there : (text : List ℕ) → IsBytes text → HasFront text
     → (journal : Journal) × IsLongest text journal
 one_is_there text fits front =
-    let stop = front.0 in
-    let read : front_at text ≡ Some (stop, front.1) =
-    ap front_at front.3 ∙ front_again stop front.1 front.2 in
-    let takes = front_takes text (stop, front.1) fits read in
-    let behind = are_entries (length front.1) front.1 takes.0.rest_fits (omega arith) in
-    let parts = both_parts text front.1 behind.rest stop behind.entries front.3 behind.parts in
-    (_, read_is text behind.rest stop behind.entries parts front.2 behind.are behind.ends)
+    let stop = front.stop in
+    let read : front_at text ≡ Some (stop, front.rest) =
+    ap front_at front.parts ∙ front_again stop front.rest front.fits in
+    let takes = front_takes text (stop, front.rest) fits read in
+    let behind = are_entries (length front.rest) front.rest takes.0.rest_fits (omega arith) in
+    let parts = both_parts text front.rest behind.rest stop behind.entries front.parts behind.parts in
+    (_, read_is text behind.rest stop behind.entries parts front.fits behind.are behind.ends)

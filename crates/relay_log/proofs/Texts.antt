@@ -39,8 +39,8 @@ front_takes text x fits e =
 -- where no front is read there is none
 pub none_front : (text : List ℕ) → front_at text ≡ None → ¬ HasFront text
 none_front text none = λ front.
-    none_is_some (front.0, front.1)
-    (sym none ∙ ap front_at front.3 ∙ front_again front.0 front.1 front.2)
+    none_is_some (front.stop, front.rest)
+    (sym none ∙ ap front_at front.parts ∙ front_again front.stop front.rest front.fits)
 
 -- one more that holds
 pub holds_push : {X : Type 0} (F : X → Type 0) (xs : List X) (x : X) → AllByRecursion F xs → F x

@@ -83,11 +83,15 @@ HasMoment (Stored id moment token) = moment ≤ last_moment
 HasMoment (Taken feed gained passed taken) = Unit {0}
 
 -- octets begin with an entry
-abbrev pub BeginsWithEntry : List ℕ → Type 0
-BeginsWithEntry octets =
-    (entry : Entry) × (rest : List ℕ) × IsEntry entry × (octets ≡ entry_octets entry ++ rest)
+pub record BeginsWithEntry (octets : List ℕ) : Type 0 where
+  pub entry : Entry
+  pub rest : List ℕ
+  pub is : IsEntry entry
+  pub parts : octets ≡ entry_octets entry ++ rest
 
--- octets begin as a journal
-abbrev pub HasFront : List ℕ → Type 0
-HasFront text =
-    (stop : ℕ) × (rest : List ℕ) × (stop < 2 ^ 64) × (text ≡ front_octets stop ++ rest)
+-- a text begins as a journal
+pub record HasFront (text : List ℕ) : Type 0 where
+  pub stop : ℕ
+  pub rest : List ℕ
+  pub fits : stop < 2 ^ 64
+  pub parts : text ≡ front_octets stop ++ rest

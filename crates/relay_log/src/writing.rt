@@ -29,7 +29,8 @@ pub fn append(out: &mut Vec<u8>, entry: &Entry) -> Result<(), AllocError>
     ensures unchanged { OnErr result (out.new.items ≡ out.old.items) }
 
     // It can be read again, unless its moment is none that there is.
-    ensures entry { OnOk result (HasMoment (entry_view entry.now) → IsEntry (entry_view entry.now)) }
+    ensures entry { OnOk result
+        (HasMoment (entry_view entry.now) → IsEntry (entry_view entry.now)) }
 {
     match entry {
         Entry::Refused { id, moment } => {
