@@ -13,6 +13,15 @@ use std::alloc::{AllocError, Global};
 /// The most octets of an entry: one that was stored, with a message-id of 250 octets.
 const MOST_OCTETS: usize = 279;
 
+/// The octets of a kind and a moment.
+const DATED_OCTETS: u16 = 9;
+
+/// The octets of a token.
+const TOKEN_OCTETS: u16 = 14;
+
+/// What a take begins with: that 27 octets follow, and the kind.
+const TAKEN: [u8; 3] = [0, 27, 3];
+
 /// The text of a journal without entries, which begins after this stop.
 pub fn begin(alloc: Global, stop: u64) -> Result<Vec<u8>, AllocError>
     ensures { IfOk result (λ text. text.items ≡ journal_octets stop []) }
@@ -35,12 +44,13 @@ pub fn append(out: &mut Vec<u8>, entry: &Entry) -> Result<(), AllocError>
     match entry {
         Entry::Refused { id, moment } => {
             let id = id.as_bytes();
-            put(out, &dated(9 + id.len() as u16, 1, *moment), &[], id)
+            let count = DATED_OCTETS + id.len() as u16;
+            put(out, &dated(count, 1, *moment), &[], id)
         }
         Entry::Stored { id, moment, token } => {
             let id = id.as_bytes();
-            let token = token.octets();
-            put(out, &dated(23 + id.len() as u16, 2, *moment), &token, id)
+            let count = DATED_OCTETS + TOKEN_OCTETS + id.len() as u16;
+            put(out, &dated(count, 2, *moment), &token.octets(), id)
         }
         Entry::Taken {
             feed,
@@ -53,8 +63,7 @@ pub fn append(out: &mut Vec<u8>, entry: &Entry) -> Result<(), AllocError>
                 passed.to_be_bytes(),
                 taken.to_be_bytes(),
             ];
-            let feed = feed.to_be_bytes();
-            put(out, &[0, 27, 3], &feed, counts.as_flattened())
+            put(out, &TAKEN, &feed.to_be_bytes(), counts.as_flattened())
         }
     }
 }

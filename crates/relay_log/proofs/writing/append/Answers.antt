@@ -31,12 +31,12 @@ returns-in-Stored-clause-octets c =
     let id = c.as_bytes-id-in-Stored.result.now in
     let moment = c.in-Stored.moment in
     let token = token_view c.in-Stored.token in
-    let octets = c.octets-token.result in
+    let octets = c.octets.result in
     let said = said_octets (Stored id moment token) in
     let counted = dated_counted (23 + length id) 2 moment c.dated-in-Stored.result said
     (octets ++ id)
     (ap (λ (o : List ℕ). 2 ∷ (to_be_bytes w64 moment ++ (o ++ id)))
-    (sym c.octets-token.ensures.octets))
+    (sym c.octets.ensures.octets))
     (omega arith) c.dated-in-Stored.ensures in
     let same : Stored id moment token ≡ entry_view c.args.entry.now =
     ap (λ (i : List ℕ). Stored i moment token) c.as_bytes-id-in-Stored.ensures.value
@@ -63,10 +63,10 @@ returns-in-Taken-clause-octets c =
       c.to_be_bytes-in-Taken.ensures,
       c.to_be_bytes-in-Taken-2.ensures,
     ) refl in
-    let counted = taken_counted feed gained passed taken c.to_be_bytes-feed.result
-    c.as_flattened.result.now c.to_be_bytes-feed.ensures counts in
+    let counted = taken_counted feed gained passed taken c.to_be_bytes-in-Taken-3.result
+    c.as_flattened.result.now c.to_be_bytes-in-Taken-3.ensures counts in
     on_ok_weaker c.put-in-Taken.result
-    (λ put. entry_put was c.put-in-Taken.new.out.items (0 ∷ 27 ∷ 3 ∷ []) c.to_be_bytes-feed.result
+    (λ put. entry_put was c.put-in-Taken.new.out.items (0 ∷ 27 ∷ 3 ∷ []) c.to_be_bytes-in-Taken-3.result
     c.as_flattened.result.now (Taken feed gained passed taken) counted put
     ∙ ap (λ (e : Entry). was ++ entry_octets e) (sym (ap entry_view c.in-Taken.is)))
     c.put-in-Taken.ensures.octets
