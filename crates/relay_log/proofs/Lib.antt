@@ -1,0 +1,10 @@
+mod Appends
+mod Beginnings
+mod Checked
+mod Cuts
+mod Entries
+mod Existence
+mod Fields
+mod Sums
+mod Texts
+mod Tokens
