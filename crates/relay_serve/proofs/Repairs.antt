@@ -1,6 +1,12 @@
 -- Why a relay that was left isn't repaired is why it isn't served.
 use Rattle.std.proofs.Common.{inl, inr, [], ℕ, Option, subst, sym}
+use Rattle.std.proofs.Common.{List, Result, Ok, Err}
+use Rattle.std.specs.Result.{IfOk}
 use Rattle.std.specs.IoError.{error_kind}
+use Rattle.block_shelf.specs.Each.{AreEach}
+use Rattle.block_shelf.specs.Starting.{IsUnwritten}
+use Rattle.relay_repair.proofs.FoundOver.{repairs_on}
+use Rattle.relay_serve.specs.Repairing.{IsOfRepair}
 use Rattle.block_shelf.specs.declared.starting.StopFault.{StopFault}
 use Rattle.cyc_block.specs.declared.store.BlockStore.{Ghosts}
 use Rattle.relay_conf.specs.declared.settings.Config.{Config}
@@ -50,3 +56,24 @@ pub history_serves : (config : Config) (error : ServeError) → IsHistoryFault e
 history_serves config error (inl memory) = subst (IsServeFault config) (sym memory) tt
 history_serves config error (inr (inl unread)) = subst (IsServeFault config) (sym unread) tt
 history_serves config error (inr (inr bad)) = subst (IsServeFault config) (sym bad) tt
+
+-- both facts of a value
+pub both_ok : {T E : Type 0} (r : Result T E) (P Q : T → Type 0) → IfOk r P → IfOk r Q
+    → IfOk r (λ x. P x × Q x)
+both_ok (Ok x) P Q p q = (p, q)
+both_ok (Err e) P Q p q = tt
+
+-- the history that a repair gives over stores whose heads were looked at is that of one over those
+-- before
+pub repair_on : {S : Type 0} {g : Ghosts S} {failed : Option ℕ} {old new : List S}
+    (config : Config) (text written : List ℕ) → AreEach (IsUnwritten g failed) old new
+    → IsOfRepair g config text new written → IsOfRepair g config text old written
+repair_on config text written are of = record {
+  now = of.now;
+  back = of.back;
+  repairs = (
+    of.repairs.0,
+    of.repairs.1,
+    repairs_on config of.repairs.0 of.now of.back written are of.repairs.2,
+  );
+}

@@ -107,15 +107,39 @@ where
         stores,
         history: text,
     } = left;
-    let mut stores = stores;
-    match is_unstopped(alloc, config, &mut stores, &text) {
-        Ok(false) => Ok(Stopped {
+    match looked_at(alloc, config, stores, &text) {
+        Ok((stores, false)) => Ok(Stopped {
             stores,
             history: text,
         }),
-        Ok(true) => repaired(rt, alloc, config, history, stores, text),
+        Ok((stores, true)) => repaired(rt, alloc, config, history, stores, text),
         Err(error) => {
             drop(text);
+            Err(error)
+        }
+    }
+}
+
+/// The stores, once their heads were looked at, and whether these say that the relay of this
+/// history was left without a stop.
+fn looked_at<S: Synced + Drop>(
+    alloc: Global,
+    config: &Config,
+    stores: Vec<S>,
+    text: &[u8],
+) -> Result<(Vec<S>, bool), ServeError>
+    ensures told { IfOk result (λ looked.
+        IsUnstoppedBy ⟦<S as BlockStore>⟧ config.now text.now stores.items looked.1) }
+    ensures unwritten { IfOk result (λ looked.
+        AreEach (IsUnwritten ⟦<S as BlockStore>⟧ None) stores.items looked.0.items) }
+    ensures blocks { IfOk result (λ looked. map (λ store. length (S.blocks store)) looked.0.items
+        ≡ map (λ store. length (S.blocks store)) stores.items) }
+    ensures fault { IfErr result (IsServeFault config.now) }
+{
+    let mut stores = stores;
+    match is_unstopped(alloc, config, &mut stores, text) {
+        Ok(unstopped) => Ok((stores, unstopped)),
+        Err(error) => {
             drop(stores);
             Err(error)
         }

@@ -1,0 +1,24 @@
+use Rattle.std.proofs.Common.{inr, subst}
+use Rattle.std.proofs.lemmas.Result.{IfOk-weaker}
+use Rattle.relay_serve.proofs.Repairs.{both_ok, repair_on}
+use Rattle.relay_serve.specs.Repairing.{IsUnstoppedBy}
+use Rattle.relay_serve.proofs.repairing.go_on.Goals as goal
+
+-- what is repaired was left without a stop, and what is kept is what the repair gave
+pub returns-in-Ok-default-true-clause-goes : goal.returns-in-Ok-default-true-clause-goes
+returns-in-Ok-default-true-clause-goes g c =
+    let told =
+    subst (λ unstopped. IsUnstoppedBy g.S.BlockStore c.args.config.now c.args.left.history.items
+    c.args.left.stores.items unstopped) c.in-Ok-default-true.field-0-1-test
+    (subst (λ text. IsUnstoppedBy g.S.BlockStore c.args.config.now text
+    c.args.left.stores.items c.in-Ok-default-true.field-0-1) c.deref.ensures.value
+    c.in-Ok-default-true.ensures.told) in
+    IfOk-weaker c.repaired.result _ _
+    (λ stopped both.
+    inr (
+      told,
+      repair_on c.args.config.now c.args.left.history.items stopped.history.items
+          c.in-Ok-default-true.ensures.unwritten both.0,
+      both.1,
+    ))
+    (both_ok c.repaired.result _ _ c.repaired.ensures.repaired c.repaired.ensures.kept)
