@@ -9,7 +9,8 @@ use Rattle.article_verdict.specs.Config.{terms_of}
 use Rattle.block_shelf.specs.Each.{AreEach}
 use Rattle.block_shelf.specs.Openings.{Opening}
 use Rattle.block_shelf.specs.Starting.{IsUnwritten}
-use Rattle.buffer_repair.specs.Keeping.{AreLeftOf, AreLeftOfGroups, HasLeft, KeepsLeft, LeavesRecord}
+use Rattle.buffer_repair.specs.Keeping.{AreLeftOf, AreLeftOfGroups, HasLeft, KeepsLeft}
+use Rattle.buffer_repair.specs.Keeping.{LeavesRecord}
 use Rattle.buffer_repair.specs.Keeping.{TellsBefore}
 use Rattle.buffer_repair.specs.declared.found_set.FoundBufferSet.{FoundBufferSet}
 use Rattle.cyc_block.specs.declared.store.BlockStore.{Ghosts}

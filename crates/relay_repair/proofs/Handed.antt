@@ -16,7 +16,8 @@ use Rattle.relay_core.specs.Starting.{unread_as}
 use Rattle.relay_model.specs.Crash.{Listed}
 use Rattle.relay_model.specs.Terms.{last_moment}
 use Rattle.relay_remains.specs.Heads.{MayHaveEnded}
-use Rattle.relay_repair.specs.Refusing.{HasNoMemory, IsRefused, IsRefusedAfter, IsRefusedFor, IsUnread}
+use Rattle.relay_repair.specs.Refusing.{HasNoMemory, IsRefused, IsRefusedAfter, IsRefusedFor}
+use Rattle.relay_repair.specs.Refusing.{IsUnread}
 use Rattle.relay_repair.specs.Repairing.{AreInTime}
 use Rattle.relay_repair.specs.Telling.{IsLast, IsNoHistory, IsUntold, last_lent, last_listed}
 use Rattle.relay_repair.specs.Telling.{last_stop, last_view, listed_of}

@@ -140,7 +140,8 @@ module _ {S : Type 0} {g : Ghosts S} (stop : ℕ) (stores read : List S)
     -- the store that was read at a place, as it was before
     before_at : (place : ℕ) (store : S) → slice_get read place ≡ Some store
         → ComesFrom (IsUnwritten g None) stores place store
-    before_at place store there = comes_from (IsUnwritten g None) stores read unwritten place store there
+    before_at place store there =
+        comes_from (IsUnwritten g None) stores read unwritten place store there
 
     -- the buffer of one of the stores isn't found again, by its head
     first_fault : (error : StopFault) {start : StartError} {back : List S}
@@ -158,7 +159,8 @@ module _ {S : Type 0} {g : Ghosts S} (stop : ℕ) (stores read : List S)
         }
 
     -- stores that were read come back unwritten
-    pub back_unwritten : (failed : Option ℕ) (back : List S) → AreEach (IsUnwritten g failed) read back
+    pub back_unwritten : (failed : Option ℕ) (back : List S)
+        → AreEach (IsUnwritten g failed) read back
         → AreEach (IsUnwritten g failed) stores back
     back_unwritten failed back again =
         each_over {R = IsUnwritten g failed} unwritten again
@@ -167,7 +169,8 @@ module _ {S : Type 0} {g : Ghosts S} (stop : ℕ) (stores read : List S)
     -- stores that aren't found again are refused so
     unfound_over : (error : StopFault) (buffer : Option ℕ) (back : List S)
         → IsUnfoundBy g read error buffer back → (refused : Unstarted S) → refused.error ≡ error
-        → refused.buffer ≡ buffer → refused.stores.items ≡ back → IsRefusedOver g stop stores refused
+        → refused.buffer ≡ buffer → refused.stores.items ≡ back
+        → IsRefusedOver g stop stores refused
     unfound_over faults.Memory buffer back is refused error told same =
         HasNoRoom error (told ∙ is.0)
         (subst (λ items. AreEach (IsUnwritten g None) stores items) (sym same)
@@ -185,7 +188,8 @@ module _ {S : Type 0} {g : Ghosts S} (stop : ℕ) (stores read : List S)
         IsByHead (record { place = why.place; error = faults.NoHead })
         (first_fault faults.NoHead why
         (λ old from honest b says.
-        why.reason (from.held.honest honest) b (says_on why.place old why.store b from honest says)))
+        why.reason (from.held.honest honest) b
+        (says_on why.place old why.store b from honest says)))
         error (told ∙ is.1)
         (subst (λ items. AreEach (IsUnwritten g None) stores items) (sym same)
         (back_unwritten None back why.back_each))
@@ -223,10 +227,12 @@ module _ {S : Type 0} {g : Ghosts S} (stop : ℕ) (stores read : List S)
         (says_on why.place from.item why.store ended.1.head from.belongs own ended.1.says))
     unfound_outside faults.Unclosed buffer back honest is =
         let why = is.0 in
-        why.reason (holds_at g.honest read (honest_on unwritten honest) why.place why.store why.there)
+        why.reason
+        (holds_at g.honest read (honest_on unwritten honest) why.place why.store why.there)
     unfound_outside faults.Damaged buffer back honest is =
         let why = is.0 in
-        why.reason (holds_at g.honest read (honest_on unwritten honest) why.place why.store why.there)
+        why.reason
+        (holds_at g.honest read (honest_on unwritten honest) why.place why.store why.there)
     unfound_outside faults.BadHistory buffer back honest is = is
     unfound_outside faults.Mixed buffer back honest is = is
     unfound_outside faults.Ahead buffer back honest is = is

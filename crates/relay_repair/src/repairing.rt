@@ -2,7 +2,8 @@
 ghost use Rattle.std.specs.Prelude.{◌≡◌, length, map, IfErr, IfOk, Option};
 ghost use Rattle.id_history.specs.History.{Kept};
 ghost use Rattle.relay_remains.specs.Heads.{AreUnwritten, TellsEnds};
-ghost use Rattle.relay_repair.specs.Refusing.{IsRefusedAfter, IsRefusedFor, IsUnrepaired, IsUnshutOver};
+ghost use Rattle.relay_repair.specs.Refusing.{IsRefusedAfter, IsRefusedFor, IsUnrepaired};
+ghost use Rattle.relay_repair.specs.Refusing.{IsUnshutOver};
 ghost use Rattle.relay_repair.specs.Repairing.{AreInTime, Repairs, RepairsFrom, counts_of};
 ghost use Rattle.relay_repair.specs.Telling.{IsLast, IsUntold, last_lent, last_listed};
 ghost use Rattle.relay_repair.specs.Telling.{last_stop, last_view};

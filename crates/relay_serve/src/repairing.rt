@@ -1,6 +1,7 @@
 //! A relay that was left without a stop is repaired before it starts (docs/PROTOCOL.md, Crashes:
 //! the relay).
-ghost use Rattle.std.specs.Prelude.{◌≡◌, ◌<◌, ◌^◌, ◌↔◌, ℕ, IfErr, IfOk, IsTrue, None, OnOk, Some, length, map};
+ghost use Rattle.std.specs.Prelude.{◌≡◌, ◌<◌, ◌^◌, ◌↔◌, ℕ, IfErr, IfOk, IsTrue, None, OnOk};
+ghost use Rattle.std.specs.Prelude.{Some, length, map};
 ghost use Rattle.relay_serve.specs.Adding.{IsHistoryFault};
 ghost use Rattle.relay_serve.specs.Repairing.{GoesOn, GoesOnFrom, IsKeptAs, IsLastStop};
 ghost use Rattle.relay_serve.specs.Repairing.{IsOfRepair, IsUnstoppedBy, kept_text};

@@ -14,8 +14,8 @@ returns-clause-repaired g c =
     (λ stopped repairs. (
       last_view c.in-Ok.old,
       c.in-Ok.ensures.last,
-      subst (λ last. RepairsFrom g.S.BlockStore c.args.config.now c.args.stores.items last c.args.now
-          stopped.stores.items stopped.history.items) same
+      subst (λ last. RepairsFrom g.S.BlockStore c.args.config.now c.args.stores.items last
+          c.args.now stopped.stores.items stopped.history.items) same
           (repairs (subst (λ last. AreInTime (last_listed last)) (sym same)
           (in_time c.args.config.now (octets_in c.args.text) (last_view c.in-Ok.old)
           c.in-Ok.ensures.last))),
