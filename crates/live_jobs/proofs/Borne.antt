@@ -61,8 +61,8 @@ receipt_of {J} {g} end answer d is =
       same_number = eqb-true d.number answer.number two;
       same_record = eqb-true receipt.shown.index answer.register three;
     }
-    of_store_result (store_results.Failed fault) kept one two three = absurd (cc)
-    of_store_result store_results.Conflict kept one two three = absurd (cc)
+    of_store_result (store_results.Failed fault forgotten) kept one two three = absurd (cc)
+    of_store_result (store_results.Conflict forgotten) kept one two three = absurd (cc)
 
 -- a job that passes stands at a place
 placed : {X : Type 0} (p : X → Bool) (xs : List X) → list_any p xs ≡ true

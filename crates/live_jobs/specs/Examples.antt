@@ -6,6 +6,7 @@ use Rattle.live_jobs.specs.declared.store_result.StoreResult.TheVariants as stor
 use Rattle.live_jobs.specs.declared.store_result.KeptJob.{KeptJob}
 use Rattle.live_jobs.specs.declared.outcome.FinishedJob.{FinishedJob}
 use Rattle.live_jobs.specs.declared.desk.both.Posted.{Posted}
+use Rattle.live_jobs.specs.declared.forgetting.Forgotten.{Forgotten}
 use Rattle.live_store.specs.declared.record.StorePremises.{Ghosts}
 use Rattle.live_store.specs.declared.stored.Receipt.{Receipt}
 
@@ -40,21 +41,21 @@ all_stand posted one two =
 
 -- the receipt of one job is another, one job failed, and one is in conflict
 abbrev pub three_mismatched_receipts : {J : Type 0} {g : Ghosts J} → Posted
-    → (one : Receipt J g) → Fault
+    → (one : Receipt J g) → Fault → Forgotten
     → List (List (FinishedJob (StoreResult J g)))
-three_mismatched_receipts posted one fault =
+three_mismatched_receipts posted one fault forgotten =
     (tells 0 0 (codes "<a@x>") (store_results.Kept one posted)
     ∷ tells 0 1 (codes "<c@x>") (store_results.Kept one posted) ∷ [])
-    ∷ (tells 1 0 (codes "<b@x>") (store_results.Failed fault)
-    ∷ tells 1 1 (codes "<d@x>") store_results.Conflict ∷ [])
+    ∷ (tells 1 0 (codes "<b@x>") (store_results.Failed fault forgotten)
+    ∷ tells 1 1 (codes "<d@x>") (store_results.Conflict forgotten) ∷ [])
     ∷ []
 
 -- one message-id was kept by both writers; of another job with it the one failed
 abbrev pub kept_twice : {J : Type 0} {g : Ghosts J} → Posted → (one two : Receipt J g) → Fault
-    → List (List (FinishedJob (StoreResult J g)))
-kept_twice posted one two fault =
+    → Forgotten → List (List (FinishedJob (StoreResult J g)))
+kept_twice posted one two fault forgotten =
     (tells 0 0 (codes "<a@x>") (store_results.Kept one posted)
     ∷ tells 0 1 (codes "<b@x>") (store_results.Kept two posted) ∷ [])
     ∷ (tells 1 0 (codes "<a@x>") (store_results.Kept two posted)
-    ∷ tells 1 1 (codes "<a@x>") (store_results.Failed fault) ∷ [])
+    ∷ tells 1 1 (codes "<a@x>") (store_results.Failed fault forgotten) ∷ [])
     ∷ []

@@ -1,5 +1,6 @@
 pub mod Desks
 pub mod FinishedLists
+pub mod Forgotten
 pub mod StoredAgain
 pub mod Examples
 pub mod StoreResults

@@ -14,14 +14,14 @@ use Rattle.live_store.specs.declared.stored.Receipt.{Receipt}
 -- the article is kept, and this is the register number of its receipt
 abbrev pub is_kept_as : {J : Type 0} {g : Ghosts J} → ℕ → StoreResult J g → Bool
 is_kept_as number (store_results.Kept receipt posted) = receipt.shown.index == number
-is_kept_as number (store_results.Failed fault) = false
-is_kept_as number store_results.Conflict = false
+is_kept_as number (store_results.Failed fault forgotten) = false
+is_kept_as number (store_results.Conflict forgotten) = false
 
 -- the job is in conflict
 abbrev pub is_conflict : {J : Type 0} {g : Ghosts J} → StoreResult J g → Bool
 is_conflict (store_results.Kept receipt posted) = false
-is_conflict (store_results.Failed fault) = false
-is_conflict store_results.Conflict = true
+is_conflict (store_results.Failed fault forgotten) = false
+is_conflict (store_results.Conflict forgotten) = true
 
 -- what a writer tells is that the job of this end and number is kept under this register number
 abbrev pub is_receipt_of : {J : Type 0} {g : Ghosts J} → (end number register : ℕ)

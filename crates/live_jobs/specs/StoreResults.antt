@@ -5,8 +5,10 @@ use Rattle.job_queue.specs.declared.parcel.Handed.{Handed}
 use Rattle.live_jobs.specs.declared.store_result.StoreResult.{StoreResult}
 use Rattle.live_jobs.specs.declared.store_result.StoreResult.TheVariants as store_results
 use Rattle.live_jobs.specs.declared.store_result.JobAnswer.{JobAnswer}
+use Rattle.live_jobs.specs.Forgotten.{IsForgotten}
 use Rattle.live_jobs.specs.Posted.{IsPostOf}
 use Rattle.live_jobs.specs.declared.desk.both.Posted.{Posted}
+use Rattle.live_jobs.specs.declared.forgetting.Forgotten.{Forgotten}
 use Rattle.live_store.specs.declared.record.StorePremises.{Ghosts}
 use Rattle.live_store.specs.Stores.{IsTextOf, IsStoreFault, receipt_token}
 use Rattle.live_store.specs.declared.stored.Receipt.{Receipt}
@@ -14,8 +16,8 @@ use Rattle.live_store.specs.declared.stored.Receipt.{Receipt}
 -- the article is kept
 abbrev pub is_kept : {J : Type 0} {g : Ghosts J} → StoreResult J g → Bool
 is_kept (store_results.Kept receipt posted) = true
-is_kept (store_results.Failed fault) = false
-is_kept store_results.Conflict = false
+is_kept (store_results.Failed fault forgotten) = false
+is_kept (store_results.Conflict forgotten) = false
 
 -- the fault is one of the storing of the job's text, of a buffer of its group
 pub record IsJobFault (holds : ℕ → ℕ → Bool) (handed : Handed) (fault : Fault) : Type 0 where
@@ -32,17 +34,22 @@ pub record IsKeptJob {J : Type 0} {g : Ghosts J} (handed : Handed) (receipt : Re
   pub posted : IsPostOf handed.job.id handed.job.session (receipt_token receipt)
       handed.job.article.permitted.items post
 
--- the job is stored, settled and posted; or the fault is one of the storing of the text, of a
--- buffer of the job's group
+-- the article of the job's message-id was given up for the job's session
+abbrev pub IsGivenUp : Handed → Forgotten → Type 0
+IsGivenUp handed forgotten = IsForgotten handed.job.id handed.job.session forgotten
+
+-- the job is stored, settled and posted; or its article was given up, and where there is a fault it
+-- is one of the storing of the text, of a buffer of the job's group
 abbrev pub FitsJob : {J : Type 0} {g : Ghosts J} → (holds : ℕ → ℕ → Bool) → StoreResult J g → Handed
     → Type 0
 FitsJob holds (store_results.Kept receipt posted) handed = IsKeptJob handed receipt posted
-FitsJob holds (store_results.Failed fault) handed = IsJobFault holds handed fault
-FitsJob holds store_results.Conflict handed = Unit {0}
+FitsJob holds (store_results.Failed fault forgotten) handed =
+    IsJobFault holds handed fault × IsGivenUp handed forgotten
+FitsJob holds (store_results.Conflict forgotten) handed = IsGivenUp handed forgotten
 
 -- what a store result tells: the same receipt, or that the job failed
 abbrev pub IsAnswerOf : {J : Type 0} {g : Ghosts J} → StoreResult J g → JobAnswer J g → Type 0
 IsAnswerOf (store_results.Kept one posted) answer = IsSomeAnd answer.receipt
     (λ other. (receipt_token one ≡ receipt_token other) × (one.shown ≡ other.shown))
-IsAnswerOf (store_results.Failed fault) answer = answer.receipt ≡ None
-IsAnswerOf store_results.Conflict answer = answer.receipt ≡ None
+IsAnswerOf (store_results.Failed fault forgotten) answer = answer.receipt ≡ None
+IsAnswerOf (store_results.Conflict forgotten) answer = answer.receipt ≡ None

@@ -62,8 +62,8 @@ fn add_jobs<J: StorePremises>(
                 jobs.insert((one.end, one.number, receipt.number()))?;
                 continue;
             }
-            StoreResult::Failed(_) => continue,
-            StoreResult::Conflict => conflict += 1,
+            StoreResult::Failed(_, _) => continue,
+            StoreResult::Conflict(_) => conflict += 1,
         }
     }
     Ok(conflict)

@@ -5,6 +5,7 @@ ghost use Rattle.live_jobs.specs.Examples as examples;
 ghost use Rattle.live_jobs.specs.Mismatches.{mismatched_receipts_in};
 
 use crate::desk::Posted;
+use crate::forgetting::Forgotten;
 use cyc_buffer::Fault;
 use live_store::{Receipt, StorePremises};
 
@@ -16,13 +17,15 @@ pub fn worked_mismatched_receipts<J: StorePremises>(
     two: &Receipt<J>,
     posted: &Posted,
     fault: &Fault,
+    forgotten: &Forgotten,
 )
     requires one { one.now.shown.index ≡ 3 }
     requires two { two.now.shown.index ≡ 5 }
     ensures none { mismatched_receipts_in (examples.answers one.now two.now)
         (examples.all_stand posted.now one.now two.now) ≡ 0 }
     ensures three { mismatched_receipts_in (examples.answers one.now two.now)
-        (examples.three_mismatched_receipts posted.now one.now fault.now) ≡ 3 }
+        (examples.three_mismatched_receipts posted.now one.now fault.now forgotten.now)
+        ≡ 3 }
 {}
 
 /// Message-ids of one length are stored again only where their octets are the same, and only of
@@ -32,8 +35,9 @@ pub fn worked_ids_stored_again<J: StorePremises>(
     two: &Receipt<J>,
     posted: &Posted,
     fault: &Fault,
+    forgotten: &Forgotten,
 )
     ensures none { ids_stored_again_in (examples.all_stand posted.now one.now two.now) ≡ 0 }
-    ensures one { ids_stored_again_in (examples.kept_twice posted.now one.now two.now fault.now)
-        ≡ 1 }
+    ensures one { ids_stored_again_in (examples.kept_twice posted.now one.now two.now fault.now
+        forgotten.now) ≡ 1 }
 {}

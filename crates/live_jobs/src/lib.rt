@@ -7,7 +7,8 @@
 //! message-id is Stored, and each permitted feed gains its token. In threads both values are held
 //! for it, the shard's lock taken first. The desk counts its posts in a ledger, of which each
 //! writer has a share, so that the articles that all writers say they had accepted can be held
-//! against the posts that the desk made.
+//! against the posts that the desk made. An article that can't be stored is given up, under the
+//! shard's lock alone.
 //!
 //! Names of jobs in few octets: a list that grows at its end and is read from its start.
 //!
@@ -30,6 +31,7 @@ mod count;
 mod desk;
 pub mod examples;
 mod finished;
+mod forgetting;
 mod gather;
 mod ids;
 pub mod laws;
@@ -49,6 +51,7 @@ pub use answers::mismatched_receipts;
 pub use channel::{JobChannel, LOOKS};
 pub use desk::{CountedDesk, Posted, Posts, Unsettled, settle_both};
 pub use finished::{FinishedJobRef, FinishedLeft, FinishedList};
+pub use forgetting::{Forgotten, forget};
 pub use gather::{Seats, Totals, close};
 pub use ids::ids_stored_again;
 pub use left::{JobName, NamesLeft};

@@ -5,6 +5,7 @@ ghost use Rattle.live_jobs.specs.StoreResults.{IsAnswerOf};
 ghost use Rattle.live_store.specs.declared.writing.entering.Record.{Record};
 
 use crate::desk::Posted;
+use crate::forgetting::Forgotten;
 use crate::outcome::Outcome;
 use cyc_buffer::Fault;
 use live_store::{Receipt, StorePremises};
@@ -16,10 +17,11 @@ pub enum StoreResult<J: StorePremises> {
     /// The article is stored, the id is Stored and the feeds have its token: what the store and
     /// what the settling say of it.
     Kept(Receipt<J>, Posted),
-    /// The device failed, or the buffer has no further cycle.
-    Failed(Fault),
-    /// What the core can't meet: another write was open, or the text is none for the buffer.
-    Conflict,
+    /// The device failed, or the buffer has no further cycle; the article was given up.
+    Failed(Fault, Forgotten),
+    /// What the core can't meet: another write was open, or the text is none for the buffer. The
+    /// article was given up.
+    Conflict(Forgotten),
 }
 
 // Written out, so that no crate above proves anew how each part is let go.
@@ -27,8 +29,8 @@ impl<J: StorePremises> Drop for StoreResult<J> {
     fn drop(self) {
         match self {
             StoreResult::Kept(_, _) => {}
-            StoreResult::Failed(_) => {}
-            StoreResult::Conflict => {}
+            StoreResult::Failed(_, _) => {}
+            StoreResult::Conflict(_) => {}
         }
     }
 }
@@ -91,7 +93,7 @@ pub fn answer_of<J: StorePremises>(number: u64, store_result: &StoreResult<J>) -
 {
     let receipt = match store_result {
         StoreResult::Kept(receipt, _) => Some(receipt.again()),
-        StoreResult::Failed(_) | StoreResult::Conflict => None,
+        StoreResult::Failed(_, _) | StoreResult::Conflict(_) => None,
     };
     JobAnswer { number, receipt }
 }

@@ -10,7 +10,7 @@ use Rattle.live_jobs.specs.Seats.{IsSeatOf, count_of, end_of}
 use Rattle.live_jobs.specs.declared.channel.JobChannel.{JobChannel}
 use Rattle.live_session.specs.Carried.{Carried, Lasts, LastsOrHeld, Refusal, ServesOn}
 use Rattle.live_session.specs.Commands.{WasAsked, WasLetIn, newest_in}
-use Rattle.live_session.specs.Counts.{most_turns, most_waiting, turns_in}
+use Rattle.live_session.specs.Counts.{most_turns, most_waiting, turns_in, untold_in}
 use Rattle.live_session.specs.Going.{IsStepRead, group_in}
 use Rattle.live_session.specs.Going.{HearsAnswer, KeepsButSession, KeepsPlace, LetsGo, SharesFor}
 use Rattle.live_session.specs.Going.{StaysSame, WentOn, said_in}
@@ -22,6 +22,7 @@ use Rattle.live_session.specs.declared.live.Turned.{Turned}
 use Rattle.live_session.specs.declared.live.Turned.TheVariants as turns
 use Rattle.live_session.specs.declared.wire.Finish.TheVariants as finishes
 use Rattle.live_store.specs.declared.record.StorePremises.{Ghosts}
+use Rattle.live_wire.specs.Tally.{after_octets}
 use Rattle.peer_session.specs.Planning.{HandsOver}
 use Rattle.peer_session.specs.Session.{StandsAsBefore, reads_command, session_view}
 use Rattle.peer_session.specs.declared.session.Session.{Session}
@@ -132,13 +133,17 @@ abbrev pub IsOver : Result ℕ io.Error → Type 0
 IsOver (Ok n) = n ≡ 0
 IsOver (Err e) = error_kind e ≢ Interrupted
 
--- one read was made, of so many octets or none, and the connection is broken where the input is over
-pub record WasRead (before after : Carried) : Type 0 where
+-- one read was made, of so many octets or none, and the connection is broken where the input is
+-- over; what came is counted, whatever becomes of it
+pub record WasRead (before after : Carried) (counts counts' : Counts) : Type 0 where
   pub answer : Result ℕ io.Error
   pub came : IfOk answer (λ n. (octets : List ℕ) × (length octets ≡ n)
       × (after.heard ≡ before.heard ++ octets))
   pub failed : OnErr answer (after.heard ≡ before.heard)
   pub over : IsOver answer → after.finish ≡ Some finishes.Broken
+  pub counted : IfOk answer (λ n. n ≢ 0
+      → untold_in counts' ≡ after_octets n (untold_in counts))
+  pub nothing : IfOk answer (λ n. n ≡ 0) → untold_in counts' ≡ untold_in counts
 
 -- a session read, where it reads: its connection carries that on, and no turn is counted; where the
 -- connection is broken nothing of it came to the session
@@ -153,7 +158,7 @@ pub record HasRead {J : Type 0} {g : Ghosts J} (old new : LiveSession J g) (befo
   pub broken : after.finish ≡ Some finishes.Broken
       → (before.finish ≡ Some finishes.Broken) ⊎ StandsAsBefore old.session new.session
   pub read : before.finish ≡ None → is_reading (session_view old.session).phase ≡ true
-      → ∥ WasRead before after ∥₁
+      → ∥ WasRead before after counts counts' ∥₁
 
 -- a turn of a session that leaves: its connection carries on what it said, on the same seat, and no
 -- turn is counted

@@ -211,6 +211,7 @@ struct Opened {
     session: Session,
     greeting: Vec<u8>,
     piece: Vec<u8>,
+    ghost room: { length piece.items ≡ 65536 },
 }
 
 /// What a session of this seat begins with; none where the end has handed over all its jobs. The

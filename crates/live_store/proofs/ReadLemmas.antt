@@ -38,7 +38,9 @@ use Rattle.live_store.specs.declared.writing.entering.Record.{Record}
 use Rattle.live_store.specs.Tied.{Tied, IsKnown, HasRecord, IsFirstAt, IsSameRecord, number_at}
 use Rattle.live_store.specs.Tied.{token_in, text_in}
 use Rattle.live_store.specs.Steps.{IsChunkOf, IsGoneBy, IsReadFault, IsReading, IsRecordAfter}
-use Rattle.live_store.specs.Steps.{found_in}
+use Rattle.live_store.specs.Steps.{IsOneThere, found_in}
+use Rattle.live_store.specs.declared.answers.OneRead.{OneRead}
+use Rattle.live_store.specs.declared.answers.OneRead.TheVariants as ones
 use Rattle.live_store.specs.declared.answers.Reading.{Reading}
 use Rattle.live_store.specs.declared.answers.Reading.TheVariants as readings
 use Rattle.live_store.proofs.OpenLemmas.{device_fault_is, no_prop}
@@ -263,3 +265,10 @@ told_other n shown (Some own) apart = by_case (shown.index == own.index) refl
         → found.Unknown ≡ found_in (readings.Chunk n shown) (Some own)
     by_case true e = absurd (apart (eqb-true shown.index own.index e))
     by_case false e = ap (λ (b : Bool). cond b (found.Chunk n) found.Unknown) (sym e)
+
+-- what is read in a buffer of the token's number is out of one that is there
+pub one_there : (count : ℕ) (token : Token) (one : OneRead) → token.buffer < count
+    → IsOneThere count token one
+one_there count token (ones.Chunk n) there = there
+one_there count token (ones.Gone front) there = tt
+one_there count token (ones.Unknown unfound) there = tt

@@ -228,6 +228,12 @@ IsOneNowhere count token (ones.Chunk n) = Unit {0}
 IsOneNowhere count token (ones.Gone front) = Unit {0}
 IsOneNowhere count token (ones.Unknown unfound) = IsNowhere count token (cause_of unfound)
 
+-- a chunk is out of one of so many buffers, that of the token's number
+abbrev pub IsOneThere : (count : ℕ) → Token → OneRead → Type 0
+IsOneThere count token (ones.Chunk n) = token.buffer < count
+IsOneThere count token (ones.Gone front) = Unit {0}
+IsOneThere count token (ones.Unknown unfound) = Unit {0}
+
 -- what a reading is to reads that had this record: a chunk of another one is none
 abbrev pub found_in : Reading → Option (Where Record) → Found
 found_in (readings.Chunk n shown) None = found.Chunk n

@@ -1,5 +1,5 @@
 //! A fetch, in any thread: one block at a time under the buffer's lock.
-ghost use Rattle.std.specs.Prelude.{◌≡◌, ◌++◌, [], None, length, IfOk, OnOk};
+ghost use Rattle.std.specs.Prelude.{◌≡◌, ◌++◌, ◌≤◌, [], None, length, IfOk, IsOk, OnOk};
 ghost use Rattle.cyc_token.specs.Token.{token_view};
 ghost use Rattle.live_store.specs.Fetches.{IsFetched, IsGathered};
 
@@ -26,7 +26,10 @@ pub fn fetch<S: BlockStore, J: StorePremises, R: Wait>(
     token: &Token,
 ) -> Result<Fetched<J>, AllocError>
     requires { register.now ≡ J.register }
-    ensures { IfOk result (IsFetched J.trusted (length buffers.now) (token_view token.now)) }
+    ensures fetched { IfOk result
+        (IsFetched J.trusted (length buffers.now) (token_view token.now)) }
+    // Where no buffer has the token's number no memory is asked for.
+    ensures unasked { length buffers.now ≤ (token_view token.now).buffer → IsOk result }
 {
     let mut text = Vec::new(alloc);
     let mut reads = OneRecord::new();
@@ -64,8 +67,9 @@ fn gather<S: BlockStore, J: StorePremises, R: Wait>(
 ) -> Result<Option<Fetched<J>>, AllocError>
     requires register { register.now ≡ J.register }
     requires none { (reads.old.shown ≡ None) × (text.old.items ≡ []) }
-    ensures { IfOk result (IsGathered J.trusted (length buffers.now) (token_view token.now)
-        reads.new.shown text.new.items) }
+    ensures gathered { IfOk result (IsGathered J.trusted (length buffers.now)
+        (token_view token.now) reads.new.shown text.new.items) }
+    ensures unasked { length buffers.now ≤ (token_view token.now).buffer → IsOk result }
 {
     let mut chunk = [0; CHUNK_OCTETS];
     for k in 0..size_of(token.length) {

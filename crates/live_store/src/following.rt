@@ -32,7 +32,8 @@ impl<J: StorePremises> OneRecord<J> {
     ghost use Rattle.cyc_token.specs.Token.{token_view};
     ghost use Rattle.live_store.specs.Causes.{cause_of};
     ghost use Rattle.live_store.specs.Steps.{IsFoundIn, IsFoundGone, IsReadFault, IsRecordAfter};
-    ghost use Rattle.live_store.specs.Steps.{IsShown, IsOneNowhere, IsOneUnfound, IsUnfoundAt};
+    ghost use Rattle.live_store.specs.Steps.{IsShown, IsOneNowhere, IsOneThere, IsOneUnfound};
+    ghost use Rattle.live_store.specs.Steps.{IsUnfoundAt};
     ghost use Rattle.live_store.specs.Steps.{TellsRead, ones_found};
     ghost use Rattle.live_store.specs.Tied.{IsSameRecord};
     ghost use Rattle.news_terms.specs.Token as tokens;
@@ -73,6 +74,8 @@ impl<J: StorePremises> OneRecord<J> {
         // Unknown has its cause: of another record a chunk is only where there was one before.
         ensures unknown { IfOk result (IsOneUnfound k self.old.shown) }
         ensures nowhere { IfOk result (IsOneNowhere (length buffers.now) (token_view token.now)) }
+        // Without a buffer of the token's number there is no chunk.
+        ensures there { IfOk result (IsOneThere (length buffers.now) (token_view token.now)) }
         ensures fault { IfErr result (IsReadFault (token_view token.now)) }
     {
         let Some(buffer) = buffers.get(usize::from(token.buffer)) else {

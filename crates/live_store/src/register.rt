@@ -21,6 +21,13 @@ pub struct Register<T> {
     alloc: Global,
 }
 
+/// That a bucket has its places, or is being given them by another thread: `lay` alone says so.
+#[derive(Drop)]
+struct Laid {
+    /// The number of the bucket.
+    bucket: usize,
+}
+
 // Written out, so that no crate above proves anew how each part is let go.
 impl<T: Drop> Drop for Register<T> {
     fn drop(self) {
@@ -98,13 +105,15 @@ impl<T: Drop> Register<T> {
     }
 
     /// Takes memory for a bucket's places, unless it has it.
-    fn lay(&self, at: &At) -> Result<(), AllocError>
+    fn lay(&self, at: &At) -> Result<Laid, AllocError>
         requires at { (index : ℕ) × IsAt index at.now.octave at.now.part at.now.place }
+        ensures { IfOk result (λ laid. laid.bucket ≡ bucket_of at.now.octave at.now.part) }
     {
-        if self.buckets[at.octave * PARTS + at.part].get().is_none() {
-            return self.make(at);
+        let bucket = at.octave * PARTS + at.part;
+        if self.buckets[bucket].get().is_none() {
+            self.make(at)?;
         }
-        Ok(())
+        Ok(Laid { bucket })
     }
 
     /// What shows a bucket's places, once it has them.
@@ -113,10 +122,18 @@ impl<T: Drop> Register<T> {
         ensures { IfOk result
             (λ w. w.of ≡ id_at self.now.buckets (bucket_of at.now.octave at.now.part)) }
     {
-        self.lay(at)?;
+        let laid = self.lay(at)?;
+        Ok(self.await_places(rt, laid))
+    }
+
+    /// What shows the places of a bucket for which they were made.
+    fn await_places<R: Wait>(&self, rt: &R, laid: Laid) -> Written<Vec<Place<T>>>
+        requires few { laid.bucket < 864 }
+        ensures { result.of ≡ id_at self.now.buckets laid.bucket }
+    {
         for _ in rt.forever() {
-            if let Some(row) = self.buckets[at.octave * PARTS + at.part].witness() {
-                return Ok(row);
+            if let Some(row) = self.buckets[laid.bucket].witness() {
+                return row;
             }
             std::hint::spin_loop();
         }

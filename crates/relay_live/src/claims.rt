@@ -1,12 +1,13 @@
 //! A shard of the history under its lock.
 ghost use Rattle.std.specs.Prelude.{◌≡◌, ◌≢◌, ◌<◌, IfOk};
 ghost use Rattle.id_history.specs.declared.claims.Take.TheVariants as takes;
+ghost use Rattle.live_jobs.specs.Forgotten.{IsForgotten};
 ghost use Rattle.relay_live.specs.Settling.{SettlesJob};
 
 use cyc_token::Token;
 use id_history::{Shard, Take};
 use job_queue::{Crowd, Looked};
-use live_jobs::{CountedDesk, Posted, Unsettled};
+use live_jobs::{CountedDesk, Forgotten, Posted, Unsettled};
 use nntp_text::MsgId;
 use std::alloc::AllocError;
 use std::sync::ledger::{Ledger, Share};
@@ -76,10 +77,13 @@ impl Claims {
         Ok((shard.take(id, session)?, looked))
     }
 
-    pub(crate) fn forget<R: Wait>(&self, rt: &R, id: &MsgId, session: u64) {
+    pub(crate) fn forget<R: Wait>(&self, rt: &R, id: &MsgId, session: u64) -> Forgotten
+        ensures { IsForgotten id.now session result }
+    {
         let mut shard = self.shard.lock(rt);
-        shard.forget(id, session);
+        let forgotten = live_jobs::forget(&mut shard, id, session);
         self.ended.unlock(shard);
+        forgotten
     }
 
     /// Settles under this lock and then the desk's (`live_jobs::settle`).

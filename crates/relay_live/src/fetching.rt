@@ -10,7 +10,7 @@ use std::sync::Wait;
 use std::sync::ledger::Ledger;
 
 impl<S: BlockStore + Drop, J: StorePremises, L: Ledger> Shared<S, J, L> {
-    ghost use Rattle.std.specs.Prelude.{IfOk};
+    ghost use Rattle.std.specs.Prelude.{◌≤◌, IfOk, IsOk};
     ghost use Rattle.cyc_token.specs.Token.{token_view};
     ghost use Rattle.live_store.specs.Fetches.{IsFetched};
     ghost use Rattle.relay_live.specs.Making.{buffers_in};
@@ -27,8 +27,10 @@ impl<S: BlockStore + Drop, J: StorePremises, L: Ledger> Shared<S, J, L> {
         token: &Token,
     ) -> Result<Fetched<J>, AllocError>
         requires { register.now ≡ J.register }
-        ensures { IfOk result
+        ensures fetched { IfOk result
             (IsFetched J.trusted (buffers_in self.now) (token_view token.now)) }
+        // Where no buffer has the token's number no memory is asked for.
+        ensures unasked { buffers_in self.now ≤ (token_view token.now).buffer → IsOk result }
     {
         fetch(rt, alloc, self.buffers.locks(), register, token)
     }

@@ -1,5 +1,6 @@
 //! What stores the jobs of the writers.
 ghost use Rattle.std.specs.Prelude.{◌≡◌, ◌<◌, ◌+◌, IfSome};
+ghost use Rattle.live_jobs.specs.Forgotten.{IsForgotten};
 ghost use Rattle.live_jobs.specs.StoreResults.{is_kept, FitsJob};
 ghost use Rattle.live_jobs.specs.Taken.{worth};
 ghost use Rattle.live_store.specs.Stores.{IsStored};
@@ -16,7 +17,7 @@ use cyc_block::BlockStore;
 use cyc_buffer::FaultKind;
 use cyc_token::Token;
 use job_queue::Handed;
-use live_jobs::{CountedDesk, Posted, Store, StoreResult, Unsettled, answer_of};
+use live_jobs::{CountedDesk, Forgotten, Posted, Store, StoreResult, Unsettled};
 use live_session::Clock;
 use live_store::{StorePremises, Stored};
 use relay_conf::Buffers;
@@ -152,24 +153,28 @@ impl<'a, S: BlockStore + Drop, J: StorePremises, L: Ledger, C: Clock, Q: Registe
         ensures fits { FitsJob J.holds result handed.now }
     {
         let job = &handed.job;
-        let store_result = match self.write(rt, &job.article) {
-            Some(Stored::Kept(finished)) => {
-                if let Some(posted) = self.settle(rt, share, job, finished.token()) {
-                    return StoreResult::Kept(finished.into_receipt(), posted);
-                }
-                StoreResult::Conflict
-            }
+        match self.write(rt, &job.article) {
+            Some(Stored::Kept(finished)) => match self.settle(rt, share, job, finished.token()) {
+                Some(posted) => StoreResult::Kept(finished.into_receipt(), posted),
+                None => StoreResult::Conflict(self.forget(rt, job)),
+            },
             Some(Stored::Failed(fault)) => {
+                let forgotten = self.forget(rt, job);
                 if holding::has_buffer(self.settings, job.article.group, fault.buffer()) {
-                    StoreResult::Failed(fault)
+                    StoreResult::Failed(fault, forgotten)
                 } else {
-                    StoreResult::Conflict
+                    StoreResult::Conflict(forgotten)
                 }
             }
-            Some(Stored::Conflict(_)) | None => StoreResult::Conflict,
-        };
-        self.shared.claims(&job.id).forget(rt, &job.id, job.session);
-        store_result
+            Some(Stored::Conflict(_)) | None => StoreResult::Conflict(self.forget(rt, job)),
+        }
+    }
+
+    /// The job's article is given up.
+    fn forget<R: Wait>(&self, rt: &R, job: &Job) -> Forgotten
+        ensures { IsForgotten job.now.id job.now.session result }
+    {
+        self.shared.claims(&job.id).forget(rt, &job.id, job.session)
     }
 }
 
@@ -214,10 +219,8 @@ impl<
 > Store<L, StoreResult<J>, R> for Keeper<'a, S, J, L, C, Q> {
     fn store(&self, rt: &R, share: &mut Share<L>, handed: &Handed) -> StoreResult<J> {
         let store_result = self.keep(rt, share, handed);
-        let answer = answer_of(handed.number, &store_result);
-        match self.shared.slots.get(handed.end as usize) {
-            Some(slot) => slot.tell(rt, answer),
-            None => drop(answer),
+        if let Some(slot) = self.shared.slots.get(handed.end as usize) {
+            let _told = slot.tell(rt, handed.number, &store_result);
         }
         store_result
     }

@@ -38,4 +38,4 @@ pub use peer_server::PeerServer;
 pub use register_ref::RegisterRef;
 pub use running::{Counted, CountedRun, LiveError, PeerSource, Serving, serve_all};
 pub use shared::{Shared, Unshut};
-pub use slot::Slot;
+pub use slot::{Slot, Told};

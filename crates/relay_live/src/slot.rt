@@ -1,12 +1,17 @@
 //! The slot of an end: what a writer told of the end's job.
 ghost use Rattle.std.specs.Prelude.{◌≡◌, IfSome};
-ghost use Rattle.relay_live.specs.Slots.{after_tell, told_to, left_by};
+ghost use Rattle.relay_live.specs.Slots.{left_by, told_number, told_to};
 
 use job_queue::Crowd;
-use live_jobs::{JobAnswer, LOOKS};
+use live_jobs::{JobAnswer, LOOKS, StoreResult, answer_of};
 use live_store::StorePremises;
 use std::sync::{Mutex, Wait};
 use std::thread;
+
+mod told;
+
+pub use told::Told;
+use told::put;
 
 /// The slot of an end. Writers put answers, the end's session takes the one that it waits for.
 #[derive(Drop)]
@@ -25,12 +30,13 @@ impl<J: StorePremises> Slot<J> {
         }
     }
 
-    /// Puts what became of a job of the end's. Where an answer of a later job stands there nobody
-    /// waits for this one, and it is dropped.
-    pub fn tell<R: Wait>(&self, rt: &R, answer: JobAnswer<J>) {
-        let mut held = self.answer.lock(rt);
-        put(&mut held, answer);
-        self.filled.unlock(held);
+    /// Puts what became of the end's job of this number. Where an answer of a later job stands
+    /// there nobody waits for this one, and it is dropped.
+    pub fn tell<R: Wait>(&self, rt: &R, number: u64, store_result: &StoreResult<J>) -> Told
+        ensures { told_number result ≡ number }
+    {
+        let held = self.answer.lock(rt);
+        put(held, answer_of(number, store_result)).unlock(&self.filled)
     }
 
     /// Waits until a writer has told what became of the end's job of this number, and takes that.
@@ -70,16 +76,6 @@ impl<J: StorePremises> Slot<J> {
             thread::yield_now();
         }
         None
-    }
-}
-
-/// Puts an answer where none of a later job stands.
-fn put<J: StorePremises>(held: &mut Option<JobAnswer<J>>, answer: JobAnswer<J>)
-    ensures { held.new ≡ after_tell held.old answer }
-{
-    match held {
-        Some(other) if other.number > answer.number => {}
-        _ => *held = Some(answer),
     }
 }
 

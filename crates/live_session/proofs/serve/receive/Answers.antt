@@ -37,6 +37,8 @@ returns-in-Ok-eq0 g c =
         );
         failed = tt;
         over = λ is. refl;
+        counted = λ some. absurd (some c.in-Ok-eq0.field-0-test);
+        nothing = λ is. refl;
       } ∣₁;
     }
 
@@ -72,6 +74,8 @@ returns-in-Ok-feed g c =
         );
         failed = tt;
         over = λ is. absurd (c.in-Ok.n-test.1 is);
+        counted = λ some. c.read.ensures.untold;
+        nothing = λ is. absurd (c.in-Ok.n-test.1 is);
       } ∣₁;
     }
 
@@ -106,6 +110,8 @@ returns-in-Err-feed g c =
         );
         failed = tt;
         over = λ is. refl;
+        counted = λ some. c.read.ensures.untold;
+        nothing = λ is. absurd (c.in-Ok.n-test.1 is);
       } ∣₁;
     }
 
@@ -133,6 +139,8 @@ returns-in_default g c =
         came = tt;
         failed = c.in-Err.ensures.err;
         over = λ is. refl;
+        counted = tt;
+        nothing = λ is. refl;
       } ∣₁;
     }
 
@@ -158,6 +166,8 @@ returns-in-Interrupted g c =
         came = tt;
         failed = c.in-Err.ensures.err;
         over = λ other. absurd (other (sym c.kind.ensures ∙ c.in-Interrupted.is));
+        counted = tt;
+        nothing = λ is. refl;
       } ∣₁;
     }
 

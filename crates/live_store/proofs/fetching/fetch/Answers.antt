@@ -14,7 +14,7 @@ invariant_of-result g c =
       here = c.gather.new.reads.here c.in-Some.shown c.in-Some.is;
       whole = λ trusted. (subst (λ o. IfSome o (IsWholeOf token octets)) c.in-Some.is
           ((subst (IsGathered g.J.StorePremises.trusted (length c.args.buffers.now) token shown
-          octets) c.in-Ok-None.field-0-is c.in-Ok-None.ensures).whole trusted)).text;
+          octets) c.in-Ok-None.field-0-is c.in-Ok-None.ensures.gathered).whole trusted)).text;
     }
 
 -- without a record there was no block
@@ -22,4 +22,4 @@ pub no_octets-requires : goal.no_octets-requires
 no_octets-requires g c =
     (subst (IsGathered g.J.StorePremises.trusted (length c.args.buffers.now)
     (token_view c.args.token.now) c.gather.new.reads.shown c.gather.new.text.items)
-    c.in-Ok-None.field-0-is c.in-Ok-None.ensures).some c.in-None.is
+    c.in-Ok-None.field-0-is c.in-Ok-None.ensures.gathered).some c.in-None.is

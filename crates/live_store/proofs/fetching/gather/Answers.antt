@@ -36,14 +36,14 @@ loop-k-preserved g c =
           is c.in-Ok-Chunk.ensures.after) none);
     }
 
-pub returns-in-Ok-Gone : goal.returns-in-Ok-Gone
-returns-in-Ok-Gone g c =
+pub returns-in-Ok-Gone-clause-gathered : goal.returns-in-Ok-Gone-clause-gathered
+returns-in-Ok-Gone-clause-gathered g c =
     subst (λ (one : OneRead). IsFoundGone (token_view c.args.token.now) (one_found one))
     c.in-Ok-Gone.field-0-is c.in-Ok-Gone.ensures.gone
 
 -- what is unknown is so of a block of the article, and of another record behind the first alone
-pub returns-in-Ok-Unknown : goal.returns-in-Ok-Unknown
-returns-in-Ok-Unknown g c =
+pub returns-in-Ok-Unknown-clause-gathered : goal.returns-in-Ok-Unknown-clause-gathered
+returns-in-Ok-Unknown-clause-gathered g c =
     let is = c.in-Ok-Unknown.field-0-is in
     cause_at (length c.args.buffers.now) (token_view c.args.token.now) c.loop-k.k
     c.loop-k.reads.shown (cause_of c.in-Ok-Unknown.unfound)
@@ -52,11 +52,11 @@ returns-in-Ok-Unknown g c =
     c.in-Ok-Unknown.ensures.nowhere) c.loop-k.invariant.none
     (omega (arith, c.loop-k-test.true, c.size_of-k-end.ensures))
 
-pub returns-in-Err : goal.returns-in-Err
-returns-in-Err g c = c.in-Err.ensures.fault
+pub returns-in-Err-clause-gathered : goal.returns-in-Err-clause-gathered
+returns-in-Err-clause-gathered g c = c.in-Err.ensures.fault
 
-pub returns : goal.returns
-returns g c = record {
+pub returns-clause-gathered : goal.returns-clause-gathered
+returns-clause-gathered g c = record {
   whole = λ trusted. gathered_all (token_view c.args.token.now) c.loop-k.reads.shown c.loop-k.k
       c.loop-k.text.items (c.loop-k.invariant.gathered trusted)
       (λ less. omega (arith, less, c.size_of-k-end.ensures, c.loop-k-test.false));

@@ -1,5 +1,7 @@
+use Rattle.std.proofs.Common.{ℕ, ◌<◌, subst}
 use Rattle.std.specs.Prelude.{length}
 use Rattle.cyc_token.specs.Token.{token_view}
+use Rattle.live_store.proofs.ReadLemmas.{one_there}
 use Rattle.live_store.proofs.following.OneRecord.read.Goals as goal
 
 pub returns-clause-chunk : goal.returns-clause-chunk
@@ -24,3 +26,9 @@ returns-clause-unknown g c = c.tell.ensures.unknown c.in_ok-reading.ensures.unkn
 pub returns-clause-nowhere : goal.returns-clause-nowhere
 returns-clause-nowhere g c = c.tell.ensures.nowhere (length c.args.buffers.now)
     (token_view c.args.token.now) c.in_ok-reading.ensures.unknown
+
+pub returns-clause-there : goal.returns-clause-there
+returns-clause-there g c = one_there (length c.args.buffers.now) (token_view c.args.token.now)
+    c.tell.result
+    (subst (λ (n : ℕ). n < length c.args.buffers.now) c.from.ensures
+    c.in-Some.ensures.lookup.3.0)
