@@ -14,7 +14,7 @@ returns-in_err-sync-clause-blocks g c =
 -- and its device has said so
 pub loop-store-preserved : goal.loop-store-preserved
 loop-store-preserved g c = record {
-  synced = grind (arith, common_steps, c.loop-store.invariant.synced, c.in_ok-sync.ensures.synced);
+  synced = grind (arith, common_steps, c.loop-store.invariant.synced);
   blocks = map-set_same (λ store. length (g.S.BlockStore.blocks store)) c.loop-store.stores
       c.loop-store.store-index c.sync.new.self c.store-item.result
       c.sync.ensures.blocks
