@@ -8,6 +8,7 @@ pub mod Lives
 pub mod Moments
 pub mod Ports
 pub mod Reasons
+pub mod RunTotals
 pub mod Running
 pub mod Starting
 pub mod Watched

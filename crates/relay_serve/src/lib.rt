@@ -20,6 +20,7 @@ mod keeping;
 mod lives;
 mod ports;
 mod reasons;
+mod run_totals;
 mod running;
 mod serving;
 mod side_thread;
