@@ -176,7 +176,7 @@ pub record StoresParts {S J L : Type 0} {s : blocks.Ghosts S} {j : store_premise
 abbrev pub IsUnshut : {S J L : Type 0} {s : blocks.Ghosts S} {j : store_premises.Ghosts J}
     → Shared S J L s j → Unshut S J L s j → Type 0
 IsUnshut old (answers.NotIdle back) = HasAsMany old back × StoresParts back
-IsUnshut old (answers.Memory back) = HasAsMany old back
+IsUnshut old (answers.Memory back want) = HasAsMany old back
 IsUnshut old (answers.Device number stores) =
     ((number < buffers_in old) × (length stores.items ≡ buffers_in old))
     × FailsParts old number stores.items

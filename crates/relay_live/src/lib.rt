@@ -37,5 +37,5 @@ pub use keeper::Keeper;
 pub use peer_server::PeerServer;
 pub use register_ref::RegisterRef;
 pub use running::{Counted, CountedRun, LiveError, PeerSource, Serving, serve_all};
-pub use shared::{Shared, Unshut};
+pub use shared::{Shared, Unshut, WantOfMemory};
 pub use slot::{Slot, Told};

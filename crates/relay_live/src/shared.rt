@@ -74,13 +74,19 @@ impl<S: BlockStore + Drop, J: StorePremises, L: Ledger> Drop for Shared<S, J, L>
     }
 }
 
+/// That a stop was refused memory: `Shared::shut` alone says so.
+#[derive(Drop)]
+pub struct WantOfMemory {
+    told: (),
+}
+
 /// Why a relay isn't stopped, in the order of trial; want of memory comes last before the devices.
 pub enum Unshut<S: BlockStore + Drop, J: StorePremises, L: Ledger> {
     /// A message-id is being stored, or a write is open in a buffer. The relay goes on, and nothing
     /// was written.
     NotIdle(Shared<S, J, L>),
     /// Memory was refused. The relay goes on, and nothing was written.
-    Memory(Shared<S, J, L>),
+    Memory(Shared<S, J, L>, WantOfMemory),
     /// The device of the buffer of this number failed. All stores; heads may say that they are
     /// closed.
     Device(u8, Vec<S>),
@@ -91,7 +97,7 @@ impl<S: BlockStore + Drop, J: StorePremises, L: Ledger> Drop for Unshut<S, J, L>
     fn drop(self) {
         match self {
             Unshut::NotIdle(_) => {}
-            Unshut::Memory(_) => {}
+            Unshut::Memory(_, _) => {}
             Unshut::Device(_, _) => {}
         }
     }
@@ -219,11 +225,11 @@ impl<S: BlockStore + Drop, J: StorePremises, L: Ledger> Shared<S, J, L> {
         let buffers = self.buffers.len();
         let groups = self.placed_groups.len();
         let Ok(room) = FreeRoom::new(alloc, buffers, groups) else {
-            return Err(Unshut::Memory(self));
+            return Err(Unshut::Memory(self, WantOfMemory { told: () }));
         };
         let Ok(rooms) = LockRoom::new(alloc, buffers, groups) else {
             drop(room);
-            return Err(Unshut::Memory(self));
+            return Err(Unshut::Memory(self, WantOfMemory { told: () }));
         };
         let (alone, locks) = self.into_alone(room, rooms);
         match alone.shut(alloc) {
@@ -232,7 +238,9 @@ impl<S: BlockStore + Drop, J: StorePremises, L: Ledger> Shared<S, J, L> {
                 Ok(stopped)
             }
             Err(Unstopped::NotIdle(alone)) => { Err(Unshut::NotIdle(Shared::over(alone, locks))) }
-            Err(Unstopped::Memory(alone)) => { Err(Unshut::Memory(Shared::over(alone, locks))) }
+            Err(Unstopped::Memory(alone)) => {
+                Err(Unshut::Memory(Shared::over(alone, locks), WantOfMemory { told: () }))
+            }
             Err(Unstopped::Device(number, stores)) => {
                 drop(locks);
                 Err(Unshut::Device(number, stores))

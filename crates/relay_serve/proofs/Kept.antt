@@ -1,7 +1,7 @@
--- What stands at a place of a row, of which another is made.
+-- What stands at a place of a row, of which another is made; and what is so of a kept history.
 use Rattle.std.proofs.Common.{◌≡◌, ◌∙◌, ℕ, zero, suc, List, [], ◌∷◌, ap, map, sym}
 use Rattle.std.proofs.lemmas.Option.{same_Some}
-use Rattle.std.specs.Prelude.{Some, slice_get}
+use Rattle.std.specs.Prelude.{Err, IfOk, IsOk, Ok, OnOk, Result, Some, slice_get}
 
 -- of what a row has at a place, what the other has there is made
 pub made_there : {X Y : Type 0} (f : X → Y) (xs : List X) (k : ℕ) (x : X)
@@ -22,3 +22,10 @@ pub one_there : {Y : Type 0} (ys zs : List Y) (k : ℕ) (y z : Y) → ys ≡ zs
     → slice_get ys k ≡ Some y → slice_get zs k ≡ Some z → y ≡ z
 one_there ys zs k y z same here there =
     same_Some y z (sym here ∙ ap (λ (row : List _). slice_get row k) same ∙ there)
+
+-- what is so where a history was kept is so where totals are told, which needs that
+pub where_kept : {A B E F : Type 0} (P : Type 0) (told : Result A E) (kept : Result B F)
+    → OnOk told (IsOk kept) → OnOk kept P → IfOk told (λ _. P)
+where_kept P (Ok a) (Ok b) needed so = so
+where_kept P (Ok a) (Err e) needed so = absurd (cc)
+where_kept P (Err e) kept needed so = tt

@@ -27,6 +27,7 @@ use Rattle.relay_report.specs.declared.keeping.StartFault.TheVariants as starts
 use Rattle.relay_serve.specs.Files.{IsFaultAt}
 use Rattle.relay_serve.specs.Lives.{Finishes, IsNoStart, IsUnbegun, IsUnstartedAs, RunsRelay}
 use Rattle.relay_serve.specs.Lives.{StartsAsTold}
+use Rattle.relay_serve.specs.RunTotals.{totals_in}
 use Rattle.relay_serve.specs.Running.{CountsOf, IsRelayFault, IsRunFault, IsServeFault}
 use Rattle.relay_serve.specs.Running.{IsStopFault, Ran, unbegun_as}
 use Rattle.relay_serve.specs.Starting.{IsFaultAtAny, IsFaultOfBuffer, IsRefusal}
@@ -228,7 +229,7 @@ finished_gives {S} {J} {L} {s} {j} config shared stores origin peers counts (Ok 
     let same = sym finishes.counted in
     record {
       totals = finishes.totals;
-      counted = subst (λ (n : Counted). IfOk run.totals (λ totals. CountsOf totals n)) same
+      counted = subst (λ (n : Counted). IfOk (totals_in run.totals) (λ totals. CountsOf totals n)) same
           finishes.numbers;
       ran = subst (Ran j config peers) same ran;
       start = tt;

@@ -9,6 +9,7 @@ pub mod Moments
 pub mod Ports
 pub mod Reasons
 pub mod Repairing
+pub mod RunTotals
 pub mod Running
 pub mod Starting
 pub mod Watched

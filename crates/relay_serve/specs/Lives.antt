@@ -22,6 +22,7 @@ use Rattle.relay_report.specs.Serve.{AreOf}
 use Rattle.relay_report.specs.declared.fault.ServeError.{ServeError}
 use Rattle.relay_report.specs.declared.fault.ServeError.TheVariants as faults
 use Rattle.relay_report.specs.declared.keeping.StopFault.TheVariants as stops
+use Rattle.relay_serve.specs.RunTotals.{totals_in}
 use Rattle.relay_serve.specs.Running.{CountsOf, IsRelayFault, IsStopFault, Ran, unbegun_as}
 use Rattle.relay_serve.specs.Starting.{IsRefusal}
 use Rattle.relay_serve.specs.declared.running.Finished.{Finished}
@@ -71,7 +72,7 @@ IsUnbegun g config stores (origins.Stopped text) error =
 abbrev pub stopped_as : {S J L : Type 0} {s : blocks.Ghosts S} {j : store_premises.Ghosts J}
     → Unshut S J L s j → ServeError
 stopped_as (unshut.NotIdle shared) = faults.Stop stops.NotIdle
-stopped_as (unshut.Memory shared) = faults.Memory
+stopped_as (unshut.Memory shared want) = faults.Memory
 stopped_as (unshut.Device number stores) = faults.Stop stops.Device
 
 -- the error tells why this relay isn't stopped: for the first reason that there is
@@ -81,6 +82,18 @@ pub record TellsStop {S J L : Type 0} {s : blocks.Ghosts S} {j : store_premises.
   pub rightly : IsUnshut shared refused
   pub told : error ≡ stopped_as refused
 
+-- A relay whose threads have ended, and of which this was counted, is stopped: what was counted,
+-- totals of its configuration with the same numbers, and a store of each buffer; or why it isn't
+-- stopped, for the first reason that there is.
+pub record StopsCounted {S J L : Type 0} {s : blocks.Ghosts S} {j : store_premises.Ghosts J}
+    (config : Config) (shared : Shared S J L s j) (counts : Counted)
+    (result : Result (Finished S) (Unshut S J L s j)) : Type 0 where
+  pub counted : IfOk result (λ run. run.counted ≡ counts)
+  pub totals : IfOk result (λ run. IfOk (totals_in run.totals) (AreOf config))
+  pub numbers : IfOk result (λ run. IfOk (totals_in run.totals) (λ totals. CountsOf totals counts))
+  pub stores : IfOk result (λ run. length run.stopped.stores.items ≡ buffers_in shared)
+  pub refused : IfErr result (IsUnshut shared)
+
 -- What a relay comes to whose threads have ended, and of which this was counted: what was counted,
 -- totals of its configuration with the same numbers, and a store of each buffer; or the error tells
 -- why it isn't stopped.
@@ -88,8 +101,8 @@ pub record Finishes {S J L : Type 0} {s : blocks.Ghosts S} {j : store_premises.G
     (config : Config) (shared : Shared S J L s j) (counts : Counted)
     (result : Result (Finished S) ServeError) : Type 0 where
   pub counted : IfOk result (λ run. run.counted ≡ counts)
-  pub totals : IfOk result (λ run. IfOk run.totals (AreOf config))
-  pub numbers : IfOk result (λ run. IfOk run.totals (λ totals. CountsOf totals counts))
+  pub totals : IfOk result (λ run. IfOk (totals_in run.totals) (AreOf config))
+  pub numbers : IfOk result (λ run. IfOk (totals_in run.totals) (λ totals. CountsOf totals counts))
   pub stores : IfOk result (λ run. length run.stopped.stores.items ≡ buffers_in shared)
   pub told : IfErr result (TellsStop shared)
   pub fault : IfErr result IsStopFault
@@ -100,8 +113,8 @@ pub record Finishes {S J L : Type 0} {s : blocks.Ghosts S} {j : store_premises.G
 pub record RunsRelay {S J : Type 0} (s : blocks.Ghosts S) (j : store_premises.Ghosts J)
     (config : Config) (stores : List S) (origin : Origin) (peers : List ℕ)
     (result : Result (Finished S) ServeError) : Type 0 where
-  pub totals : IfOk result (λ run. IfOk run.totals (AreOf config))
-  pub counted : IfOk result (λ run. IfOk run.totals (λ totals. CountsOf totals run.counted))
+  pub totals : IfOk result (λ run. IfOk (totals_in run.totals) (AreOf config))
+  pub counted : IfOk result (λ run. IfOk (totals_in run.totals) (λ totals. CountsOf totals run.counted))
   pub ran : IfOk result (λ run. Ran j config peers run.counted)
   pub start : IfErr result (StartsAsTold s config stores origin)
   pub fault : IfErr result (IsRelayFault s config stores)

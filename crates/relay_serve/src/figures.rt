@@ -8,8 +8,10 @@ ghost use Rattle.relay_live.specs.Counts.{accepted_in, posted_in};
 ghost use Rattle.relay_live.specs.Making.{buffers_in};
 ghost use Rattle.relay_report.specs.Serve.{AreOf};
 ghost use Rattle.relay_serve.specs.Figures.{HasNames, figures_by};
+ghost use Rattle.relay_serve.specs.RunTotals.{totals_in};
 ghost use Rattle.relay_serve.specs.Running.{CountsOf};
 
+use crate::run_totals::RunTotals;
 use cyc_block::BlockStore;
 use feed_queue::Counts;
 use line_words::Octets;
@@ -23,6 +25,22 @@ use std::sync::ledger::Ledger;
 
 /// What was counted of a run, with the figures of what its threads share.
 pub(crate) fn totals_of<S: BlockStore + Drop, J: StorePremises, L: Ledger, R: Wait>(
+    rt: &R,
+    alloc: Global,
+    config: &Config,
+    shared: &Shared<S, J, L>,
+    counted: &Counted,
+) -> RunTotals
+    requires buffers { buffers_in shared.now ≡ length config.now.buffers.buffers.items }
+    requires posted { posts_in (posted_in counted.now) ≡ accepted_in counted.now }
+    ensures totals { IfOk (totals_in result) (AreOf config.now) }
+    ensures counted { IfOk (totals_in result) (λ totals. CountsOf totals counted.now) }
+{
+    RunTotals::of(try_totals(rt, alloc, config, shared, counted))
+}
+
+/// The same, where there is memory for it.
+fn try_totals<S: BlockStore + Drop, J: StorePremises, L: Ledger, R: Wait>(
     rt: &R,
     alloc: Global,
     config: &Config,

@@ -2,6 +2,7 @@
 ghost use Rattle.std.specs.Prelude.{◌≡◌, ◌∷◌, [], Ok, Some, All, IfErr, IfOk, OnOk};
 ghost use Rattle.std.specs.Prelude.{length, map};
 ghost use Rattle.relay_serve.specs.Keeping.{TellsKeeping};
+ghost use Rattle.relay_serve.specs.RunTotals.{totals_in};
 ghost use Rattle.relay_serve.specs.Running.{IsStopFault};
 
 use crate::history::keep_history;
@@ -17,7 +18,7 @@ pub(crate) fn keep_finished<S: Synced + Drop, H: HistoryPlace>(
     history: &mut H,
     finished: Finished<S>,
 ) -> Result<Totals, ServeError>
-    ensures totals { IfOk result (λ totals. finished.totals ≡ Ok totals) }
+    ensures totals { IfOk result (λ totals. totals_in finished.totals ≡ Ok totals) }
     ensures kept { H.honest history.old → IfOk result (λ totals.
         H.kept history.new ≡ Some finished.stopped.history.items) }
     ensures lasts { H.honest history.old → IfOk result (λ totals.
@@ -29,14 +30,7 @@ pub(crate) fn keep_finished<S: Synced + Drop, H: HistoryPlace>(
         totals,
         stopped,
     } = finished;
-    let kept = keep_stopped(history, stopped);
-    match kept {
-        Ok(()) => Ok(totals?),
-        Err(error) => {
-            drop(totals);
-            Err(error)
-        }
-    }
+    totals.told(keep_stopped(history, stopped))
 }
 
 /// Keeps what a relay was stopped with.

@@ -22,6 +22,7 @@ mod ports;
 mod reasons;
 mod recovered;
 mod repairing;
+mod run_totals;
 mod running;
 mod serving;
 mod side_thread;

@@ -3,7 +3,7 @@ ghost use Rattle.std.specs.Prelude.{◌≡◌, length};
 ghost use Rattle.live_jobs.specs.Desks.{posts_in};
 ghost use Rattle.relay_live.specs.Counts.{accepted_in, posted_in};
 ghost use Rattle.relay_live.specs.Making.{buffers_in};
-ghost use Rattle.relay_serve.specs.Lives.{Finishes, IsUnstartedAs, stopped_as};
+ghost use Rattle.relay_serve.specs.Lives.{Finishes, IsUnstartedAs, StopsCounted, stopped_as};
 ghost use Rattle.relay_serve.specs.Running.{IsStopFault};
 
 use crate::figures::totals_of;
@@ -47,6 +47,28 @@ pub(crate) fn finish<S: BlockStore + Drop, J: StorePremises, L: Ledger, R: Wait>
     requires posted { posts_in (posted_in counted) ≡ accepted_in counted }
     ensures { Finishes config.now shared counted result }
 {
+    match stop_counted(rt, alloc, config, shared, counted) {
+        Ok(finished) => Ok(finished),
+        Err(refused) => {
+            let error = unstopped(&refused);
+            drop(refused);
+            Err(error)
+        }
+    }
+}
+
+/// Stops it, whether or not there is memory for its totals: only `Shared::shut` refuses.
+fn stop_counted<S: BlockStore + Drop, J: StorePremises, L: Ledger, R: Wait>(
+    rt: &R,
+    alloc: Global,
+    config: &Config,
+    shared: Shared<S, J, L>,
+    counted: Counted,
+) -> Result<Finished<S>, Unshut<S, J, L>>
+    requires buffers { buffers_in shared ≡ length config.now.buffers.buffers.items }
+    requires posted { posts_in (posted_in counted) ≡ accepted_in counted }
+    ensures { StopsCounted config.now shared counted result }
+{
     let totals = totals_of(rt, alloc, config, &shared, &counted);
     match shared.shut(alloc) {
         Ok(stopped) => Ok(Finished {
@@ -56,9 +78,7 @@ pub(crate) fn finish<S: BlockStore + Drop, J: StorePremises, L: Ledger, R: Wait>
         }),
         Err(refused) => {
             drop(totals);
-            let error = unstopped(&refused);
-            drop(refused);
-            Err(error)
+            Err(refused)
         }
     }
 }
@@ -72,7 +92,7 @@ fn unstopped<S: BlockStore + Drop, J: StorePremises, L: Ledger>(
 {
     match refused {
         Unshut::NotIdle(_) => ServeError::Stop(StopFault::NotIdle),
-        Unshut::Memory(_) => ServeError::Memory,
+        Unshut::Memory(_, _) => ServeError::Memory,
         Unshut::Device(_, _) => ServeError::Stop(StopFault::Device),
     }
 }

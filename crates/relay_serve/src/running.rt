@@ -17,6 +17,7 @@ use crate::desk::Desk;
 use crate::files::unformatted;
 use crate::gate::CountingGate;
 use crate::lives::{finish, unstarted};
+use crate::run_totals::RunTotals;
 use crate::side_thread::{Figured, Served, start_side_thread};
 use block_shelf::BeginError;
 use cyc_block::BlockStore;
@@ -26,8 +27,8 @@ use relay_conf::Config;
 use relay_core::Stopped;
 use relay_folder::Origin;
 use relay_live::{Counted, Keeper, LiveError, PeerSource, RegisterRef, Serving, Shared, serve_all};
-use relay_report::{ServeError, Totals};
-use std::alloc::{AllocError, Global};
+use relay_report::ServeError;
+use std::alloc::Global;
 use std::hash::RandomState;
 use std::io::ErrorKind;
 use std::random::RandomSource;
@@ -43,7 +44,7 @@ pub(crate) struct Finished<S> {
     /// What its run counted.
     pub counted: Counted,
     /// The totals, or that there was no memory for them.
-    pub totals: Result<Totals, AllocError>,
+    pub totals: RunTotals,
     /// What it was stopped with.
     pub stopped: Stopped<S>,
 }

@@ -2,6 +2,7 @@
 ghost use Rattle.std.specs.Prelude.{◌≡◌, ◌<◌, ◌^◌, ◌⊎◌, IfErr, IfOk, Ok, length, map};
 ghost use Rattle.relay_serve.specs.Files.{IsFileFault};
 ghost use Rattle.relay_serve.specs.Ports.{IsPortFault};
+ghost use Rattle.relay_serve.specs.RunTotals.{totals_in};
 ghost use Rattle.relay_serve.specs.Running.{IsServeFault, IsStopFault};
 ghost use Rattle.relay_report.specs.Serve.{AreOf, ServeGives};
 ghost use Rattle.file_blocks.specs.Store.{count_of};
@@ -265,7 +266,7 @@ where
     requires stores { map count_of begun.stores.items
         ≡ map (λ buffer. buffer.blocks) config.now.buffers.buffers.items }
     requires few { length access.peer_sources.items < 2 ^ 62 }
-    ensures totals { IfOk result (λ run. IfOk run.totals (AreOf config.now)) }
+    ensures totals { IfOk result (λ run. IfOk (totals_in run.totals) (AreOf config.now)) }
     ensures fault { IfErr result (IsServeFault config.now) }
 {
     let watched = watch(rt, &config.buffers, begun)?;
@@ -287,7 +288,7 @@ where
     requires stores { map count_of (map store_in beginning.stores.items)
         ≡ map (λ buffer. buffer.blocks) config.now.buffers.buffers.items }
     requires few { length access.peer_sources.items < 2 ^ 62 }
-    ensures totals { IfOk result (λ run. IfOk run.totals (AreOf config.now)) }
+    ensures totals { IfOk result (λ run. IfOk (totals_in run.totals) (AreOf config.now)) }
     ensures fault { IfErr result (IsServeFault config.now) }
 {
     let register = ArticleLog::new(alloc)?;

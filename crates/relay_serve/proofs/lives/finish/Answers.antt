@@ -1,12 +1,11 @@
-use Rattle.std.proofs.Common.{refl}
 use Rattle.relay_serve.proofs.lives.finish.Goals as goal
 
 -- one that was stopped has a store of each buffer
 pub returns-in-Ok : goal.returns-in-Ok
 returns-in-Ok g c = record {
-  counted = refl;
-  totals = c.totals_of-totals.ensures.totals;
-  numbers = c.totals_of-totals.ensures.counted;
+  counted = c.in-Ok.ensures.counted;
+  totals = c.in-Ok.ensures.totals;
+  numbers = c.in-Ok.ensures.numbers;
   stores = c.in-Ok.ensures.stores;
   told = tt;
   fault = tt;
