@@ -3,8 +3,8 @@
 
 starting.py CNRELAY LOAD [MEGABYTES [OCTETS [WORK]]]: LOAD is that of bench/load; two buffers of together 1,024 MB without MEGABYTES,
 filled by articles of 4,096 octets without OCTETS; WORK is a folder for the buffers' files. Then it is stopped, and started three
-times: with the files in the system's memory, and, where root runs this, with that dropped before (cold). A start is over once
-`cnrelay report` answers. Over 127.0.0.1.
+times: with the files in the system's memory, and, where root runs this, with that dropped before (cold). Then it is killed, which
+the next start repairs, as often. A start is over once `cnrelay report` answers. Over 127.0.0.1.
 """
 import os
 import signal
@@ -34,6 +34,19 @@ def start(folder, ports):
     return relay, took
 
 
+def start_timed(folder, ports, number, what):
+    """Starts it once more, the last of three times with nothing of it in the system's memory, and tells how long that took."""
+    is_cold = number == 2 and os.geteuid() == 0
+    if is_cold:
+        os.sync()
+        Path("/proc/sys/vm/drop_caches").write_text("3\n")
+    relay, took = start(folder, ports)
+    own, system = relay.seconds()
+    print(f"{what}{', cold' if is_cold else ''}: {took:.2f} seconds, {own:.2f} of the processor and {system:.2f} of the system, "
+          f"{MEGABYTES / took:.0f} MB a second; memory {relay.memory()[0] / 1e6:.0f} MB")
+    return relay
+
+
 def stop(folder, relay):
     begun = time.monotonic()
     asked = subprocess.run([PROGRAM, "stop", str(folder)], capture_output=True, text=True, timeout=600)
@@ -60,17 +73,15 @@ def measure(folder):
         print(told, end="")
         print(f"stop: {took:.2f} seconds, relay.hist {(folder / 'relay.hist').stat().st_size / 1e6:.1f} MB")
         for number in range(3):
-            is_cold = number == 2 and os.geteuid() == 0
-            if is_cold:
-                os.sync()
-                Path("/proc/sys/vm/drop_caches").write_text("3\n")
-            relay, took = start(folder, ports)
-            own, system = relay.seconds()
-            print(f"start{', cold' if is_cold else ''}: {took:.2f} seconds, {own:.2f} of the processor and {system:.2f} of the system, "
-                  f"{MEGABYTES / took:.0f} MB a second; memory {relay.memory()[0] / 1e6:.0f} MB")
+            relay = start_timed(folder, ports, number, "start")
             again, _ = stop(folder, relay)
             if again != told:
                 raise servers.Trouble(f"{again}, not {told}")
+        relay, _ = start(folder, ports)
+        for number in range(3):
+            relay.process.kill()
+            relay.process.communicate()
+            relay = start_timed(folder, ports, number, "start of one that was killed")
     finally:
         relay.stop()
 

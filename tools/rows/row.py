@@ -553,6 +553,8 @@ class Row:
             self.make_fault(ROWS_TAKES=rest)
         elif name == "unseeded":
             self.make_fault(REFUSE_RANDOM="1", GIVE_RANDOM=rest or "0")
+        elif name == "late":
+            self.make_fault(ROWS_LATE=rest)
         elif line == "unmoded":
             self.make_fault(REFUSE_MODES="1")
         elif line == "unlocked":

@@ -7,8 +7,10 @@ import struct
 # A part of a library in front of the C library. What is set stands in the file that ROWS_SHARED
 # names: numbers of 64 bits in the order of NUMBERS below, then the end of a path.
 SHARING = r"""
+#include <dlfcn.h>
 #include <errno.h>
 #include <fcntl.h>
+#include <pthread.h>
 #include <stdint.h>
 #include <stdio.h>
 #include <stdlib.h>
@@ -122,6 +124,16 @@ ssize_t pread(int file, void *octets, size_t count, off_t place) {
 
 ssize_t pwrite(int file, const void *octets, size_t count, off_t place) {
     return pwrite64(file, octets, count, place);
+}
+
+/* Where ROWS_LATE is set each thread begins so many milliseconds after it was asked for. */
+int pthread_create(pthread_t *thread, const pthread_attr_t *attributes, void *(*work)(void *), void *given) {
+    int (*create)(pthread_t *, const pthread_attr_t *, void *(*)(void *), void *);
+    const char *late = getenv("ROWS_LATE");
+    *(void **)&create = dlsym((void *)-1l, "pthread_create");
+    if (late)
+        usleep(1000 * atoi(late));
+    return create(thread, attributes, work, given);
 }
 
 /* Where REFUSE_MODES is set no file's rights can be. */
