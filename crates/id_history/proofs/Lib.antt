@@ -4,7 +4,7 @@ pub mod CountLaws
 mod CountLemmas
 mod EachLemmas
 mod ExpiryLemmas
-mod Fields
+pub mod Fields
 mod FitLemmas
 mod Histories
 pub mod JoinLemmas
@@ -21,4 +21,4 @@ mod RoomLemmas
 mod RoomOfAll
 mod ShardsLemmas
 mod Tests
-mod Tokens
+pub mod Tokens

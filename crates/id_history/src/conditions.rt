@@ -11,8 +11,9 @@ use crate::kept::{History, KeptFeed, KeptId, Setting};
 use cyc_token::Token;
 use std::cmp::Ordering;
 
-/// The last moment that there is, in seconds: the end of the year 9998 in UTC.
-const LAST_MOMENT: u64 = 253_370_764_799;
+/// The last moment that there is, in seconds since 1970-01-01 00:00:00 UTC: the end of the year
+/// 9998 (docs/PROTOCOL.md, Limits).
+pub const LAST_MOMENT: u64 = 253_370_764_799;
 
 /// The most tokens that a feed may have gained.
 const MOST_GAINED: u64 = 1 << 62;

@@ -28,6 +28,7 @@ pub mod text_laws;
 mod writing;
 
 pub use claims::{Offer, Settled, Shard, Take};
+pub use conditions::LAST_MOMENT;
 pub use counts::Counts;
 pub use fault::HistoryError;
 pub use kept::{History, KeptFeed, KeptId, Setting};

@@ -115,7 +115,7 @@ fn members(settings: &Buffers, group: &GroupConf) -> usize
 }
 
 /// Of each feed how many tokens its ring holds.
-fn rings(alloc: Global, feeds: &[relay_conf::Feed]) -> Result<Vec<u32>, AllocError>
+pub fn rings(alloc: Global, feeds: &[relay_conf::Feed]) -> Result<Vec<u32>, AllocError>
     ensures { IfOk result (λ rings. rings.items ≡ map ring_size feeds.now) }
 {
     let mut rings = Vec::with_capacity(alloc, feeds.len())?;

@@ -2,11 +2,11 @@
 ghost use Rattle.std.specs.Prelude.{◌≤◌, vec_capacity};
 
 use crate::event::{CoreError, Output};
-use crate::system::{LAST_MOMENT, System};
+use crate::system::System;
 use block_shelf::BufferSet;
 use cyc_block::BlockStore;
 use cyc_buffer::Front;
-use id_history::{SHARD_COUNT, Shards};
+use id_history::{LAST_MOMENT, SHARD_COUNT, Shards};
 use std::alloc::{AllocError, Global};
 
 /// The buffers that there can be.

@@ -31,10 +31,10 @@ mod watching;
 mod writing;
 
 pub use ahead::{Filled, is_ahead};
-pub use desks::read_history;
+pub use desks::{read_history, rings};
 pub use event::{CoreError, Event, Output};
 pub use peers::{Peer, Peers};
 pub use starting::{refused, unread};
 pub use stopped::{NotStarted, Stopped, Unstopped};
-pub use stopping::next_stop;
+pub use stopping::{GROUP_LIMIT, next_stop};
 pub use system::System;

@@ -12,7 +12,7 @@ use id_history::{History, KeptFeed, write};
 use std::alloc::{AllocError, Global};
 
 /// The groups that there can be.
-const GROUP_LIMIT: usize = 256;
+pub const GROUP_LIMIT: usize = 256;
 
 impl<S: BlockStore> System<S> {
     ghost use Rattle.std.specs.Prelude.{◌≡◌, IfErr, IfOk};

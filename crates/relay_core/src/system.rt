@@ -11,9 +11,6 @@ use relay_conf::Config;
 use std::alloc::Global;
 use std::hash::RandomState;
 
-/// The last moment that there is: the end of the year 9998, UTC.
-pub(crate) const LAST_MOMENT: u64 = 253_370_764_799;
-
 /// A group's jobs that wait, and how far its writer is.
 pub(crate) struct GroupWriter {
     pub(crate) queue: Queue,

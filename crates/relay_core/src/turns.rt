@@ -8,8 +8,9 @@ ghost use Rattle.relay_model.specs.Terms.{last_moment};
 
 use crate::event::{CoreError, Output};
 use crate::peers::{Peer, Peers};
-use crate::system::{LAST_MOMENT, System};
+use crate::system::System;
 use cyc_block::BlockStore;
+use id_history::LAST_MOMENT;
 use line_words::Octets;
 use peer_session::{Answer, Session};
 

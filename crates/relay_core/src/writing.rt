@@ -5,11 +5,12 @@ ghost use Rattle.buffer_group.specs.declared.writer.Writer.TheVariants as writer
 ghost use Rattle.relay_core.specs.Writing.{AdvancesBy, writer_of};
 
 use crate::event::{CoreError, Output};
-use crate::system::{LAST_MOMENT, System, let_go};
+use crate::system::{System, let_go};
 use block_shelf::{Begun, BufferSet};
 use buffer_group::{Job, Writer};
 use cyc_block::BlockStore;
 use cyc_token::Token;
+use id_history::LAST_MOMENT;
 use peer_session::Outcome;
 use std::mem;
 

@@ -13,7 +13,7 @@ use Rattle.relay_log.specs.Journal.{BeginsWithEntry, entry_octets, front_octets}
 use Rattle.relay_log.specs.Journal.{journal_octets}
 use Rattle.relay_log.specs.Reading.{entry_at, front_at}
 use Rattle.relay_log.proofs.Checked.{entry_again}
-use Rattle.relay_log.proofs.Fields.{some_is, wide64, number_again}
+use Rattle.id_history.proofs.Fields.{some_is, wide64, number_again}
 
 -- no value is a value
 pub none_is_some : {A : Type 0} (x : A) → None ≡ Some x → ⊥

@@ -8,12 +8,15 @@ use Rattle.std.specs.Int.{w16, w32, to_be_bytes}
 use Rattle.relay_log.specs.Check.{check}
 use Rattle.relay_log.specs.Journal.{Entry, IsEntry, said_octets, counted_octets, checked_octets}
 use Rattle.relay_log.specs.Journal.{entry_octets}
-use Rattle.relay_log.specs.Reading.{◌>>=◌, number_at, text_at, said_of, checked_at, entry_at}
+use Rattle.id_history.specs.Reading.{◌>>=◌, number_at, text_at}
+use Rattle.relay_log.specs.Reading.{said_of, checked_at, entry_at}
 use Rattle.relay_log.proofs.Entries.{said_takes, said_again, said_fits}
-use Rattle.relay_log.proofs.Fields.{IsBytes, IsBytes-take, bind_some, bind_is, bind_is_none}
-use Rattle.relay_log.proofs.Fields.{guard_some, held_some}
-use Rattle.relay_log.proofs.Fields.{some_is, Takes, Takes-then, wide16, wide32, number_takes}
-use Rattle.relay_log.proofs.Fields.{number_again, text_takes, text_again}
+use Rattle.id_history.proofs.Fields.{IsBytes, IsBytes-take, bind_some, bind_is}
+use Rattle.relay_log.proofs.Fields.{bind_is_none}
+use Rattle.id_history.proofs.Fields.{guard_some, held_some}
+use Rattle.id_history.proofs.Fields.{some_is, Takes, Takes-then, wide32, number_takes}
+use Rattle.relay_log.proofs.Fields.{wide16}
+use Rattle.id_history.proofs.Fields.{number_again, text_takes, text_again}
 use Rattle.relay_log.proofs.Sums.{check_fits}
 
 -- octets that are read as so many are octets

@@ -11,12 +11,14 @@ use Rattle.news_terms.proofs.IdFaults.{id_fault-none}
 use Rattle.relay_model.specs.Terms.{last_moment}
 use Rattle.relay_log.specs.Journal.{Entry, Refused, Stored, Taken, IsEntry, IsDated, IsCounted}
 use Rattle.relay_log.specs.Journal.{said_octets}
-use Rattle.relay_log.specs.Reading.{◌>>=◌, number_at, moment_at, token_at, without_fault}
+use Rattle.id_history.specs.Reading.{◌>>=◌, number_at, token_at, without_fault}
+use Rattle.relay_log.specs.Reading.{moment_at}
 use Rattle.relay_log.specs.Reading.{id_of, refused_of, stored_of, taken_of, said_of}
-use Rattle.relay_log.proofs.Fields.{IsBytes, IsBytes-rest, bind_some, bind_is}
-use Rattle.relay_log.proofs.Fields.{held_some, some_is, Takes, wide16}
-use Rattle.relay_log.proofs.Fields.{wide64, number_takes, number_again}
-use Rattle.relay_log.proofs.Tokens.{token_takes, token_again}
+use Rattle.id_history.proofs.Fields.{IsBytes, IsBytes-rest, bind_some, bind_is}
+use Rattle.id_history.proofs.Fields.{held_some, some_is, Takes}
+use Rattle.relay_log.proofs.Fields.{wide16}
+use Rattle.id_history.proofs.Fields.{wide64, number_takes, number_again}
+use Rattle.id_history.proofs.Tokens.{token_takes, token_again}
 
 -- a moment
 moment_takes : (bytes : List ℕ) (x : ℕ × List ℕ) → IsBytes bytes → moment_at bytes ≡ Some x

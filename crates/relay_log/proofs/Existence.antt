@@ -9,7 +9,7 @@ use Rattle.relay_log.specs.Journal.{entry_octets}
 use Rattle.relay_log.specs.Reading.{entry_at, front_at}
 use Rattle.relay_log.proofs.Beginnings.{front_again, none_begins, zeros_begin_none}
 use Rattle.relay_log.proofs.Checked.{entry_takes, entry_shorter}
-use Rattle.relay_log.proofs.Fields.{IsBytes}
+use Rattle.id_history.proofs.Fields.{IsBytes}
 use Rattle.relay_log.proofs.Texts.{front_takes, both_parts, read_is}
 
 -- octets are those of entries, and others that begin with none

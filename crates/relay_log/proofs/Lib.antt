@@ -7,4 +7,3 @@ mod Existence
 mod Fields
 mod Sums
 mod Texts
-mod Tokens

@@ -12,8 +12,8 @@ use Rattle.relay_log.specs.Journal.{Entry, IsEntry, BeginsWithEntry, HasFront, m
 use Rattle.relay_log.specs.Journal.{entry_octets, front_octets, journal_octets}
 use Rattle.relay_log.specs.Reading.{marked_at, front_at}
 use Rattle.relay_log.proofs.Beginnings.{front_again, none_is_some, written_is}
-use Rattle.relay_log.proofs.Fields.{IsBytes, IsBytes-drop, bind_some, held_some, Takes, Takes-then}
-use Rattle.relay_log.proofs.Fields.{wide64, number_takes}
+use Rattle.id_history.proofs.Fields.{IsBytes, IsBytes-drop, bind_some, held_some, Takes, Takes-then}
+use Rattle.id_history.proofs.Fields.{wide64, number_takes}
 
 -- the mark
 marked_takes : (bytes rest : List ℕ) → IsBytes bytes → marked_at bytes ≡ Some rest

@@ -4,62 +4,17 @@ use Rattle.std.specs.Prelude.{ℕ, zero, suc, ◌+◌, List, [], ◌∷◌, leng
 use Rattle.std.specs.Prelude.{None, nat_lt, nat_le, ◌==◌, if◌then◌else◌}
 use Rattle.std.specs.Int.{Width, w16, w32, w64, byte_len, from_be_bytes}
 use Rattle.std.specs.Str.{bytes_eq}
-use Rattle.news_terms.specs.MessageId.{IdFault, id_fault}
-use Rattle.news_terms.specs.Token.{Token}
+use Rattle.news_terms.specs.MessageId.{id_fault}
 use Rattle.relay_model.specs.Terms.{last_moment}
+use Rattle.id_history.specs.Reading.{◌>>=◌, octet_at, number_at, token_at, text_at, without_fault}
 use Rattle.relay_log.specs.Check.{check}
 use Rattle.relay_log.specs.Journal.{Entry, Refused, Stored, Taken, mark}
-
--- goes on with what was read, where something was
-infixl 10 ◌>>=◌
-abbrev pub ◌>>=◌ : {A B : Type 0} → Option A → (A → Option B) → Option B
-(Some x) >>= f = f x
-None >>= f = None
-
--- one octet
-abbrev pub octet_at : List ℕ → Option (ℕ × List ℕ)
-octet_at [] = None
-octet_at (octet ∷ rest) = Some (octet, rest)
-
--- a number of this width
-abbrev pub number_at : Width → List ℕ → Option (ℕ × List ℕ)
-number_at w bytes =
-    if nat_lt (length bytes) (byte_len w) then None
-    else Some (from_be_bytes w (take (byte_len w) bytes), drop (byte_len w) bytes)
-
--- so many octets
-abbrev pub text_at : ℕ → List ℕ → Option (List ℕ × List ℕ)
-text_at n bytes = if nat_lt (length bytes) n then None else Some (take n bytes, drop n bytes)
 
 -- a moment that there is
 unfoldable pub moment_at : List ℕ → Option (ℕ × List ℕ)
 moment_at bytes = do
   moment ← number_at w64 bytes
   if nat_le moment.0 last_moment then Some moment else None
-
--- the parts of a token
-unfoldable pub token_at : List ℕ → Option (Token × List ℕ)
-token_at bytes = do
-  class ← octet_at bytes
-  buffer ← octet_at class.1
-  cycle ← number_at w32 buffer.1
-  first ← number_at w32 cycle.1
-  len ← number_at w32 first.1
-  Some (
-    record {
-      class = class.0;
-      buffer = buffer.0;
-      cycle = cycle.0;
-      first = first.0;
-      length = len.0;
-    },
-    len.1,
-  )
-
--- a text without a fault
-abbrev pub without_fault : Option IdFault → List ℕ → Option (List ℕ)
-without_fault None text = Some text
-without_fault (Some fault) text = None
 
 -- a message-id, after which nothing follows
 abbrev pub id_of : List ℕ → Option (List ℕ)

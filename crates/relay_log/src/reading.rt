@@ -6,22 +6,20 @@ ghost use Rattle.std.specs.List.{AllByRecursion, flat_map};
 ghost use Rattle.cyc_token.specs.Token.{token_view};
 ghost use Rattle.relay_log.specs.Beginning.{IsLongest};
 ghost use Rattle.relay_log.specs.Journal.{IsEntry, BeginsWithEntry, HasFront, entry_octets};
-ghost use Rattle.relay_log.specs.Reading.{number_at, moment_at, token_at, id_of, refused_of};
-ghost use Rattle.relay_log.specs.Reading.{stored_of, taken_of, said_of, checked_at, entry_at};
-ghost use Rattle.relay_log.specs.Reading.{front_at};
+ghost use Rattle.id_history.specs.Reading.{number_at, token_at};
+ghost use Rattle.relay_log.specs.Reading.{moment_at, id_of, refused_of, stored_of, taken_of};
+ghost use Rattle.relay_log.specs.Reading.{said_of, checked_at, entry_at, front_at};
 ghost use Rattle.relay_log.specs.Views.{entry_view, journal_view};
 
 use crate::check::check;
 use crate::journal::{Entry, Journal};
 use cyc_token::Token;
+use id_history::LAST_MOMENT;
 use nntp_text::{IdError, MsgId};
 use std::alloc::{AllocError, Global};
 
 /// The four octets that a journal begins with.
 pub(crate) const MARK: [u8; 4] = *b"CNL1";
-
-/// The last moment that there is, in seconds: the end of the year 9998 in UTC.
-const LAST_MOMENT: u64 = 253_370_764_799;
 
 /// A number of two octets.
 fn number16(bytes: &[u8]) -> Option<(u16, &[u8])>

@@ -1,6 +1,5 @@
 //! What is found is written down, and the buffers are shut.
-ghost use Rattle.std.specs.Prelude.{◌≡◌, ◌≤◌, length, map, IfErr, IfOk, OnOk};
-ghost use Rattle.feed_queue.specs.Feeds.{ring_size};
+ghost use Rattle.std.specs.Prelude.{◌≡◌, ◌≤◌, length, IfErr, IfOk, OnOk};
 ghost use Rattle.found_again.specs.Lists.{all_of};
 ghost use Rattle.found_texts.specs.Held.{AreHeld, IsReadFault, NoneFailed};
 ghost use Rattle.relay_conf.specs.Settings.{places_of_groups};
@@ -15,18 +14,12 @@ use buffer_repair::FoundBufferSet;
 use cyc_block::BlockStore;
 use found_again::{FoundText, claim_ids, deal, history_again};
 use found_texts::{ReadFault, read_texts};
-use id_history::{History, write};
-use relay_conf::{Config, Feed};
-use relay_core::{Stopped, next_stop, refused};
+use id_history::{History, LAST_MOMENT, write};
+use relay_conf::Config;
+use relay_core::{GROUP_LIMIT, Stopped, next_stop, refused, rings};
 use relay_remains::positions_again;
 use std::alloc::{AllocError, Global};
 use std::hash::RandomState;
-
-/// The groups that there can be.
-const GROUP_LIMIT: usize = 256;
-
-/// The last moment that there is, in seconds since 1970-01-01 00:00:00 UTC.
-const LAST_MOMENT: u64 = 253_370_764_799;
 
 /// The number of the last stop: 0 where there was none.
 pub(crate) fn last_stop(old: Option<&History>) -> u64
@@ -138,26 +131,15 @@ fn tell_texts(
     }
     let ordered = deal(alloc, texts)?;
     let claimed = claim_ids(alloc, hasher, ordered)?;
-    let rings = rings_of(alloc, &config.relay.feeds)?;
+    let sizes = rings(alloc, &config.relay.feeds)?;
     let stop = next_stop(last_stop(old));
     let moment = now.min(LAST_MOMENT);
     let history = history_again(
-        alloc, hasher, &claimed, old, positions, &rings, stop, moment,
+        alloc, hasher, &claimed, old, positions, &sizes, stop, moment,
     )?;
-    drop(rings);
+    drop(sizes);
     drop(claimed);
     let text = write(alloc, &history);
     drop(history);
     text
-}
-
-/// How many tokens the ring of each feed has room for.
-fn rings_of(alloc: Global, feeds: &[Feed]) -> Result<Vec<u32>, AllocError>
-    ensures { IfOk result (λ rings. rings.items ≡ map ring_size feeds.now) }
-{
-    let mut rings = Vec::with_capacity(alloc, feeds.len())?;
-    for feed in feeds {
-        rings.push(feed.ring)?;
-    }
-    Ok(rings)
 }

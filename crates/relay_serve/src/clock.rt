@@ -3,11 +3,9 @@ ghost use Rattle.std.specs.Prelude.{◌≡◌, ◌≤◌};
 ghost use Rattle.relay_model.specs.Terms.{last_moment};
 ghost use Rattle.relay_serve.specs.Moments.{within};
 
+use id_history::LAST_MOMENT;
 use live_session::Clock;
 use std::time;
-
-/// The last moment that the relay knows (docs/PROTOCOL.md, Limits).
-const LAST_MOMENT: u64 = 253_370_764_799;
 
 /// The clock of the machine, within the limits of the relay's moments. Where it can't be asked it
 /// is the first moment, by which no article's date is due.

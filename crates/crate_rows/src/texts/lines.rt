@@ -6,14 +6,12 @@ use crate::texts::articles::put_identities;
 use crate::texts::walks::{Look, put_look, walk};
 use article_parse::{is_blank, unfolded};
 use date_rules::{seconds, stamp};
+use id_history::LAST_MOMENT;
 use nntp_text::MsgId;
 use path_rules::loops;
 use std::alloc::AllocError;
 use stream_cut::stuff;
 use uwild::Expr;
-
-/// The last moment that has a stamp.
-const LAST_MOMENT: u64 = 253_370_764_799;
 
 /// Writes the answer of a call of one cell.
 pub fn of_line(call: usize, line: &[u8], sheet: &Sheet) {

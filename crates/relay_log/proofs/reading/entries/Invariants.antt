@@ -2,7 +2,7 @@ use Rattle.std.proofs.Common.{◌≡◌, ◌++◌, map, length}
 use Rattle.std.specs.List.{AllByRecursion, flat_map}
 use Rattle.relay_log.specs.Journal.{IsEntry, entry_octets}
 use Rattle.relay_log.specs.Views.{entry_view}
-use Rattle.relay_log.proofs.Fields.{IsBytes}
+use Rattle.id_history.proofs.Fields.{IsBytes}
 use Rattle.relay_log.proofs.reading.entries.Given as goal
 
 -- the octets are those of the entries so far, and what is left

@@ -1,6 +1,6 @@
 use Rattle.std.proofs.Common.{◌∙◌, ap, sym, arith, List, ℕ, Some}
 use Rattle.cyc_token.specs.Token.{token_view}
-use Rattle.relay_log.proofs.Tokens.{short_token, token_of}
+use Rattle.id_history.proofs.Tokens.{short_token, token_of}
 use Rattle.relay_log.proofs.reading.token.Goals as goal
 
 -- the first octets are those of the token

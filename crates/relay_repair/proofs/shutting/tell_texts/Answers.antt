@@ -11,7 +11,7 @@ write-text-requires c =
     (omega (
       arith,
       c.deref-3.ensures,
-      ap length c.in_ok-rings.ensures,
+      ap length c.in_ok-sizes.ensures,
       length-map c.deref.result.now ring_size,
       ap length c.deref.ensures.value,
       few_feeds c.args.config.now,
