@@ -22,6 +22,12 @@ newest_cycle found_set number =
     let tokens = tokens_at found_set number in
     option_map cycle_of (slice_get tokens (length tokens - 1))
 
+-- of each of these buffers the cycle of the newest article that is found in it
+abbrev pub cycles_in : {S : Type 0} {g : Ghosts S} → FoundBufferSet S g → List Buffer
+    → List (Option ℕ)
+cycles_in found_set buffers =
+    map (λ (buffer : Buffer). newest_cycle found_set buffer.number) buffers
+
 -- the place is that of the last of the greatest of these numbers, or the first where there is none
 pub record IsLatest (cycles : List (Option ℕ)) (place : ℕ) : Type 0 where
   pub none : ((j c : ℕ) → slice_get cycles j ≡ Some (Some c) → ⊥) → place ≡ 0
@@ -44,7 +50,7 @@ abbrev pub IsPositionBy : {S : Type 0} {g : Ghosts S} → Mode → List Buffer �
 IsPositionBy Interleave buffers found_set kept position =
     position ≡ (if nat_lt kept (length buffers) then kept else 0)
 IsPositionBy Sequential buffers found_set kept position =
-    IsLatest (map (λ (buffer : Buffer). newest_cycle found_set buffer.number) buffers) position
+    IsLatest (cycles_in found_set buffers) position
 
 -- the position of the group at this place of a list is that one
 pub record HasPosition {S : Type 0} {g : Ghosts S} (old : Option (Bor History))
@@ -64,12 +70,6 @@ pub record ArePositionsAgain {S : Type 0} {g : Ghosts S} (groups : List Group)
       → HasPosition old found_set positions h group
 
 -- STEP BY STEP
-
--- of each of these buffers the cycle of the newest article that is found in it
-abbrev pub cycles_in : {S : Type 0} {g : Ghosts S} → FoundBufferSet S g → List Buffer
-    → List (Option ℕ)
-cycles_in found_set buffers =
-    map (λ (buffer : Buffer). newest_cycle found_set buffer.number) buffers
 
 -- the position of a group in whose buffers the newest articles are of these cycles
 abbrev pub IsPositionIn : Mode → (cycles : List (Option ℕ)) → (kept position : ℕ) → Type 0
