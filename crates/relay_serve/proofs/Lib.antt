@@ -8,3 +8,4 @@ mod Rows
 mod ServeFaults
 mod Sizes
 mod Starts
+mod Uncalled

@@ -12,6 +12,7 @@ use Rattle.cyc_block.specs.declared.store.BlockStore.{Ghosts}
 use Rattle.relay_conf.specs.declared.settings.Config.{Config}
 use Rattle.relay_core.specs.declared.stopped.NotStarted.{NotStarted}
 use Rattle.relay_core.specs.declared.stopped.NotStarted.TheVariants as nots
+use Rattle.relay_core.specs.declared.stopped.Stopped.{Stopped}
 use Rattle.relay_serve.specs.Adding.{IsHistoryFault}
 use Rattle.relay_serve.specs.Lives.{IsUnstartedAs}
 use Rattle.relay_serve.specs.Running.{IsRelayFault, IsServeFault, unbegun_as}
@@ -63,17 +64,17 @@ pub both_ok : {T E : Type 0} (r : Result T E) (P Q : T → Type 0) → IfOk r P 
 both_ok (Ok x) P Q p q = (p, q)
 both_ok (Err e) P Q p q = tt
 
--- the history that a repair gives over stores whose heads were looked at is that of one over those
--- before
+-- what a repair gives over stores whose heads were looked at is what one gives over those before
 pub repair_on : {S : Type 0} {g : Ghosts S} {failed : Option ℕ} {old new : List S}
-    (config : Config) (text written : List ℕ) → AreEach (IsUnwritten g failed) old new
-    → IsOfRepair g config text new written → IsOfRepair g config text old written
-repair_on config text written are of = record {
+    (config : Config) (text : List ℕ) (stopped : Stopped S) → AreEach (IsUnwritten g failed) old new
+    → IsOfRepair g config text new stopped → IsOfRepair g config text old stopped
+repair_on config text stopped are of = record {
   now = of.now;
   back = of.back;
   repairs = (
     of.repairs.0,
     of.repairs.1,
-    repairs_on config of.repairs.0 of.now of.back written are of.repairs.2,
+    repairs_on config of.repairs.0 of.now of.back stopped.history.items are of.repairs.2,
   );
+  uncalled = of.uncalled;
 }

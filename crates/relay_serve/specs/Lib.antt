@@ -12,4 +12,5 @@ pub mod Repairing
 pub mod RunTotals
 pub mod Running
 pub mod Starting
+pub mod Synced
 pub mod Watched

@@ -2,6 +2,8 @@
 use Rattle.std.specs.Prelude.{◌≡◌, ◌⊎◌, ◌∷◌, ℕ, Bool, true, false, List, [], All, Option, None}
 use Rattle.std.specs.Prelude.{Some}
 use Rattle.std.specs.Global.{Vec}
+use Rattle.block_shelf.specs.Each.{AreEach}
+use Rattle.block_shelf.specs.Starting.{IsUnwritten}
 use Rattle.cyc_block.specs.declared.store.BlockStore.{Ghosts}
 use Rattle.relay_conf.specs.declared.settings.Config.{Config}
 use Rattle.relay_core.specs.declared.stopped.Stopped.{Stopped}
@@ -12,6 +14,7 @@ use Rattle.relay_remains.specs.Heads.{HaveEnded}
 use Rattle.relay_remains.specs.declared.heads.Standing.TheVariants as standings
 use Rattle.relay_repair.specs.Repairing.{Repairs}
 use Rattle.relay_serve.specs.Adding.{IsStopIn}
+use Rattle.relay_serve.specs.Synced.{IsUncalled}
 
 -- the history that a text is, none where it is empty
 abbrev pub kept_text : List ℕ → Option (List ℕ)
@@ -47,23 +50,26 @@ pub record IsUnstoppedBy {S : Type 0} (g : Ghosts S) (config : Config) (text : L
   pub last : IsLastStop config (kept_text text) stop
   pub said : IsSaidByHeads g (kept_text text) stop stores unstopped
 
--- a text is the history that a repair of these stores gives, whatever it did to them afterwards
+-- stores and history are those that a repair of these stores gives; the devices have since been
+-- had take what it wrote
 pub record IsOfRepair {S : Type 0} (g : Ghosts S) (config : Config) (text : List ℕ)
-    (stores : List S) (written : List ℕ)
+    (stores : List S) (stopped : Stopped S)
     : Type 0 where
   pub now : ℕ
   pub back : List S
-  pub repairs : Repairs g config stores (kept_text text) now back written
+  pub repairs : Repairs g config stores (kept_text text) now back stopped.history.items
+  pub uncalled : AreEach (IsUncalled g) back stopped.stores.items
 
--- What was left of a relay is gone on with as it is where it was stopped; where it wasn't, with
--- what a repair of it gives, which is kept.
+-- What was left of a relay is gone on with as it is, unwritten, where it was stopped; where it
+-- wasn't, with what a repair of it gives, which is kept.
 abbrev pub GoesOnFrom : {S H : Type 0} → (is_synced : S → Type 0) → Ghosts S → places.Ghosts H
     → Config → (left : Stopped S) → (stopped : Stopped S) → (old new : H) → Type 0
 GoesOnFrom is_synced g h config left stopped old new =
     (IsUnstoppedBy g config left.history.items left.stores.items false
-    × (stopped.history ≡ left.history) × (new ≡ old))
+    × (stopped.history ≡ left.history)
+    × AreEach (IsUnwritten g None) left.stores.items stopped.stores.items × (new ≡ old))
     ⊎ (IsUnstoppedBy g config left.history.items left.stores.items true
-    × IsOfRepair g config left.history.items left.stores.items stopped.history.items
+    × IsOfRepair g config left.history.items left.stores.items stopped
     × IsKeptAs is_synced h stopped.history.items stopped.stores.items old new)
 
 -- what a relay begins over, as what was left of one

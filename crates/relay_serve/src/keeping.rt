@@ -1,13 +1,16 @@
 //! What a relay was stopped with is kept.
 ghost use Rattle.std.specs.Prelude.{◌≡◌, ◌∷◌, [], Ok, Some, All, IfErr, IfOk, OnOk};
 ghost use Rattle.std.specs.Prelude.{length, map};
+ghost use Rattle.block_shelf.specs.Each.{AreEach};
 ghost use Rattle.relay_serve.specs.Keeping.{TellsKeeping};
 ghost use Rattle.relay_serve.specs.RunTotals.{totals_in};
 ghost use Rattle.relay_serve.specs.Running.{IsStopFault};
+ghost use Rattle.relay_serve.specs.Synced.{IsUncalled};
 
 use crate::history::keep_history;
 use crate::running::Finished;
 use crate::synced::{Synced, sync_all};
+use cyc_block::BlockStore;
 use relay_core::Stopped;
 use relay_folder::HistoryPlace;
 use relay_report::{ServeError, StopFault, Totals};
@@ -62,6 +65,7 @@ pub(crate) fn keep_synced<S: Synced, H: HistoryPlace>(
     text: &[u8],
 ) -> Result<(), ServeError>
     ensures synced { OnOk result (All S.is_synced stores.new) }
+    ensures uncalled { AreEach (IsUncalled ⟦<S as BlockStore>⟧) stores.old stores.new }
     ensures blocks { map (λ store. length (S.blocks store)) stores.new
         ≡ map (λ store. length (S.blocks store)) stores.old }
     ensures told { IfErr result (TellsKeeping S.is_synced H.HistoryPlace text.now stores.new

@@ -10,6 +10,7 @@ ghost use Rattle.block_shelf.specs.Each.{AreEach};
 ghost use Rattle.block_shelf.specs.Starting.{IsUnwritten};
 ghost use Rattle.relay_serve.specs.Running.{IsServeFault, IsStopFault};
 ghost use Rattle.relay_serve.specs.Starting.{IsRefusal};
+ghost use Rattle.relay_serve.specs.Synced.{IsUncalled};
 ghost use Rattle.block_shelf.specs.declared.starting.StopFault.TheVariants as stops;
 
 use crate::begun::{Beginning, Looked};
@@ -223,8 +224,8 @@ where
     ensures stores { IfOk result (λ stopped.
         map (λ store. length (S.blocks store)) stopped.stores.items
         ≡ map (λ store. length (S.blocks store)) stores.items) }
-    ensures repaired { IfOk result (λ stopped. IsOfRepair ⟦<S as BlockStore>⟧ config.now text.items
-        stores.items stopped.history.items) }
+    ensures repaired { IfOk result
+        (IsOfRepair ⟦<S as BlockStore>⟧ config.now text.items stores.items) }
     ensures kept { IfOk result (λ stopped. IsKeptAs S.is_synced H.HistoryPlace
         stopped.history.items stopped.stores.items history.old history.new) }
     ensures fault { IfErr result (IsServeFault config.now) }
@@ -259,6 +260,8 @@ fn keep_repaired<S: Synced + Drop, H: HistoryPlace>(
         map (λ store. length (S.blocks store)) kept.stores.items
         ≡ map (λ store. length (S.blocks store)) stopped.stores.items) }
     ensures text { IfOk result (λ kept. kept.history.items ≡ stopped.history.items) }
+    ensures uncalled { IfOk result (λ kept.
+        AreEach (IsUncalled ⟦<S as BlockStore>⟧) stopped.stores.items kept.stores.items) }
     ensures kept { IfOk result (λ kept. IsKeptAs S.is_synced H.HistoryPlace kept.history.items
         kept.stores.items history.old history.new) }
     ensures fault { IfErr result IsStopFault }

@@ -1,5 +1,7 @@
 //! Stores whose devices are had take what was written.
-ghost use Rattle.std.specs.Prelude.{◌≡◌, All, Any, OnErr, OnOk, length, map};
+ghost use Rattle.std.specs.Prelude.{◌≡◌, ℕ, All, Any, OnErr, OnOk, length, map};
+ghost use Rattle.block_shelf.specs.Each.{AreEach};
+ghost use Rattle.relay_serve.specs.Synced.{IsUncalled};
 
 use cyc_block::{BlockStore, DeviceFailed};
 
@@ -8,10 +10,12 @@ pub(crate) trait Synced: BlockStore {
     /// The device was had take all that was written, and has said that it did.
     ghost is_synced: { Self → Type 0 };
 
-    /// Has the device take all that was written.
+    /// Has the device take all that was written. Nothing is read or written.
     fn sync(&mut self) -> Result<(), DeviceFailed>
         ensures synced { OnOk result (is_synced self.new) }
         ensures failed { OnErr result (¬ is_synced self.new) }
+        ensures uncalled { (number : ℕ)
+            → IsUncalled ⟦<Self as BlockStore>⟧ number self.old self.new }
         ensures blocks { length (Self.blocks self.new) ≡ length (Self.blocks self.old) };
 }
 
@@ -20,6 +24,7 @@ pub(crate) trait Synced: BlockStore {
 pub(crate) fn sync_all<S: Synced>(stores: &mut [S]) -> Result<(), DeviceFailed>
     ensures synced { OnOk result (All S.is_synced stores.new) }
     ensures failed { OnErr result (Any (λ store. ¬ S.is_synced store) stores.new) }
+    ensures uncalled { AreEach (IsUncalled ⟦<S as BlockStore>⟧) stores.old stores.new }
     ensures blocks { map (λ store. length (S.blocks store)) stores.new
         ≡ map (λ store. length (S.blocks store)) stores.old }
 {

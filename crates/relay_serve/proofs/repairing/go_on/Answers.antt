@@ -17,7 +17,7 @@ returns-in-Ok-default-true-clause-goes g c =
     (λ stopped both.
     inr (
       told,
-      repair_on c.args.config.now c.args.left.history.items stopped.history.items
+      repair_on c.args.config.now c.args.left.history.items stopped
           c.in-Ok-default-true.ensures.unwritten both.0,
       both.1,
     ))

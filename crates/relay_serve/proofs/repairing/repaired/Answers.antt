@@ -16,6 +16,7 @@ returns-in_ok-stopped-in-Ok-clause-repaired g c = record {
       (subst (λ text. Repairs g.S.BlockStore c.args.config.now c.args.stores.items text
       c.now-now.result c.in-Ok.stopped.stores.items c.in-Ok.stopped.history.items)
       (c.history_of.ensures ∙ ap kept_text c.deref.ensures.value) c.in-Ok.ensures.repaired);
+  uncalled = c.in_ok-stopped-in-Ok.ensures.uncalled;
 }
 
 -- why it isn't repaired is told
