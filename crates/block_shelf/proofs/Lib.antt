@@ -2,6 +2,7 @@ pub mod Armed
 pub mod BegunBufferSet
 pub mod BegunHistories
 pub mod EachLemmas
+pub mod Filled
 pub mod GivenBack
 pub mod HostFaults
 pub mod NewBufferSet

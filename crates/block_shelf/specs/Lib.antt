@@ -3,6 +3,7 @@ pub mod Calls
 pub mod Devices
 pub mod Each
 pub mod Figures
+pub mod Filled
 pub mod Filling
 pub mod Heads
 pub mod Histories

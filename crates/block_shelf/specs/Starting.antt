@@ -7,11 +7,11 @@ use Rattle.std.specs.Prelude.{length, min, All, Option, None, Some, slice_get}
 use Rattle.std.specs.Prelude.{vec_len, vec_capacity}
 use Rattle.cyc_block.specs.declared.store.BlockStore.{Ghosts}
 use Rattle.cyc_buffer.specs.Agreement.{Agrees, store_of}
-use Rattle.cyc_buffer.specs.Head.{has_open_head, inside, is_busy, stop_of}
+use Rattle.cyc_buffer.specs.Head.{has_open_head, inside, is_busy, said_of, stop_of}
 use Rattle.cyc_buffer.specs.History.{History}
 use Rattle.cyc_buffer.specs.Reads.{StaysHeld}
 use Rattle.cyc_buffer.specs.Starting.{IsOutside, IsReason, Starts, blocks_in}
-use Rattle.cyc_buffer.specs.Stopped.{HoldsStopped}
+use Rattle.cyc_buffer.specs.Stopped.{HoldsStopped, Says}
 use Rattle.cyc_buffer.specs.declared.answers.StartError.{StartError}
 use Rattle.cyc_buffer.specs.declared.answers.StartError.TheVariants as errors
 use Rattle.cyc_buffer.specs.declared.buffer.Buffer.{Buffer}
@@ -19,7 +19,7 @@ use Rattle.cyc_buffer.specs.declared.unopened.Unopened.{Unopened}
 use Rattle.cyc_token.specs.declared.Token as code
 use Rattle.news_terms.specs.Courses.{Course, IsLaid}
 use Rattle.news_terms.specs.Fronts.{FitsGroup}
-use Rattle.news_terms.specs.HeadBlocks.{head_blocks}
+use Rattle.news_terms.specs.HeadBlocks.{Closed, head_blocks}
 use Rattle.news_terms.specs.Places as places
 use Rattle.news_terms.specs.Places.{Extent, Group}
 use Rattle.news_terms.specs.Settings.{AreSound}
@@ -135,6 +135,9 @@ pub record IsStartedOver {S : Type 0} {g : Ghosts S} (number : ℕ) (store : S)
   pub tokens : List code.Token
   pub starts : g.honest store → Starts (g.heads store) (g.blocks store)
       (buffer_over g number store) (stop_of (inside unopened)) tokens
+  -- it is as far as its head block says
+  pub said : g.honest store → Says (g.heads store) (buffer_over g number store)
+      (said_of Closed (stop_of (inside unopened)) (inside unopened))
   pub calls : g.calls (store_of (inside unopened))
       ≡ g.calls store + head_blocks (length (g.blocks store)) + blocks_in tokens
   pub no_failure : g.failures (store_of (inside unopened)) ≡ g.failures store

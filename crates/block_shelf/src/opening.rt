@@ -2,12 +2,12 @@
 ghost use Rattle.std.specs.Prelude.{◌≡◌, ◌≤◌, [], vec_len, vec_capacity};
 
 use crate::buffer_set::{BufferSet, PlacedGroup};
-use crate::figures::BufferFigures;
 use crate::giving::{give_back, give_up};
 use crate::starting::{StopFault, Unstarted};
 use crate::stopping::number_of;
 use cyc_block::BlockStore;
-use cyc_buffer::{Buffer, Unopened};
+use cyc_buffer::{Buffer, Filled, Unopened};
+use std::alloc::{AllocError, Global};
 
 /// A buffer set that was started, whose buffers' head blocks say closed yet. It begins nothing
 /// before they are open.
@@ -42,13 +42,11 @@ enum Opening<S: BlockStore> {
 }
 
 impl<S: BlockStore + Drop> UnopenedBufferSet<S> {
-    ghost use Rattle.std.specs.Prelude.{◌≡◌, ℕ, IfErr, IfOk, option_map, slice_get};
-    ghost use Rattle.block_shelf.specs.Figures.{figures_view};
+    ghost use Rattle.std.specs.Prelude.{◌≡◌, IfErr, IfOk, map};
+    ghost use Rattle.cyc_buffer.specs.Filled.{filled_view};
+    ghost use Rattle.block_shelf.specs.Filled.{filled_in};
     ghost use Rattle.block_shelf.specs.Heads.{IsOpened, IsUnopened, KeepsOpened};
-    ghost use Rattle.block_shelf.specs.Starting.{HoldsStarted, stores_inside};
-    ghost use Rattle.relay_model.specs.Figures.{buffer_figures};
-    ghost use Rattle.relay_model.specs.State.{State};
-    ghost use Rattle.relay_model.specs.Terms.{Terms};
+    ghost use Rattle.block_shelf.specs.Starting.{stores_inside};
 
     /// Says on each device, in the order of the buffers, that its buffer may change from here.
     /// Takes no memory.
@@ -98,20 +96,16 @@ impl<S: BlockStore + Drop> UnopenedBufferSet<S> {
         give_back(buffers, stores)
     }
 
-    /// The figures of the buffer of this number, where there is one. Takes no memory.
-    pub fn figures(&self, number: u8) -> Option<BufferFigures>
-        ensures { (w : Terms) (σ : State) (failures : ℕ → ℕ)
-            → HoldsStarted self.now w σ.begun σ.kept failures
-            → option_map figures_view result
-            ≡ option_map (buffer_figures w σ) (slice_get w.buffers number) }
+    /// How far its buffers are filled, in the order of their numbers.
+    pub fn filled(&self, alloc: Global) -> Result<Vec<Filled>, AllocError>
+        ensures { IfOk result (λ filled.
+            map filled_view filled.items ≡ map filled_in self.now.buffers.items) }
     {
-        let buffer = self.buffers.get(usize::from(number))?.buffer();
-        Some(BufferFigures {
-            cycle: buffer.cycle(),
-            front: buffer.front(),
-            begun: buffer.begun(),
-            stored: buffer.stored(),
-        })
+        let mut filled = Vec::with_capacity(alloc, self.buffers.len())?;
+        for unopened in &self.buffers {
+            filled.push_reserved(unopened.buffer().filled());
+        }
+        Ok(filled)
     }
 }
 

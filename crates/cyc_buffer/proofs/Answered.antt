@@ -14,7 +14,8 @@ use Rattle.cyc_buffer.specs.Marks.{is_marked}
 use Rattle.cyc_buffer.specs.Reads.{HasStarted, IsRefusedBy}
 use Rattle.cyc_buffer.specs.BufferState.{Keeps, buffer_of, numbers_in}
 use Rattle.cyc_buffer.specs.Starting.{IsOutside, IsReason, ListsLive, Starts}
-use Rattle.cyc_buffer.specs.Stopped.{HoldsStopped, IsDamaged, IsLiveToken, IsWhole, numbers_of}
+use Rattle.cyc_buffer.specs.Stopped.{HoldsStopped, IsDamaged, IsLiveToken, IsWhole, Says}
+use Rattle.cyc_buffer.specs.Stopped.{numbers_of}
 use Rattle.cyc_buffer.specs.Stopped.{HeadAbove, CycleBelow, BegunAbove, StoredAbove, BitBeyond}
 use Rattle.cyc_buffer.specs.Stopped.{NotWhole, IsRising, has_bit, used_of}
 use Rattle.cyc_buffer.specs.declared.answers.StartError.{StartError}
@@ -65,6 +66,10 @@ module _ (heads blocks : List (List ℕ)) (buffer : Buffer) (stop : ℕ) (buffer
         (all_rising heads blocks s.numbers buffer_state.starts.words.items tokens s.some_kept
         buffer_state.kept.words.items s.bits s.sound s.unkept s.all);
   }
+
+  -- the register is as far as the head block says
+  pub says_of : Says heads buffer (numbers_in buffer_state Closed stop)
+  says_of = subst (Says heads buffer) (sym s.buffer_state_is) s.says.says
 
   -- What a start gives back of a history that the device holds.
   module _ (kept_stop : ℕ) (h : History) (held : HoldsStopped heads blocks kept_stop h) where

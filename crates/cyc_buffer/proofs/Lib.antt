@@ -4,6 +4,7 @@ pub mod Finished
 mod Keeping
 mod LookLemmas
 mod Beginning
+pub mod Fillings
 pub mod Finishing
 pub mod OpenLemmas
 mod Contents

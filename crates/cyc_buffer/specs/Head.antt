@@ -1,11 +1,12 @@
 -- What a buffer's head blocks have to do with it, and what a stop and an opening of its head leave.
 use Rattle.std.specs.Prelude.{◌≡◌, ◌<◌, ◌+◌, ◌⊎◌, ℕ, Bool, true, false, is_some, length}
+use Rattle.news_terms.specs.HeadBlocks.{HeadBlock, HeadState}
 use Rattle.cyc_block.specs.Store.{block_at}
 use Rattle.cyc_block.specs.declared.store.BlockStore.{Ghosts}
 use Rattle.cyc_buffer.specs.Agreement.{Agrees, store_of, buffer_state_of}
 use Rattle.cyc_buffer.specs.Answers.{fault_of}
 use Rattle.cyc_buffer.specs.History.{History}
-use Rattle.cyc_buffer.specs.BufferState.{buffer_of}
+use Rattle.cyc_buffer.specs.BufferState.{buffer_of, numbers_in}
 use Rattle.cyc_buffer.specs.Stopped.{TellsStarts}
 use Rattle.cyc_buffer.specs.declared.answers.BufError.{BufError}
 use Rattle.cyc_buffer.specs.declared.answers.BufError.TheVariants as errors
@@ -26,6 +27,10 @@ inside unopened = unopened.buffer
 -- the number of the stop that the buffer was started from; 0 where it was made anew
 abbrev pub stop_of : {S : Type 0} {g : Ghosts S} → Buffer S g → ℕ
 stop_of buffer = buffer.stop
+
+-- what head block 0 would say of the buffer in this state, under the number of a stop
+abbrev pub said_of : {S : Type 0} {g : Ghosts S} → HeadState → (stop : ℕ) → Buffer S g → HeadBlock
+said_of state stop buffer = numbers_in (buffer_state_of buffer) state stop
 
 -- a write is open
 abbrev pub is_busy : {S : Type 0} {g : Ghosts S} → Buffer S g → Bool

@@ -3,6 +3,7 @@ pub mod Answers
 pub mod Arming
 pub mod Calls
 pub mod Crash
+pub mod Filled
 pub mod FoundHistory
 pub mod Head
 pub mod History

@@ -1,13 +1,13 @@
 //! How a buffer is started from what it left on its device.
 ghost use Rattle.std.specs.Prelude.{◌≡◌, ◌+◌, ◌<◌, ℕ, true, false, length, IfErr, IfOk, OnOk};
-ghost use Rattle.news_terms.specs.HeadBlocks.{head_blocks};
+ghost use Rattle.news_terms.specs.HeadBlocks.{Closed, head_blocks};
 ghost use Rattle.cyc_buffer.specs.Agreement.{Agrees, store_of};
-ghost use Rattle.cyc_buffer.specs.Head.{has_open_head, inside, is_busy, stop_of};
+ghost use Rattle.cyc_buffer.specs.Head.{has_open_head, inside, is_busy, said_of, stop_of};
 ghost use Rattle.cyc_buffer.specs.History.{History};
 ghost use Rattle.cyc_buffer.specs.Reads.{IsBlamed, StaysHeld};
 ghost use Rattle.cyc_buffer.specs.Remembered.{AreWithin, ListsStarts, is_start};
 ghost use Rattle.cyc_buffer.specs.Starting.{IsOutside, IsReason, ListsLive, Starts, blocks_in};
-ghost use Rattle.cyc_buffer.specs.Stopped.{HoldsStopped};
+ghost use Rattle.cyc_buffer.specs.Stopped.{HoldsStopped, Says};
 
 use crate::answers::StartError;
 use crate::buffer::Buffer;
@@ -81,6 +81,12 @@ impl<S: BlockStore> Buffer<S> {
               blocks = length (S.blocks store);
               first_cycle = first_cycle;
             }) refused.error) }
+        // The buffer is as far as its head block says.
+        ensures said { S.honest store → IfOk result (λ started. Says (S.heads store) (record {
+          number = number;
+          blocks = length (S.blocks store);
+          first_cycle = first_cycle;
+        }) (said_of Closed started.stop (inside started.buffer))) }
         // The buffer is idle, its head block isn't open, and it remembers the stop.
         ensures unopened { IfOk result (λ started. has_open_head (inside started.buffer) ≡ false) }
         ensures idle { IfOk result (λ started. is_busy (inside started.buffer) ≡ false) }

@@ -107,12 +107,13 @@ impl<S: BlockStore, J: StorePremises> UnopenedNumbered<S, J> {
 impl<S: BlockStore, J: StorePremises> NumberedBuffer<S, J> {
     ghost use Rattle.std.specs.Prelude.{◌≡◌, ℕ, Bool, true, false, length, IfErr, IfOk};
     ghost use Rattle.cyc_buffer.specs.Agreement.{Agrees, store_of};
-    ghost use Rattle.cyc_buffer.specs.Head.{has_open_head, inside, is_busy, stop_of};
+    ghost use Rattle.cyc_buffer.specs.Head.{has_open_head, inside, is_busy, said_of, stop_of};
     ghost use Rattle.cyc_buffer.specs.History.{History};
     ghost use Rattle.cyc_buffer.specs.Reads.{IsBlamed, StaysHeld};
     ghost use Rattle.cyc_buffer.specs.Remembered.{AreWithin, ListsStarts, is_start};
     ghost use Rattle.cyc_buffer.specs.Starting.{ListsLive};
-    ghost use Rattle.cyc_buffer.specs.Stopped.{HoldsStopped};
+    ghost use Rattle.cyc_buffer.specs.Stopped.{HoldsStopped, Says};
+    ghost use Rattle.news_terms.specs.HeadBlocks.{Closed};
     ghost use Rattle.live_store.specs.Started.{AreArticles, IsMerelyRead, IsStarted, IsUnentered};
     ghost use Rattle.live_store.specs.Started.{IsRefusedFor, IsStartable, WasStopped, numbers_on};
     ghost use Rattle.live_store.specs.Started.{unopened_in};
@@ -179,6 +180,12 @@ impl<S: BlockStore, J: StorePremises> NumberedBuffer<S, J> {
               blocks = length (S.blocks store);
               first_cycle = first_cycle;
             }) refused.error) }
+        // The buffer is as far as its head block says.
+        ensures said { S.honest store → IfOk result (λ made. Says (S.heads store) (record {
+          number = number;
+          blocks = length (S.blocks store);
+          first_cycle = first_cycle;
+        }) (said_of Closed made.1 (inside (unopened_in made.0)))) }
         // The buffer is idle, its head block isn't open, and it remembers the stop.
         ensures unopened { IfOk result (λ made.
             has_open_head (inside (unopened_in made.0)) ≡ false) }

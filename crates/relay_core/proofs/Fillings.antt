@@ -32,10 +32,11 @@ use Rattle.relay_model.specs.Figures as model
 use Rattle.relay_model.specs.State.{State}
 use Rattle.relay_model.specs.Terms.{Terms}
 use Rattle.relay_core.proofs.Reporting.{numbered_more}
-use Rattle.relay_core.specs.Ahead.{Filled, all_stored, filled_at, filled_of, filled_view, is_past}
+use Rattle.cyc_buffer.specs.Filled.{Filled, filled_view}
+use Rattle.relay_core.specs.Ahead.{all_stored, is_past}
 use Rattle.relay_core.specs.Ahead.{is_unbegun}
 use Rattle.relay_core.specs.Desks.{members_of}
-use Rattle.relay_core.specs.declared.ahead.Filled as code
+use Rattle.cyc_buffer.specs.declared.filled.Filled as code
 
 -- a list with fewer items than it is to have has room for one more
 pub has_room : {count at most room : ℕ} → count ≤ at → at < most → most ≤ room → count < room
@@ -142,75 +143,3 @@ sizes_join groups k group sizes more size there is joined so_far =
     ∙ sym (ap (map members_of) (take_more groups k group (slice_get_within groups k group there)
     ∙ ap (λ one. take k groups ++ one ∷ [])
     (get_or_from_slice_get groups k group group there)))
-
-module _ (settings : Buffers) (w : Terms) (σ : State)
-    (same : w.buffers ≡ places_of_buffers settings) where
-  abbrev all : List BufferConf
-  all = settings.buffers.items
-
-  -- how far the buffer of a number is filled
-  abbrev filled_by : ℕ × BufferConf → Filled
-  filled_by one = filled_at w σ (numbered_buffer one)
-
-  by_number : filled_of w σ ≡ map filled_by (enumerate_from 0 all)
-  by_number =
-      ap (map (filled_at w σ)) same
-      ∙ map-map (filled_at w σ) numbered_buffer (enumerate_from 0 all)
-
-  -- what is told of a buffer is of that of the settings
-  told_there : (n : ℕ) (conf : BufferConf) (told : Option BufferFigures) → n < length all
-      → option_map figures_view told ≡ option_map (buffer_figures w σ) (slice_get w.buffers n)
-      → option_map figures_view told
-      ≡ Some (buffer_figures w σ (numbered_buffer (n, get_or all n conf)))
-  told_there n conf told within tells =
-      tells
-      ∙ ap (option_map (buffer_figures w σ))
-      (ap (λ (bs : List Buffer). slice_get bs n) same ∙ numbered_view all n
-      ∙ ap (option_map (λ (one : BufferConf). numbered_buffer (n, one)))
-      (slice_get-get_or all n conf within))
-
-  -- the next buffer joins those before it
-  pub filled_joins : (n : ℕ) (conf : BufferConf) (figures : BufferFigures) → n < length all
-      → conf ≡ get_or all n conf
-      → option_map figures_view (Some figures)
-      ≡ option_map (buffer_figures w σ) (slice_get w.buffers n)
-      → (filled more : List code.Filled) (one : code.Filled)
-      → one ≡ record { blocks = conf.blocks; front = figures.front; stored = figures.stored }
-      → more ≡ filled ++ one ∷ [] → map filled_view filled ≡ take n (filled_of w σ)
-      → map filled_view more ≡ take (n + 1) (filled_of w σ)
-  filled_joins n conf figures within is tells filled more one made joined so_far =
-      let told : figures_view figures
-      ≡ buffer_figures w σ (numbered_buffer (n, get_or all n conf)) =
-      same_Some _ _ (told_there n conf (Some figures) within tells) in
-      let named_one : filled_view one ≡ filled_by (n, get_or all n conf) = λ i. record {
-        blocks = (ap (λ (o : code.Filled). o.blocks) made
-            ∙ ap (λ (c : BufferConf). c.blocks) is) i;
-        front = (ap (λ (o : code.Filled). o.front) made
-            ∙ ap (λ (f : model.BufferFigures). f.front) told) i;
-        stored = (ap (λ (o : code.Filled). o.stored) made
-            ∙ ap (λ (f : model.BufferFigures). f.stored) told) i;
-      } in
-      ap (map filled_view) joined ∙ map_push filled_view filled one
-      ∙ ap (λ xs. xs ++ filled_view one ∷ []) so_far
-      ∙ ap (λ y. take n (filled_of w σ) ++ y ∷ []) named_one
-      ∙ ap (λ ys. take n ys ++ filled_by (n, get_or all n conf) ∷ []) by_number
-      ∙ sym (numbered_more filled_by all n conf within)
-      ∙ sym (ap (take (n + 1)) by_number)
-
-  -- no buffer is missing
-  pub filled_there : (n : ℕ) (conf : BufferConf) → n < length all
-      → option_map figures_view None ≡ option_map (buffer_figures w σ) (slice_get w.buffers n)
-      → ⊥
-  filled_there n conf within tells = none-some _ (told_there n conf None within tells)
-
-  -- past the last that are all
-  pub filled_all : (n : ℕ) → length all ≤ n → take n (filled_of w σ) ≡ filled_of w σ
-  filled_all n past =
-      take_all n (filled_of w σ)
-      (omega (
-        arith,
-        past,
-        ap length by_number,
-        length-map (enumerate_from 0 all) filled_by,
-        length-enumerate_from 0 all,
-      ))

@@ -1,3 +1,4 @@
+pub mod AheadLemmas
 mod Arms
 pub mod Beginnings
 mod Chunks

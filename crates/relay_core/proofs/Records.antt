@@ -45,7 +45,9 @@ use Rattle.relay_model.specs.Shares.{as_ring}
 use Rattle.relay_model.specs.State.{Feed, State}
 use Rattle.relay_model.specs.Terms.{Terms, last_moment}
 use Rattle.relay_model.specs.World.{World}
-use Rattle.relay_core.specs.Ahead.{Filled, all_stored, filled_at, filled_of, has_unbegun, is_ahead}
+use Rattle.cyc_buffer.specs.Filled.{Filled}
+use Rattle.block_shelf.specs.Filled.{filled_at, filled_of}
+use Rattle.relay_core.specs.Ahead.{all_stored, has_unbegun, is_ahead}
 use Rattle.relay_core.specs.Ahead.{is_feed_ahead, is_id_ahead, is_past, is_unbegun}
 use Rattle.relay_core.specs.Desks.{members_of, setting_of}
 use Rattle.block_shelf.specs.Stopping.{ArePositions}

@@ -36,7 +36,10 @@ use Rattle.relay_core.proofs.Beginnings.{groups_count, idle_group_writers, rings
 use Rattle.relay_core.proofs.Records.{lasts_again, record_behind, record_holds, weaker}
 use Rattle.relay_core.proofs.Stops.{ended_gone}
 use Rattle.relay_core.specs.Agreement.{AgreesBy, GroupWriterIs, PeerIs, ring_sizes}
-use Rattle.relay_core.specs.Ahead.{TellsFilled, filled_of, filled_view, is_ahead}
+use Rattle.block_shelf.proofs.Filled.{heads_say}
+use Rattle.block_shelf.specs.Filled.{filled_of}
+use Rattle.relay_core.proofs.AheadLemmas.{ahead_by, ahead_in}
+use Rattle.relay_core.specs.Ahead.{is_ahead}
 use Rattle.relay_core.specs.Desks.{AreOf, Reads, setting_of}
 use Rattle.relay_core.specs.Expiring.{expirer_view}
 use Rattle.relay_core.specs.Starting.{IsAheadAs, IsAheadOf, IsHistoryRefusal, IsRefusedRightly}
@@ -53,7 +56,6 @@ use Rattle.block_shelf.specs.Heads as heads
 use Rattle.block_shelf.specs.Starting as shelves
 use Rattle.block_shelf.specs.Heads.{KeepsOpened}
 use Rattle.block_shelf.specs.Starting.{IsStartedBufferSet, WillKeepHeld}
-use Rattle.relay_core.specs.declared.ahead.Filled as code
 use Rattle.relay_core.specs.declared.desks.Desks.{Desks}
 use Rattle.block_shelf.specs.declared.starting.StopFault.{StopFault}
 use Rattle.block_shelf.specs.declared.starting.StopFault.TheVariants as faults
@@ -326,7 +328,7 @@ module _ {S : Type 0} {g : Ghosts S} (config : Config) (stores : List S) where
                 reason = reasons.IsAhead kept reads buffer_set is_started is error
                     of_none unwritten;
                 cause = λ w stop x store shut.
-                    absurd (true≢false (sym (is (terms_of config) x.state x.work.failures
+                    absurd (true≢false (sym (ahead_in is (terms_of config) x.state x.work.failures
                     (shut_at w stop x store shut))
                     ∙ ap (is_ahead (filled_of (terms_of config) x.state))
                     (same_text w stop x store shut)
@@ -344,23 +346,13 @@ module _ {S : Type 0} {g : Ghosts S} (config : Config) (stores : List S) where
               }
 
   -- whether a history is ahead is told of how far the buffers are filled
-  pub ahead_as
-      : (kept : texts.Kept) (buffer_set : UnopenedBufferSet S g) (filled : List code.Filled)
-      (answer : Bool) → TellsFilled config.buffers buffer_set filled
-      → KeepsHeld config.buffers stores kept.stop buffer_set
-      → answer ≡ is_ahead (map filled_view filled) kept → IsAheadAs g config stores kept answer
-  ahead_as kept buffer_set filled answer tells keeps is = λ w σ failures held.
-      ap (λ fs. is_ahead fs kept)
-      (sym (tells w σ failures held.0 (keeps w σ.begun σ.kept failures held)))
-      ∙ sym is
-
-  -- the same of the buffers themselves
   pub ahead_of
       : (kept : texts.Kept) (buffer_set : UnopenedBufferSet S g) (answer : Bool)
-      → IsAheadOf config.buffers buffer_set kept answer
+      → IsAheadOf buffer_set kept answer → IsStartedBufferSet stores kept.stop buffer_set
       → KeepsHeld config.buffers stores kept.stop buffer_set → IsAheadAs g config stores kept answer
-  ahead_of kept buffer_set answer of keeps =
-      ahead_as kept buffer_set of.0 answer of.1 keeps of.2
+  ahead_of kept buffer_set answer of from keeps =
+      ahead_by config stores kept buffer_set.buffers.items answer
+      (heads_say stores buffer_set.buffers.items from.started.over) keeps of
 
   -- why nothing is made of a history refuses the start
   pub history_refused : (text : List ℕ) (refused : Unstarted S) (kept : texts.Kept)
@@ -368,7 +360,7 @@ module _ {S : Type 0} {g : Ghosts S} (config : Config) (stores : List S) where
       → ((one : texts.Kept) → Reads config text one → kept ≡ one)
       → IsStartedBufferSet stores kept.stop buffer_set
       → KeepsHeld config.buffers stores kept.stop buffer_set
-      → IsHistoryRefusal config.buffers buffer_set kept fault → refused.error ≡ fault
+      → IsHistoryRefusal buffer_set kept fault → refused.error ≡ fault
       → refused.buffer ≡ None → AreEach (IsUnwritten g None) stores refused.stores.items
       → IsRefusedRightly g config stores text refused
   history_refused text refused kept buffer_set faults.Memory reads one_text from keeps is error
@@ -376,7 +368,7 @@ module _ {S : Type 0} {g : Ghosts S} (config : Config) (stores : List S) where
   history_refused text refused kept buffer_set faults.Ahead reads one_text from keeps is error
       of_none unwritten =
       ahead text refused kept reads one_text buffer_set from
-      (ahead_of kept buffer_set true is keeps) error of_none unwritten
+      (ahead_of kept buffer_set true is from keeps) error of_none unwritten
   history_refused text refused kept buffer_set faults.Device reads one_text from keeps is error
       of_none unwritten = absurd is
   history_refused text refused kept buffer_set faults.NoHead reads one_text from keeps is error

@@ -2,28 +2,28 @@
 use Rattle.std.specs.Prelude.{◌≡◌, ℕ, Bool, true, false, List, Some, None, length, map}
 use Rattle.article_verdict.specs.Config.{terms_of}
 use Rattle.cyc_block.specs.declared.store.BlockStore.{Ghosts}
+use Rattle.cyc_buffer.specs.Filled.{Filled}
 use Rattle.id_history.specs.History as texts
 use Rattle.id_history.specs.declared.fault.HistoryError.{HistoryError}
 use Rattle.id_history.specs.declared.fault.HistoryError.TheVariants as errors
-use Rattle.relay_conf.specs.declared.settings.Buffers.{Buffers}
 use Rattle.relay_conf.specs.declared.settings.Config.{Config}
 use Rattle.relay_facts.specs.Started.{HasSameStore, started}
 use Rattle.relay_model.specs.State.{State}
 use Rattle.relay_model.specs.Terms.{Terms}
 use Rattle.relay_model.specs.World.{World}
 use Rattle.relay_core.specs.Agreement.{Agrees}
-use Rattle.relay_core.specs.Ahead.{TellsFilled, filled_of, filled_view, is_ahead}
+use Rattle.relay_core.specs.Ahead.{is_ahead}
 use Rattle.relay_core.specs.Desks.{AreOf, Reads}
 use Rattle.relay_core.specs.Refusals.{HasGroupWriters}
 use Rattle.relay_core.specs.Stopping.{IsShut, stop_of}
 use Rattle.block_shelf.specs.Each.{AreEach}
+use Rattle.block_shelf.specs.Filled.{IsFilledAs, filled_in, filled_of}
 use Rattle.block_shelf.specs.Starting.{IsFromOutside, IsHeldBy, IsStartedBufferSet, IsUnwritten}
 use Rattle.block_shelf.specs.Starting.{WillKeepHeld}
 use Rattle.block_shelf.specs.Heads.{IsOpened}
 use Rattle.block_shelf.specs.Heads as heads
 use Rattle.block_shelf.specs.Starting as shelves
 use Rattle.block_shelf.specs.declared.opening.UnopenedBufferSet.{UnopenedBufferSet}
-use Rattle.relay_core.specs.declared.ahead.Filled.{Filled}
 use Rattle.relay_core.specs.declared.starting.Readied.{Readied}
 use Rattle.relay_core.specs.declared.stopped.NotStarted.{NotStarted}
 use Rattle.relay_core.specs.declared.stopped.NotStarted.TheVariants as nots
@@ -32,32 +32,34 @@ use Rattle.block_shelf.specs.declared.starting.StopFault.TheVariants as faults
 use Rattle.block_shelf.specs.declared.starting.Unstarted.{Unstarted}
 use Rattle.relay_core.specs.declared.system.System.{System}
 
--- whether a history is ahead of what the stores hold is this
-abbrev pub IsAheadAs : {S : Type 0} (g : Ghosts S) → Config → (stores : List S) → texts.Kept → Bool
-    → Type 0
-IsAheadAs g config stores kept answer =
-    (w : Terms) (σ : State) (failures : ℕ → ℕ)
-    → IsHeldBy g config.buffers stores kept.stop w σ.begun σ.kept failures
-    → is_ahead (filled_of w σ) kept ≡ answer
+-- whether a history is ahead of what the stores hold is this: by how far the heads say that their
+-- buffers are filled, which is how far they are in each state that the stores hold
+pub record IsAheadAs {S : Type 0} (g : Ghosts S) (config : Config) (stores : List S)
+    (kept : texts.Kept) (answer : Bool)
+    : Type 0 where
+  pub filled : List Filled
+  pub heads : AreEach (IsFilledAs g) stores filled
+  pub is : is_ahead filled kept ≡ answer
+  pub states : (w : Terms) (σ : State) (failures : ℕ → ℕ)
+      → IsHeldBy g config.buffers stores kept.stop w σ.begun σ.kept failures
+      → filled ≡ filled_of w σ
 
 -- whether a history is ahead of what these buffers hold is this
-abbrev pub IsAheadOf : {S : Type 0} {g : Ghosts S} → Buffers → UnopenedBufferSet S g → texts.Kept
-    → Bool → Type 0
-IsAheadOf settings unopened kept answer =
-    (filled : List Filled) × TellsFilled settings unopened filled
-    × (answer ≡ is_ahead (map filled_view filled) kept)
+abbrev pub IsAheadOf : {S : Type 0} {g : Ghosts S} → UnopenedBufferSet S g → texts.Kept → Bool
+    → Type 0
+IsAheadOf unopened kept answer = is_ahead (map filled_in unopened.buffers.items) kept ≡ answer
 
 -- why nothing is made of a history: memory was refused, or it is ahead of these buffers
-abbrev pub IsHistoryRefusal : {S : Type 0} {g : Ghosts S} → Buffers → UnopenedBufferSet S g
-    → texts.Kept → StopFault → Type 0
-IsHistoryRefusal settings unopened kept faults.Memory = Unit {0}
-IsHistoryRefusal settings unopened kept faults.Device = ⊥
-IsHistoryRefusal settings unopened kept faults.NoHead = ⊥
-IsHistoryRefusal settings unopened kept faults.Unclosed = ⊥
-IsHistoryRefusal settings unopened kept faults.Damaged = ⊥
-IsHistoryRefusal settings unopened kept faults.BadHistory = ⊥
-IsHistoryRefusal settings unopened kept faults.Mixed = ⊥
-IsHistoryRefusal settings unopened kept faults.Ahead = IsAheadOf settings unopened kept true
+abbrev pub IsHistoryRefusal : {S : Type 0} {g : Ghosts S} → UnopenedBufferSet S g → texts.Kept
+    → StopFault → Type 0
+IsHistoryRefusal unopened kept faults.Memory = Unit {0}
+IsHistoryRefusal unopened kept faults.Device = ⊥
+IsHistoryRefusal unopened kept faults.NoHead = ⊥
+IsHistoryRefusal unopened kept faults.Unclosed = ⊥
+IsHistoryRefusal unopened kept faults.Damaged = ⊥
+IsHistoryRefusal unopened kept faults.BadHistory = ⊥
+IsHistoryRefusal unopened kept faults.Mixed = ⊥
+IsHistoryRefusal unopened kept faults.Ahead = IsAheadOf unopened kept true
 
 -- A relay started from stores and text but for the heads of its buffers: the text is of a history
 -- that isn't ahead of them, and of no other; all else is made of it.

@@ -1,50 +1,16 @@
 //! Whether a history knows of more than the buffers hold.
-ghost use Rattle.std.specs.Prelude.{◌≡◌, IfOk, map, nat_lt};
+ghost use Rattle.std.specs.Prelude.{◌≡◌, map, nat_lt};
 ghost use Rattle.std.specs.List.{list_any};
+ghost use Rattle.cyc_buffer.specs.Filled.{filled_view};
 ghost use Rattle.cyc_token.specs.Token.{token_view};
 ghost use Rattle.id_history.specs.Views.{feed_view, history_view, id_view};
 ghost use Rattle.news_terms.specs.Places.{on_line};
-ghost use Rattle.relay_core.specs.Ahead.{TellsFilled, all_stored, filled_view, is_ahead};
-ghost use Rattle.relay_core.specs.Ahead.{is_feed_ahead, is_id_ahead, is_unbegun};
+ghost use Rattle.relay_core.specs.Ahead.{all_stored, is_ahead, is_feed_ahead, is_id_ahead};
+ghost use Rattle.relay_core.specs.Ahead.{is_unbegun};
 
-use block_shelf::UnopenedBufferSet;
-use cyc_block::BlockStore;
+use cyc_buffer::Filled;
 use cyc_token::Token;
 use id_history::{History, KeptFeed, KeptId};
-use relay_conf::Buffers;
-use std::alloc::{AllocError, Global};
-
-/// How far a buffer is filled.
-#[derive(Clone, Copy)]
-pub struct Filled {
-    /// How many blocks it has.
-    pub blocks: u32,
-    /// Its front's place on the endless line of its blocks.
-    pub front: u64,
-    /// How many articles are stored in it.
-    pub stored: u64,
-}
-
-/// How far the buffers of a started buffer set are filled, in the order of their numbers.
-pub(crate) fn all_filled<S: BlockStore + Drop>(
-    alloc: Global,
-    settings: &Buffers,
-    unopened: &UnopenedBufferSet<S>,
-) -> Result<Vec<Filled>, AllocError>
-    ensures { IfOk result (λ filled. TellsFilled settings.now unopened.now filled.items) }
-{
-    let mut filled = Vec::with_capacity(alloc, settings.buffers.len())?;
-    for (number, buffer) in settings.buffers.iter().enumerate() {
-        if let Some(figures) = unopened.figures(number as u8) {
-            filled.push_reserved(Filled {
-                blocks: buffer.blocks,
-                front: figures.front,
-                stored: figures.stored,
-            });
-        }
-    }
-    Ok(filled)
-}
 
 /// Whether the history knows of more than the buffers hold.
 pub fn is_ahead(filled: &[Filled], history: &History) -> bool

@@ -30,7 +30,7 @@ mod unbuffered;
 mod watching;
 mod writing;
 
-pub use ahead::{Filled, is_ahead};
+pub use ahead::is_ahead;
 pub use desks::{read_history, rings};
 pub use event::{CoreError, Event, Output};
 pub use peers::{Peer, Peers};

@@ -8,7 +8,7 @@ ghost use Rattle.relay_core.specs.Desks.{AreOf};
 ghost use Rattle.relay_core.specs.Starting.{IsAheadOf, IsHistoryRefusal, IsReadied};
 ghost use Rattle.relay_core.specs.Starting.{IsRefusedRightly, unread_as};
 
-use crate::ahead::{all_filled, is_ahead};
+use crate::ahead::is_ahead;
 use crate::desks::{Desks, read_history};
 use crate::peers::Peers;
 use crate::stopped::NotStarted;
@@ -149,11 +149,11 @@ fn desks_behind<S: BlockStore + Drop>(
     ensures desks { IfOk result (AreOf config.now (history_view history)
         (length config.now.buffers.groups.items)) }
     ensures behind { IfOk result (λ _.
-        IsAheadOf config.now.buffers unopened.now (history_view history) false) }
+        IsAheadOf unopened.now (history_view history) false) }
     ensures refused { IfErr result
-        (IsHistoryRefusal config.now.buffers unopened.now (history_view history)) }
+        (IsHistoryRefusal unopened.now (history_view history)) }
 {
-    let filled = match all_filled(alloc, &config.buffers, unopened) {
+    let filled = match unopened.filled(alloc) {
         Ok(filled) => filled,
         Err(_) => {
             drop(history);

@@ -3,7 +3,6 @@ mod Begins
 mod Blamed
 mod Each
 mod Entries
-mod Fills
 mod Kept
 mod Lists
 mod Orders

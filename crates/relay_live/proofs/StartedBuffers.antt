@@ -3,8 +3,10 @@ use Rattle.std.proofs.Common.{◌≡◌, ◌∙◌, ℕ, append-nil, append_asso
 use Rattle.std.proofs.Common.{List, [], ◌∷◌, ◌++◌, length, map, Option, None, Some, slice_get}
 use Rattle.std.proofs.Common.{option_map}
 use Rattle.std.proofs.lemmas.List.{length-map, map_push}
+use Rattle.std.proofs.lemmas.Simd.{map-map}
 use Rattle.std.proofs.lemmas.Option.{none-some, slice_get-map, slice_get_within}
 use Rattle.news_terms.specs.Courses.{Course}
+use Rattle.news_terms.specs.HeadBlocks.{Closed}
 use Rattle.block_shelf.proofs.EachLemmas.{comes_from, each_mapped, none_each, none_left}
 use Rattle.block_shelf.proofs.EachLemmas.{one_more_each}
 use Rattle.block_shelf.proofs.EachLemmas.{one_through}
@@ -12,6 +14,7 @@ use Rattle.block_shelf.proofs.NewBufferSet.{pushed_before, pushed_last}
 use Rattle.block_shelf.proofs.Starts.{blamed_here, blamed_nowhere, buffer_is, failed_there}
 use Rattle.block_shelf.proofs.Starts.{other_more, still_earlier, untouched_store}
 use Rattle.block_shelf.specs.Each.{AreEach}
+use Rattle.block_shelf.specs.Filled.{IsFilledAs, filled_in}
 use Rattle.block_shelf.specs.Starting.{BuffersKeep, CanStart, EarlierStart, IsFirstOther, IsHeldBy}
 use Rattle.block_shelf.specs.Starting.{IsMixedAt, IsUnwritten, buffer_over, buffers_inside}
 use Rattle.block_shelf.specs.Starting.{failed_at, fault_of_start, number_told, other_after}
@@ -19,7 +22,7 @@ use Rattle.block_shelf.specs.declared.starting.StopFault.{StopFault}
 use Rattle.block_shelf.specs.declared.starting.StopFault.TheVariants as faults
 use Rattle.cyc_block.specs.declared.store.BlockStore as blocks
 use Rattle.cyc_buffer.specs.Agreement.{store_of}
-use Rattle.cyc_buffer.specs.Head.{inside, stop_of}
+use Rattle.cyc_buffer.specs.Head.{inside, said_of, stop_of}
 use Rattle.cyc_buffer.specs.History.{History}
 use Rattle.cyc_buffer.specs.Reads.{IsBlamed, StaysHeld}
 use Rattle.cyc_buffer.specs.Stopped.{HoldsStopped}
@@ -48,6 +51,21 @@ module _ {S J : Type 0} {s : blocks.Ghosts S} {j : store_premises.Ghosts J} wher
   can_be stores buffers are =
       each_mapped IsStartedOver CanBe unopened_in stores buffers are
       (λ b store one there is. is.starts)
+
+  -- the heads of their stores say how far the buffers are filled
+  pub heads_say : (stores : List S) (buffers : List (UnopenedNumbered S J s j))
+      → AreEach IsStartedOver stores buffers
+      → AreEach (IsFilledAs s) stores (map filled_in (map unopened_in buffers))
+  heads_say stores buffers are =
+      subst (AreEach (IsFilledAs s) stores) (sym (map-map filled_in unopened_in buffers))
+      (each_mapped IsStartedOver (IsFilledAs s) (λ one. filled_in (unopened_in one)) stores buffers
+      are
+      (λ b store one there is honest. record {
+        said = said_of Closed (stop_of (inside (unopened_in one))) (inside (unopened_in one));
+        says = is.said honest;
+        closed = refl;
+        is = refl;
+      }))
 
   -- the store of a started buffer is unwritten
   pub started_store : (failed : Option ℕ) (b : ℕ) (store : S) (one : UnopenedNumbered S J s j)

@@ -37,18 +37,19 @@ use Rattle.relay_core.proofs.Beginnings.{rings_are}
 use Rattle.relay_core.proofs.Records.{lasts_again}
 use Rattle.relay_core.proofs.Starts.{again, held_by, shut_behind, shut_reads}
 use Rattle.relay_core.specs.Agreement.{ring_sizes}
-use Rattle.relay_core.specs.Ahead.{filled_of, filled_view, is_ahead}
+use Rattle.block_shelf.specs.Filled.{filled_in, filled_of}
+use Rattle.relay_core.proofs.AheadLemmas.{ahead_by, ahead_in}
+use Rattle.relay_core.specs.Ahead.{is_ahead}
 use Rattle.relay_core.specs.Desks.{Reads}
 use Rattle.relay_core.specs.Starting.{IsAheadAs, unread_as}
 use Rattle.relay_core.specs.Stopping.{IsHistory, IsShut}
-use Rattle.relay_core.specs.declared.ahead.Filled as ahead
 use Rattle.relay_facts.specs.Started.{HasSameStore, started}
 use Rattle.relay_live.proofs.OpenedBuffers.{opened_keep}
-use Rattle.relay_live.proofs.StartedBuffers.{all_start, buffers_keep}
+use Rattle.relay_live.proofs.StartedBuffers.{all_start, buffers_keep, heads_say}
 use Rattle.relay_live.specs.Alone.{newest_in, stop_in}
 use Rattle.relay_live.specs.Numbers.{last_of}
 use Rattle.relay_live.specs.Starting.{AreOf, AreStarted, IsOpenedFrom, IsRefusedRightly, IsUnopened}
-use Rattle.relay_live.specs.Starting.{IsUnstarted, IsUnstartedBy, StartsOver, TellsFilled}
+use Rattle.relay_live.specs.Starting.{IsUnstarted, IsUnstartedBy, StartsOver}
 use Rattle.relay_live.specs.Starting as reasons
 use Rattle.relay_live.specs.Stopping.{AreShutWith}
 use Rattle.relay_live.specs.declared.alone.Alone.{Alone}
@@ -188,7 +189,7 @@ module _ {S : Type 0} (s : blocks.Ghosts S) (config : Config) (stores : List S)
             is error of_none
             unwritten;
         cause = λ register w stop x store shut known.
-            absurd (true≢false (sym (is (terms_of config) x.state x.work.failures
+            absurd (true≢false (sym (ahead_in is (terms_of config) x.state x.work.failures
             (shut_at w stop x store shut))
             ∙ ap (is_ahead (filled_of (terms_of config) x.state)) (same_text w stop x store shut)
             ∙ shut_behind config stores text w stop x store shut));
@@ -245,15 +246,16 @@ module _ {S J : Type 0} {s : blocks.Ghosts S} {j : store_premises.Ghosts J} (con
     (one_text : (one : texts.Kept) → Reads config text one → kept ≡ one)
     (buffers : List (UnopenedNumbered S J s j)) (are : AreStarted stores kept.stop buffers) where
   -- whether a history is ahead is told of how far the buffers are filled
-  pub ahead_as : (filled : List ahead.Filled) (answer : Bool)
-      → TellsFilled (map unopened_in buffers) filled
-      → answer ≡ is_ahead (map filled_view filled) kept → IsAheadAs s config stores kept answer
-  ahead_as filled answer tells is w σ failures held =
-      ap (λ fs. is_ahead fs kept)
-      (sym (tells w σ failures
-      (buffers_keep config.buffers stores sized buffers are.over kept.stop w σ.begun σ.kept failures
-      held)))
-      ∙ sym is
+  pub ahead_as : (answer : Bool)
+      → is_ahead (map filled_in (map unopened_in buffers)) kept ≡ answer
+      → IsAheadAs s config stores kept answer
+  ahead_as answer is =
+      ahead_by config stores kept (map unopened_in buffers) answer
+      (heads_say stores buffers are.over)
+      (λ w begun texts failures held.
+          buffers_keep config.buffers stores sized buffers are.over kept.stop w begun texts failures
+          held)
+      is
 
   -- the parts start
   pub starts : {L : Type 0} (alone : Alone S J L s j) (desks : Desks L)

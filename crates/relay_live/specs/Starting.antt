@@ -15,10 +15,10 @@ use Rattle.block_shelf.specs.declared.starting.StopFault.TheVariants as faults
 use Rattle.block_shelf.specs.declared.starting.Unstarted.{Unstarted}
 use Rattle.cyc_block.specs.declared.store.BlockStore as blocks
 use Rattle.cyc_buffer.specs.Agreement.{Agrees, store_of}
-use Rattle.cyc_buffer.specs.Head.{has_open_head, inside, is_busy, stop_of}
-use Rattle.cyc_buffer.specs.History.{History, front_of, stored_count}
+use Rattle.cyc_buffer.specs.Head.{has_open_head, inside, is_busy, said_of, stop_of}
+use Rattle.cyc_buffer.specs.History.{History}
 use Rattle.cyc_buffer.specs.Reads.{StaysHeld}
-use Rattle.cyc_buffer.specs.Stopped.{HoldsStopped}
+use Rattle.cyc_buffer.specs.Stopped.{HoldsStopped, Says}
 use Rattle.cyc_buffer.specs.declared.answers.StartError.{StartError}
 use Rattle.cyc_buffer.specs.declared.answers.StartError.TheVariants as errors
 use Rattle.cyc_buffer.specs.declared.unopened.Unopened.{Unopened}
@@ -36,11 +36,9 @@ use Rattle.live_store.specs.declared.numbered.NumberedBuffer.{NumberedBuffer}
 use Rattle.live_store.specs.declared.record.StorePremises as store_premises
 use Rattle.live_store.specs.declared.unopened.UnopenedNumbered.{UnopenedNumbered}
 use Rattle.relay_conf.specs.declared.settings.Config.{Config}
-use Rattle.relay_core.specs.Ahead.{filled_of, filled_view}
 use Rattle.relay_core.specs.Desks.{Reads}
 use Rattle.relay_core.specs.Starting.{IsAheadAs}
 use Rattle.relay_core.specs.Stopping.{IsShut}
-use Rattle.relay_core.specs.declared.ahead.Filled as ahead
 use Rattle.relay_core.specs.declared.stopped.NotStarted.{NotStarted}
 use Rattle.relay_core.specs.declared.stopped.NotStarted.TheVariants as nots
 use Rattle.relay_facts.specs.Started.{HasSameStore, started}
@@ -51,6 +49,7 @@ use Rattle.relay_live.specs.Stopping.{AreShutWith}
 use Rattle.relay_live.specs.declared.alone.Alone.{Alone}
 use Rattle.relay_live.specs.declared.desks.Desks.{Desks}
 use Rattle.relay_live.specs.declared.shared.Shared.{Shared}
+use Rattle.news_terms.specs.HeadBlocks.{Closed}
 use Rattle.relay_model.specs.Claims.{Claim}
 use Rattle.relay_model.specs.State.{Feed, State}
 use Rattle.relay_model.specs.Terms.{Terms}
@@ -83,6 +82,8 @@ pub record IsStartedOver {S J : Type 0} {s : blocks.Ghosts S}
       → HoldsStopped (s.heads store) (s.blocks store) stop h
       → stop_of (inside (unopened_in one)) ≡ stop
   pub starts : s.honest store → CanStart s number store (stop_of (inside (unopened_in one)))
+  pub said : s.honest store → Says (s.heads store) (buffer_over s number store)
+      (said_of Closed (stop_of (inside (unopened_in one))) (inside (unopened_in one)))
   pub no_failure : s.failures (store_of (inside (unopened_in one))) ≡ s.failures store
   pub unopened_head : has_open_head (inside (unopened_in one)) ≡ false
   pub idle : is_busy (inside (unopened_in one)) ≡ false
@@ -280,19 +281,6 @@ pub record IsHeadFailed {S : Type 0} {s : blocks.Ghosts S} (buffers : List (Unop
   pub within : place < length buffers
   pub told : refused.buffer ≡ Some place
   pub left : AreEach (heads.IsLeftUnopened place) buffers refused.stores.items
-
--- how far a buffer with this history is filled
-abbrev pub filled_by : History → ahead.Filled
-filled_by h =
-    record { blocks = h.buffer.blocks; front = front_of h; stored = stored_count h.begins }
-
--- so far the buffers are filled in each state that started buffers keep
-abbrev pub TellsFilled : {S : Type 0} {s : blocks.Ghosts S} → List (Unopened S s)
-    → List ahead.Filled → Type 0
-TellsFilled buffers filled =
-    (w : Terms) (σ : State) (failures : ℕ → ℕ)
-    → BuffersKeep (buffers_inside buffers) w σ.begun σ.kept failures
-    → map filled_view filled ≡ filled_of w σ
 
 -- What is made of a history, with placed groups over started buffers: the ids have what was left of
 -- their claims, the rings what was left of their feeds, the groups are at their positions, and the

@@ -21,6 +21,7 @@ returns-in-Ok g c = record {
                   c.in-Ok.ensures.under ∙ c.in-Ok.ensures.stop yes stop h held;
               tokens = c.in-Ok.started.tokens.items;
               starts = rw c.in-Ok.ensures.under c.in-Ok.ensures.started;
+              said = rw c.in-Ok.ensures.under c.in-Ok.ensures.said;
               calls = c.in-Ok.ensures.calls;
               no_failure = c.in-Ok.ensures.no_failure;
               unopened_head = c.in-Ok.ensures.unopened;

@@ -1,7 +1,8 @@
 use Rattle.std.proofs.Common.{map}
 use Rattle.id_history.specs.Views.{id_view}
 use Rattle.relay_core.proofs.Fillings.{none_passes}
-use Rattle.relay_core.specs.Ahead.{filled_view, is_id_ahead}
+use Rattle.cyc_buffer.specs.Filled.{filled_view}
+use Rattle.relay_core.specs.Ahead.{is_id_ahead}
 use Rattle.relay_core.proofs.ahead.is_any_id_ahead.Goals as goal
 
 -- none is left

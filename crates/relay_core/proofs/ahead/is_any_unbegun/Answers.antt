@@ -1,7 +1,8 @@
 use Rattle.std.proofs.Common.{map}
 use Rattle.cyc_token.specs.Token.{token_view}
 use Rattle.relay_core.proofs.Fillings.{none_passes}
-use Rattle.relay_core.specs.Ahead.{filled_view, is_unbegun}
+use Rattle.cyc_buffer.specs.Filled.{filled_view}
+use Rattle.relay_core.specs.Ahead.{is_unbegun}
 use Rattle.relay_core.proofs.ahead.is_any_unbegun.Goals as goal
 
 -- none is left

@@ -1,7 +1,8 @@
 use Rattle.std.proofs.Common.{◌≡◌, length, map}
 use Rattle.std.specs.List.{list_any}
 use Rattle.cyc_token.specs.Token.{token_view}
-use Rattle.relay_core.specs.Ahead.{filled_view, is_unbegun}
+use Rattle.cyc_buffer.specs.Filled.{filled_view}
+use Rattle.relay_core.specs.Ahead.{is_unbegun}
 use Rattle.relay_core.proofs.ahead.is_any_unbegun.Given as goal
 
 -- what is left passes exactly where all does

@@ -1,5 +1,6 @@
 use Rattle.std.proofs.Common.{◌≡◌, ◌-◌, length, map}
-use Rattle.relay_core.specs.Ahead.{all_stored, filled_view}
+use Rattle.cyc_buffer.specs.Filled.{filled_view}
+use Rattle.relay_core.specs.Ahead.{all_stored}
 use Rattle.relay_core.proofs.ahead.is_more.Given as goal
 
 -- what is above all that is left is above all

@@ -50,7 +50,8 @@ returns-in-Ok-desks_behind-clause-readied g c =
       reads = c.in-Ok.ensures.reads;
       only = c.in-Ok.ensures.only;
       behind = ahead_of c.args.config.now c.args.stores.items kept c.in-Ok-start.unopened _
-          c.in-Ok-desks_behind.ensures.behind c.in-Ok-start.ensures.held;
+          c.in-Ok-desks_behind.ensures.behind c.in-Ok-start.ensures.started
+          c.in-Ok-start.ensures.held;
       from_stores = c.in-Ok-start.ensures.started;
       keeps = subst (λ (ps : List ℕ). WillKeepHeld c.args.config.now.buffers c.args.stores.items
           c.in-Ok.history.stop ps c.in-Ok-start.unopened) c.deref.ensures.value

@@ -1,8 +1,10 @@
 use Rattle.std.proofs.Common.{◌∙◌, ◌++◌, ◌∷◌, ◌<◌, [], ap, arith, length, map}
-use Rattle.std.proofs.Common.{None, refl, subst, sym}
+use Rattle.std.proofs.Common.{None, refl, subst, sym, ℕ}
 use Rattle.std.proofs.lemmas.List.{length-append, length-map}
 use Rattle.cyc_buffer.specs.Agreement.{store_of}
-use Rattle.cyc_buffer.specs.Head.{inside}
+use Rattle.cyc_buffer.specs.Head.{inside, said_of, stop_of}
+use Rattle.cyc_buffer.specs.Stopped.{Says}
+use Rattle.news_terms.specs.HeadBlocks.{Closed}
 use Rattle.block_shelf.proofs.EachLemmas.{count_through, here_through}
 use Rattle.block_shelf.proofs.Starts.{untouched_stores}
 use Rattle.block_shelf.specs.Starting.{CanStart, IsFirstOther, buffer_over}
@@ -102,6 +104,10 @@ loop-store-preserved g c =
                 let can = is.started yes in
                 subst (CanStart g.S.BlockStore number store) (sym is.under)
                 (can.tokens, can.starts);
+            said = λ yes.
+                subst (λ (found : ℕ). Says (g.S.BlockStore.heads store)
+                (buffer_over g.S.BlockStore number store)
+                (said_of Closed found (inside (unopened_in one)))) (sym is.under) (is.said yes);
             no_failure = is.no_failure;
             unopened_head = is.unopened;
             idle = is.idle;

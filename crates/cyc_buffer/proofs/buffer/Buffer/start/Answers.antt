@@ -3,7 +3,7 @@ use Rattle.std.proofs.Common.{List, ℕ, ap, is_some, length, refl, sym, subst}
 use Rattle.news_terms.specs.Places.{Buffer}
 use Rattle.cyc_buffer.specs.Agreement.{Holds}
 use Rattle.cyc_buffer.proofs.Answered.{holds_history, keeps_history, lists_live, outside_of}
-use Rattle.cyc_buffer.proofs.Answered.{reason_of, same_stop, starts_of}
+use Rattle.cyc_buffer.proofs.Answered.{reason_of, same_stop, says_of, starts_of}
 use Rattle.cyc_buffer.proofs.buffer.Buffer.start.Goals as goal
 
 pub returns-in-Ok : goal.returns-in-Ok
@@ -35,6 +35,8 @@ returns-in-Ok g c =
       started = λ honest. starts_of _ _ _ stopped.stop stopped.buffer_state stopped.tokens.items
           (was.started honest);
       reason = λ honest. tt;
+      said = λ honest. says_of _ _ _ stopped.stop stopped.buffer_state stopped.tokens.items
+          (was.started honest);
       unopened = refl;
       idle = ap is_some was.idle;
       under = refl;
@@ -61,6 +63,7 @@ returns-in-Err g c =
           (was.refused honest);
       started = λ honest. tt;
       reason = λ honest. reason_of _ _ _ c.in-Err.error (was.refused honest);
+      said = λ honest. tt;
       unopened = tt;
       idle = tt;
       under = tt;

@@ -1,8 +1,11 @@
-use Rattle.std.proofs.Common.{◌∙◌, ap, is_some, length, true, inl}
+use Rattle.std.proofs.Common.{◌∙◌, ap, is_some, length, subst, sym, true, inl}
 use Rattle.cyc_buffer.proofs.Refusals.{held_on}
 use Rattle.cyc_buffer.specs.Agreement.{store_of}
+use Rattle.cyc_buffer.specs.BufferState.{numbers_in}
 use Rattle.cyc_buffer.specs.Head.{inside}
+use Rattle.cyc_buffer.specs.Stopped.{Says}
 use Rattle.cyc_buffer.specs.declared.buffer_state.BufferState.{BufferState}
+use Rattle.news_terms.specs.HeadBlocks.{Closed}
 use Rattle.live_store.specs.Started.{AreArticles, unopened_in}
 use Rattle.live_store.proofs.StartedLemmas.{blamed_later, outside_unentered, refused_for}
 use Rattle.live_store.proofs.StartedLemmas.{started_of}
@@ -30,6 +33,7 @@ returns-in-Err g c =
           c.in-Err.refused.error (was.held honest stop h held same);
       started = λ honest. tt;
       reason = λ honest. inl (was.reason honest);
+      said = λ honest. tt;
       unopened = tt;
       idle = tt;
       under = tt;
@@ -60,6 +64,12 @@ returns-in-Ok-read_back g c =
         starts = was.started honest;
       };
       reason = λ honest. tt;
+      said = λ honest. subst (λ (r : BufferState). Says (g.S.BlockStore.heads c.args.store) (record {
+        number = c.args.number;
+        blocks = length (g.S.BlockStore.blocks c.args.store);
+        first_cycle = c.args.first_cycle;
+      }) (numbers_in r Closed c.in-Ok.started.stop)) (sym read.read.buffer_state)
+          (was.said honest);
       unopened = read.read.opened ∙ was.unopened;
       idle = ap (λ (r : BufferState). is_some r.progress) read.read.buffer_state ∙ was.idle;
       under = read.read.stop ∙ was.under;
@@ -90,6 +100,7 @@ returns-in-Err-read_back g c =
           c.in-Err-read_back.refused.error read.fault
           (λ under h held same. read.refused h (was.agrees honest under h held same)
           (was.tokens honest under h held));
+      said = λ honest. tt;
       unopened = tt;
       idle = tt;
       under = tt;

@@ -4,8 +4,9 @@ use Rattle.block_shelf.specs.Each.{AreEach}
 use Rattle.block_shelf.specs.Starting.{IsUnwritten}
 use Rattle.block_shelf.specs.declared.starting.Unstarted.{Unstarted}
 use Rattle.id_history.specs.Views.{history_view}
-use Rattle.relay_core.specs.Ahead.{filled_view, is_ahead}
-use Rattle.relay_core.specs.declared.ahead.Filled as code
+use Rattle.cyc_buffer.specs.Filled.{Filled, filled_view}
+use Rattle.relay_core.specs.Ahead.{is_ahead}
+use Rattle.cyc_buffer.specs.declared.filled.Filled as code
 use Rattle.relay_live.proofs.OpenedBuffers.{not_opened}
 use Rattle.relay_live.proofs.Rooms.{no_more}
 use Rattle.relay_live.proofs.StartedBuffers.{started_stores}
@@ -87,11 +88,11 @@ returns-then-is_ahead g c =
           c.deref.result.now kept c.in-Ok.ensures.reads c.in-Ok.ensures.only c.one_head.ensures.one
           c.refused-then-is_ahead.result buffers are
           (ahead_as config c.args.stopped.stores.items c.requires.stores c.deref.result.now kept
-          c.in-Ok.ensures.reads c.in-Ok.ensures.only buffers are c.in-Ok-all_filled.filled.items _
-          c.in-Ok-all_filled.ensures
-          (sym c.if-is_ahead.true ∙ c.is_ahead.ensures
+          c.in-Ok.ensures.reads c.in-Ok.ensures.only buffers are _
+          (ap (λ (fs : List Filled). is_ahead fs kept) (sym c.in-Ok-all_filled.ensures)
           ∙ ap (λ (fs : List code.Filled). is_ahead (map filled_view fs) kept)
-          c.deref-2.ensures.value))
+          (sym c.deref-2.ensures.value)
+          ∙ sym c.is_ahead.ensures ∙ c.if-is_ahead.true))
           (ap (λ (u : Unstarted g.row.S.Denot). u.error) c.refused-then-is_ahead.ensures)
           (ap (λ (u : Unstarted g.row.S.Denot). u.buffer) c.refused-then-is_ahead.ensures)
           (subst (AreEach (IsUnwritten g.S.BlockStore None) c.args.stopped.stores.items)
@@ -135,11 +136,11 @@ returns g c =
           c.deref.result.now kept c.in-Ok.ensures.reads c.in-Ok.ensures.only c.one_head.ensures.one
           c.in-Err-over.unstarted buffers are
           (ahead_as config c.args.stopped.stores.items c.requires.stores c.deref.result.now kept
-          c.in-Ok.ensures.reads c.in-Ok.ensures.only buffers are c.in-Ok-all_filled.filled.items _
-          c.in-Ok-all_filled.ensures
-          (sym c.if-is_ahead.false ∙ c.is_ahead.ensures
+          c.in-Ok.ensures.reads c.in-Ok.ensures.only buffers are _
+          (ap (λ (fs : List Filled). is_ahead fs kept) (sym c.in-Ok-all_filled.ensures)
           ∙ ap (λ (fs : List code.Filled). is_ahead (map filled_view fs) kept)
-          c.deref-2.ensures.value))
+          (sym c.deref-2.ensures.value)
+          ∙ sym c.is_ahead.ensures ∙ c.if-is_ahead.false))
           (not_opened c.args.stopped.stores.items kept.stop buffers c.in-Err-over.unstarted are
           c.in-Err-over.ensures.refusal));
     }
@@ -159,11 +160,11 @@ returns-in-Ok-over g c =
           c.in-Ok.ensures.reads c.in-Ok.ensures.only buffers are c.in-Ok-over.alone
           c.in-Ok-resume.desks
           (ahead_as config c.args.stopped.stores.items c.requires.stores c.deref.result.now kept
-          c.in-Ok.ensures.reads c.in-Ok.ensures.only buffers are c.in-Ok-all_filled.filled.items _
-          c.in-Ok-all_filled.ensures
-          (sym c.if-is_ahead.false ∙ c.is_ahead.ensures
+          c.in-Ok.ensures.reads c.in-Ok.ensures.only buffers are _
+          (ap (λ (fs : List Filled). is_ahead fs kept) (sym c.in-Ok-all_filled.ensures)
           ∙ ap (λ (fs : List code.Filled). is_ahead (map filled_view fs) kept)
-          c.deref-2.ensures.value))
+          (sym c.deref-2.ensures.value)
+          ∙ sym c.is_ahead.ensures ∙ c.if-is_ahead.false))
           c.in-Ok-resume.ensures is.opened is.desks.0 is.desks.1 is.desks.2 is.desks.3 is.stop
           is.settings.0 is.settings.1);
       refused = tt;
