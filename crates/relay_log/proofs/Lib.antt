@@ -5,5 +5,11 @@ mod Cuts
 mod Entries
 mod Existence
 mod Fields
+mod Foldings
+mod FoldsIn
+mod Knows
+mod LastFolding
+mod Rooms
+mod Said
 mod Sums
 mod Texts

@@ -1,6 +1,9 @@
 pub mod Beginning
 pub mod Check
 pub mod Examples
+pub mod FoldedText
+pub mod Folding
 pub mod Journal
+pub mod Knowing
 pub mod Reading
 pub mod Views

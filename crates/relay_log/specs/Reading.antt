@@ -1,12 +1,12 @@
 -- Reading an entry from left to right (docs/FORMATS.md, Journal file). Each function answers what
 -- it read, mostly with the octets after it, or None where nothing can be read.
 use Rattle.std.specs.Prelude.{ℕ, zero, suc, ◌+◌, List, [], ◌∷◌, length, take, drop, Option, Some}
-use Rattle.std.specs.Prelude.{None, nat_lt, nat_le, ◌==◌, if◌then◌else◌}
-use Rattle.std.specs.Int.{Width, w16, w32, w64, byte_len, from_be_bytes}
+use Rattle.std.specs.Prelude.{None, nat_le, ◌==◌, if◌then◌else◌}
+use Rattle.std.specs.Int.{w16, w32, w64}
 use Rattle.std.specs.Str.{bytes_eq}
 use Rattle.news_terms.specs.MessageId.{id_fault}
 use Rattle.relay_model.specs.Terms.{last_moment}
-use Rattle.id_history.specs.Reading.{◌>>=◌, octet_at, number_at, token_at, text_at, without_fault}
+use Rattle.id_history.specs.Reading.{◌>>=◌, number_at, token_at, text_at, without_fault}
 use Rattle.relay_log.specs.Check.{check}
 use Rattle.relay_log.specs.Journal.{Entry, Refused, Stored, Taken, mark}
 

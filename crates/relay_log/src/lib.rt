@@ -8,11 +8,15 @@
 #![tactic(auto)]
 
 mod check;
+mod folding;
 mod journal;
 pub mod laws;
 mod reading;
+mod text;
 mod writing;
 
+pub use folding::folded;
 pub use journal::{Entry, Journal};
 pub use reading::read;
+pub use text::folded_text;
 pub use writing::{append, begin};
