@@ -1,3 +1,4 @@
+pub mod Behind
 pub mod Files
 pub mod Keeping
 pub mod Origin

@@ -49,8 +49,19 @@ impl<'a, R> HostHistory<'a, R> {
         alloc: Global,
         folder: &'a str,
     ) -> Result<HostHistory<'a, R>, AllocError> {
-        let path = path_in(alloc, folder, NAME)?;
-        let beside = path_in(alloc, folder, BESIDE)?;
+        HostHistory::named(rt, alloc, folder, NAME, BESIDE)
+    }
+
+    /// The file of this name in this folder, with room beside it under the other name.
+    pub(crate) fn named(
+        rt: &'a R,
+        alloc: Global,
+        folder: &'a str,
+        name: &str,
+        beside: &str,
+    ) -> Result<HostHistory<'a, R>, AllocError> {
+        let path = path_in(alloc, folder, name)?;
+        let beside = path_in(alloc, folder, beside)?;
         Ok(HostHistory {
             rt,
             folder,
@@ -127,7 +138,7 @@ fn text_at<R: Files<File = File>>(
 }
 
 /// Whether a file stands at a path, or nothing does. Anything else is the error.
-fn is_file_at<R: Files>(rt: &R, path: &str) -> io::Result<bool> {
+pub(crate) fn is_file_at<R: Files>(rt: &R, path: &str) -> io::Result<bool> {
     match rt.metadata(path) {
         Ok(found) => {
             if found.is_file() {

@@ -6,7 +6,8 @@
 //! is id_history's matter.
 //!
 //! It all stands over any `HistoryPlace`, of which contracts say what it holds; `HostHistory` is
-//! the one of the machine.
+//! the one of the machine. The file `relay.log` beside it (docs/FORMATS.md, Journal file) is one
+//! too, behind whose end octets are put: `JournalPlace`, and `HostJournal` of the machine.
 //!
 //! The socket in a relay's folder by which whoever may write to it tells the relay to stop, or asks
 //! what it holds (docs/PROTOCOL.md, `stop` and `report`).
@@ -16,6 +17,8 @@ mod asking;
 mod control;
 mod history_place;
 mod host;
+mod host_journal;
+mod journal_place;
 mod keeping;
 mod origin;
 mod socket_place;
@@ -26,6 +29,8 @@ pub use asking::ask;
 pub use control::Control;
 pub use history_place::HistoryPlace;
 pub use host::HostHistory;
+pub use host_journal::HostJournal;
+pub use journal_place::JournalPlace;
 pub use keeping::keep;
 pub use origin::{Origin, origin_of};
 pub use teller::Teller;
