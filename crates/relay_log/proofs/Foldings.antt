@@ -1,7 +1,7 @@
 -- What follows from how a journal is folded in.
 use Rattle.std.proofs.Common.{◌≡◌, ◌≢◌, ◌∙◌, ◌==◌, ap, sym, refl, subst, Bool, true, false, List, ℕ}
-use Rattle.std.proofs.Common.{[], ◌∷◌, ◌++◌, ◌<◌, ◌||◌, ◌≤◌, append_assoc, append-nil, cond, inl, inr}
-use Rattle.std.proofs.Common.{Some}
+use Rattle.std.proofs.Common.{[], ◌∷◌, ◌++◌, ◌<◌, ◌||◌, ◌≤◌, append_assoc, append-nil, cond}
+use Rattle.std.proofs.Common.{Some, inl, inr}
 use Rattle.std.proofs.lemmas.Bool.{cases_Bool, le-ltb, lt-ltb, true≢false}
 use Rattle.std.proofs.lemmas.Bool.Decides.{eqb_tells}
 use Rattle.std.proofs.lemmas.Grind.{flat_map-append}
@@ -139,7 +139,8 @@ twice_with old entries setting new is =
 -- the entries in two parts
 in_parts : (old mid : Kept) (first rest : List Entry) (setting : Setting)
     → IsFoldedWith old first setting mid → (id : List ℕ)
-    → last_said setting.buffers mid.ids rest id ≡ last_said setting.buffers old.ids (first ++ rest) id
+    → last_said setting.buffers mid.ids rest id
+    ≡ last_said setting.buffers old.ids (first ++ rest) id
 in_parts old mid first rest setting is id =
     let one : List KeptId = all_told setting.buffers first in
     let other : List KeptId = all_told setting.buffers rest in

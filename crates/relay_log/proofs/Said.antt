@@ -58,7 +58,8 @@ said_after base (one ∷ later) id =
     (sym (said_after (put_id nothing one.id (claim_of_kept one)) later id))
   where
     first : (b : Bool)
-        → cond b (claim_of_kept one) (base id) ≡ or_else (cond b (claim_of_kept one) Unknown) (base id)
+        → cond b (claim_of_kept one) (base id)
+        ≡ or_else (cond b (claim_of_kept one) Unknown) (base id)
     first true = since_known one.token one.moment (base id)
     first false = refl
 
@@ -73,8 +74,8 @@ said_before one later other = by (bytes_eq other one.id) refl
         → or_else (put_all nothing later other) (cond b (claim_of_kept one) Unknown)
         ≡ put_all nothing (one ∷ later) other
     here b at =
-        ap (λ (x : Bool). or_else (put_all nothing later other) (cond x (claim_of_kept one) Unknown))
-        (sym at)
+        ap (λ (x : Bool).
+        or_else (put_all nothing later other) (cond x (claim_of_kept one) Unknown)) (sym at)
         ∙ sym (said_after (put_id nothing one.id (claim_of_kept one)) later other)
 
     by : (b : Bool) → bytes_eq other one.id ≡ b
@@ -101,7 +102,8 @@ said_lasts base lasts (one ∷ said) id =
     (λ (other : List ℕ). by other (bytes_eq other one.id)) said id
   where
     by : (other : List ℕ) (b : Bool)
-        → lasting (cond b (claim_of_kept one) (base other)) ≡ cond b (claim_of_kept one) (base other)
+        → lasting (cond b (claim_of_kept one) (base other))
+        ≡ cond b (claim_of_kept one) (base other)
     by other true = since_lasts one.token one.moment
     by other false = lasts other
 

@@ -40,8 +40,8 @@ last_history =
           ∷ [];
     }
 
--- after it `<b@x>` was refused, and later stored; `<c@x>` stored, and later refused; `<a@x>` stored,
--- and `<d@x>` in a buffer that is gone
+-- after it `<b@x>` was refused, and later stored; `<c@x>` stored, and later refused; `<a@x>`
+-- stored, and `<d@x>` in a buffer that is gone
 abbrev pub last_journal : Journal
 last_journal =
     record {
