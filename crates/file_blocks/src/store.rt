@@ -119,7 +119,7 @@ impl<F: RunFile> FileBlocks<F> {
 impl FileBlocks<HostFile> {
     ghost use Rattle.file_blocks.specs.Store.{ahead_count, asked_of, count_of, file_of};
     ghost use Rattle.file_blocks.specs.Store.{gathered_of, was_blank};
-    ghost use Rattle.file_blocks.specs.Host.{IsEmptied, IsFlushed};
+    ghost use Rattle.file_blocks.specs.Host.{IsEmptied, IsFlushed, asked_of as asked_in};
 
     /// The blocks of a file that was made long enough for them. All memory that it ever takes is
     /// taken here, as by `new`.
@@ -163,6 +163,7 @@ impl FileBlocks<HostFile> {
         ensures failed { OnErr result (¬ IsFlushed (file_of self.new)) }
         ensures count { count_of self.new ≡ count_of self.old }
         ensures asked { asked_of self.new ≡ asked_of self.old }
+        ensures unasked { asked_in (file_of self.new) ≡ asked_in (file_of self.old) }
         ensures gathered { gathered_of self.new ≡ gathered_of self.old }
     {
         self.file.flush_noted()

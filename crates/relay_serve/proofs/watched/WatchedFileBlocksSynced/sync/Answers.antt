@@ -1,4 +1,4 @@
-use Rattle.std.proofs.Common.{◌∙◌, absurd, ap, length, sym}
+use Rattle.std.proofs.Common.{◌∙◌, ap, sym}
 use Rattle.std.proofs.lemmas.Option.{none-some}
 use Rattle.file_blocks.specs.Host.{failed_in}
 use Rattle.relay_serve.proofs.Sizes.{seen_count}
@@ -22,7 +22,7 @@ returns-clause-uncalled g c number = record {
           ∙ sym (seen_count c.args.self.now.store);
     };
     failed_here = λ here. absurd (none-some number here);
-    no_failure = λ other. ap failed_in c.sync_noted.ensures.asked;
+    no_failure = λ other. ap failed_in c.sync_noted.ensures.unasked;
   };
-  calls = ap length c.sync_noted.ensures.asked;
+  calls = c.sync_noted.ensures.asked;
 }
