@@ -3,7 +3,9 @@ use Rattle.std.proofs.Common.{◌≡◌, ℕ, ◌≤◌, true, List, [], ◌∷�
 use Rattle.std.proofs.Common.{Err, sym, subst, arith}
 use Rattle.std.specs.Prelude.{◌&&◌, filter_map, codes, bytes_eq, IsTrue}
 use Rattle.std.proofs.lemmas.Bool.{and_parts, cond_both}
+use Rattle.news_terms.specs.Article.{without_outer_white}
 use Rattle.news_terms.specs.Path.{is_agent}
+use Rattle.line_words.specs.Comments.{is_skipped}
 use Rattle.line_words.specs.Parts.{one_of, two_of, three_of}
 use Rattle.relay_conf.specs.declared.faults.Fault.{Fault}
 use Rattle.relay_conf.specs.declared.relay.Feed.{Feed}
@@ -11,14 +13,15 @@ use Rattle.relay_conf.specs.declared.relay.Peer.{Peer}
 use Rattle.relay_conf.specs.declared.relay.PeerConnections.{PeerConnections}
 use Rattle.relay_conf.specs.LineByLine.{SayEach}
 use Rattle.relay_conf.specs.RelayLines.{RelayLine, RawLine, SaidLine, Own, MaxArticle, Cutoff}
-use Rattle.relay_conf.specs.RelayLines.{Remember, Patience, PeerLine, ConnectionsLine, FeedLine}
+use Rattle.relay_conf.specs.RelayLines.{Remember, Patience, Sync, PeerLine, ConnectionsLine}
+use Rattle.relay_conf.specs.RelayLines.{FeedLine}
 use Rattle.relay_conf.specs.RelayLines.{RawSays, LineSays, own_line, number_line, number_or_fault}
 use Rattle.relay_conf.specs.RelayLines.{with_number, bind_line, peer_ported, peer_line}
 use Rattle.relay_conf.specs.RelayLines.{connections_numbered, connections_line, feed_ringed}
 use Rattle.relay_conf.specs.RelayLines.{feed_line, relay_words, relay_line}
 use Rattle.relay_conf.specs.Relay.{own_of, max_article_of, cutoff_of, remember_of, patience_of}
-use Rattle.relay_conf.specs.Relay.{peer_of, connections_of, feed_of}
-use Rattle.relay_conf.specs.Words.{is_name, is_identity}
+use Rattle.relay_conf.specs.Relay.{sync_of, peer_of, connections_of, feed_of}
+use Rattle.relay_conf.specs.Words.{words, is_name, is_identity}
 use Rattle.relay_conf.proofs.FaultlessLines.{all_given, all_said, within_range}
 use Rattle.relay_conf.proofs.PathIdentities.{identity_is_agent}
 
@@ -29,6 +32,7 @@ IsRanged (Ok (MaxArticle octets)) = (1 ≤ octets) × (octets ≤ 16777216)
 IsRanged (Ok (Cutoff seconds)) = seconds ≤ 4000000000
 IsRanged (Ok (Remember seconds)) = seconds ≤ 4000000000
 IsRanged (Ok (Patience seconds)) = (1 ≤ seconds) × (seconds ≤ 86400)
+IsRanged (Ok (Sync seconds)) = (1 ≤ seconds) × (seconds ≤ 86400)
 IsRanged (Ok (PeerLine name identity port)) = is_identity identity ≡ true
 IsRanged (Ok (ConnectionsLine name connections)) = (1 ≤ connections) × (connections ≤ 64)
 IsRanged (Ok (FeedLine name ring expression)) = (1 ≤ ring) × (ring ≤ 65536)
@@ -83,16 +87,20 @@ of_words (word ∷ after) =
     (λ e. of_number Remember 0 4000000000 (one_of after) (λ n least most. most))
     (λ e. cond_both (bytes_eq word (codes "patience")) _ _ IsRanged
     (λ e. of_number Patience 1 86400 (one_of after) (λ n least most. (least, most)))
+    (λ e. cond_both (bytes_eq word (codes "sync")) _ _ IsRanged
+    (λ e. of_number Sync 1 86400 (one_of after) (λ n least most. (least, most)))
     (λ e. cond_both (bytes_eq word (codes "bind")) _ _ IsRanged (λ e. of_bind (one_of after))
     (λ e. cond_both (bytes_eq word (codes "peer")) _ _ IsRanged (λ e. of_peer (three_of after))
     (λ e. cond_both (bytes_eq word (codes "connections")) _ _ IsRanged
     (λ e. of_connections (two_of after))
     (λ e. cond_both (bytes_eq word (codes "feed")) _ _ IsRanged (λ e. of_feed (three_of after))
-    (λ e. tt)))))))))
+    (λ e. tt))))))))))
 
 -- with a line,
 of_line : (line : List ℕ) → IsRanged (relay_line line)
-of_line line = grind (arith, of_words)
+of_line line =
+    let trimmed = without_outer_white line in
+    cond_both (is_skipped trimmed) _ _ IsRanged (λ e. tt) (λ e. of_words (words trimmed))
 
 -- and with what the line says.
 of_said : (raw : RawLine) (said : SaidLine) → RawSays raw said → IsRanged raw → IsRanged said
@@ -108,6 +116,7 @@ pub record AreRanged (said : List SaidLine) : Type 0 where
   pub cutoffs : All (λ n. n ≤ 4000000000) (filter_map cutoff_of said)
   pub remembers : All (λ n. n ≤ 4000000000) (filter_map remember_of said)
   pub patiences : All (λ n. (1 ≤ n) × (n ≤ 86400)) (filter_map patience_of said)
+  pub syncs : All (λ n. (1 ≤ n) × (n ≤ 86400)) (filter_map sync_of said)
   pub peers : All (λ (peer : Peer). IsTrue (is_agent peer.identity)) (filter_map peer_of said)
   pub connections : All (λ (one : PeerConnections). (1 ≤ one.connections) × (one.connections ≤ 64))
       (filter_map connections_of said)
@@ -131,6 +140,8 @@ are_ranged lines said h =
           (elim [ Ok (Remember n) ↦ λ is. is | one ↦ λ is. tt ]) said all;
       patiences = all_given IsRanged (λ n. (1 ≤ n) × (n ≤ 86400)) patience_of
           (elim [ Ok (Patience n) ↦ λ is. is | one ↦ λ is. tt ]) said all;
+      syncs = all_given IsRanged (λ n. (1 ≤ n) × (n ≤ 86400)) sync_of
+          (elim [ Ok (Sync n) ↦ λ is. is | one ↦ λ is. tt ]) said all;
       peers = all_given IsRanged (λ (peer : Peer). IsTrue (is_agent peer.identity)) peer_of
           (elim [ Ok (PeerLine name own port) ↦ identity_is_agent own | one ↦ λ is. tt ]) said all;
       connections = all_given IsRanged

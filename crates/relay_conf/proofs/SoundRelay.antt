@@ -183,4 +183,5 @@ relay_is_sound lines settings h =
       remember = first_known (λ n. n ≤ 4000000000) stand.remembers ranged.remembers;
       some_patience = patience.0;
       most_patience = patience.1;
+      sync = first_known (λ n. (1 ≤ n) × (n ≤ 86400)) stand.syncs ranged.syncs;
     })

@@ -45,6 +45,7 @@ k1_relay =
       cutoff = 864000;
       remember = None;
       patience = 3600;
+      sync = None;
       bind = each_address;
       peers =
           record { name = codes "p1"; identity = codes "one.example"; port = 0; connections = 1 }

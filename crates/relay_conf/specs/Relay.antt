@@ -11,7 +11,7 @@ use Rattle.relay_conf.specs.declared.relay.Feed.{Feed}
 use Rattle.relay_conf.specs.declared.relay.PeerConnections.{PeerConnections}
 use Rattle.relay_conf.specs.Faults.{first_fault, whole_fault, unless_fault}
 use Rattle.relay_conf.specs.RelayLines.{SaidLine, Skipped, Own, MaxArticle, Cutoff, Remember}
-use Rattle.relay_conf.specs.RelayLines.{Patience, Bind, PeerLine, ConnectionsLine, FeedLine}
+use Rattle.relay_conf.specs.RelayLines.{Patience, Sync, Bind, PeerLine, ConnectionsLine, FeedLine}
 
 -- the own identity that a line says
 abbrev pub own_of : SaidLine → Option (List ℕ)
@@ -22,6 +22,7 @@ own_of (Ok (MaxArticle octets)) = None
 own_of (Ok (Cutoff seconds)) = None
 own_of (Ok (Remember seconds)) = None
 own_of (Ok (Patience seconds)) = None
+own_of (Ok (Sync seconds)) = None
 own_of (Ok (Bind address)) = None
 own_of (Ok (PeerLine name identity port)) = None
 own_of (Ok (ConnectionsLine name connections)) = None
@@ -36,6 +37,7 @@ max_article_of (Ok (MaxArticle octets)) = Some octets
 max_article_of (Ok (Cutoff seconds)) = None
 max_article_of (Ok (Remember seconds)) = None
 max_article_of (Ok (Patience seconds)) = None
+max_article_of (Ok (Sync seconds)) = None
 max_article_of (Ok (Bind address)) = None
 max_article_of (Ok (PeerLine name identity port)) = None
 max_article_of (Ok (ConnectionsLine name connections)) = None
@@ -50,6 +52,7 @@ cutoff_of (Ok (MaxArticle octets)) = None
 cutoff_of (Ok (Cutoff seconds)) = Some seconds
 cutoff_of (Ok (Remember seconds)) = None
 cutoff_of (Ok (Patience seconds)) = None
+cutoff_of (Ok (Sync seconds)) = None
 cutoff_of (Ok (Bind address)) = None
 cutoff_of (Ok (PeerLine name identity port)) = None
 cutoff_of (Ok (ConnectionsLine name connections)) = None
@@ -64,6 +67,7 @@ remember_of (Ok (MaxArticle octets)) = None
 remember_of (Ok (Cutoff seconds)) = None
 remember_of (Ok (Remember seconds)) = Some seconds
 remember_of (Ok (Patience seconds)) = None
+remember_of (Ok (Sync seconds)) = None
 remember_of (Ok (Bind address)) = None
 remember_of (Ok (PeerLine name identity port)) = None
 remember_of (Ok (ConnectionsLine name connections)) = None
@@ -78,10 +82,26 @@ patience_of (Ok (MaxArticle octets)) = None
 patience_of (Ok (Cutoff seconds)) = None
 patience_of (Ok (Remember seconds)) = None
 patience_of (Ok (Patience seconds)) = Some seconds
+patience_of (Ok (Sync seconds)) = None
 patience_of (Ok (Bind address)) = None
 patience_of (Ok (PeerLine name identity port)) = None
 patience_of (Ok (ConnectionsLine name connections)) = None
 patience_of (Ok (FeedLine name ring expression)) = None
+
+-- how often a line says that files are flushed
+abbrev pub sync_of : SaidLine → Option ℕ
+sync_of (Err fault) = None
+sync_of (Ok Skipped) = None
+sync_of (Ok (Own identity)) = None
+sync_of (Ok (MaxArticle octets)) = None
+sync_of (Ok (Cutoff seconds)) = None
+sync_of (Ok (Remember seconds)) = None
+sync_of (Ok (Patience seconds)) = None
+sync_of (Ok (Sync seconds)) = Some seconds
+sync_of (Ok (Bind address)) = None
+sync_of (Ok (PeerLine name identity port)) = None
+sync_of (Ok (ConnectionsLine name connections)) = None
+sync_of (Ok (FeedLine name ring expression)) = None
 
 -- the address that a line says
 abbrev pub bind_of : SaidLine → Option (List ℕ)
@@ -92,6 +112,7 @@ bind_of (Ok (MaxArticle octets)) = None
 bind_of (Ok (Cutoff seconds)) = None
 bind_of (Ok (Remember seconds)) = None
 bind_of (Ok (Patience seconds)) = None
+bind_of (Ok (Sync seconds)) = None
 bind_of (Ok (Bind address)) = Some address
 bind_of (Ok (PeerLine name identity port)) = None
 bind_of (Ok (ConnectionsLine name connections)) = None
@@ -106,6 +127,7 @@ peer_of (Ok (MaxArticle octets)) = None
 peer_of (Ok (Cutoff seconds)) = None
 peer_of (Ok (Remember seconds)) = None
 peer_of (Ok (Patience seconds)) = None
+peer_of (Ok (Sync seconds)) = None
 peer_of (Ok (Bind address)) = None
 peer_of (Ok (PeerLine name identity port)) =
     Some (record { name = name; identity = identity; port = port; connections = 1 })
@@ -121,6 +143,7 @@ connections_of (Ok (MaxArticle octets)) = None
 connections_of (Ok (Cutoff seconds)) = None
 connections_of (Ok (Remember seconds)) = None
 connections_of (Ok (Patience seconds)) = None
+connections_of (Ok (Sync seconds)) = None
 connections_of (Ok (Bind address)) = None
 connections_of (Ok (PeerLine name identity port)) = None
 connections_of (Ok (ConnectionsLine name connections)) =
@@ -136,6 +159,7 @@ feed_name_of (Ok (MaxArticle octets)) = None
 feed_name_of (Ok (Cutoff seconds)) = None
 feed_name_of (Ok (Remember seconds)) = None
 feed_name_of (Ok (Patience seconds)) = None
+feed_name_of (Ok (Sync seconds)) = None
 feed_name_of (Ok (Bind address)) = None
 feed_name_of (Ok (PeerLine name identity port)) = None
 feed_name_of (Ok (ConnectionsLine name connections)) = None
@@ -150,6 +174,7 @@ name_in (Ok (MaxArticle octets)) = None
 name_in (Ok (Cutoff seconds)) = None
 name_in (Ok (Remember seconds)) = None
 name_in (Ok (Patience seconds)) = None
+name_in (Ok (Sync seconds)) = None
 name_in (Ok (Bind address)) = None
 name_in (Ok (PeerLine name identity port)) = None
 name_in (Ok (ConnectionsLine name connections)) = Some name
@@ -173,6 +198,7 @@ feed_of peers (Ok (MaxArticle octets)) = None
 feed_of peers (Ok (Cutoff seconds)) = None
 feed_of peers (Ok (Remember seconds)) = None
 feed_of peers (Ok (Patience seconds)) = None
+feed_of peers (Ok (Sync seconds)) = None
 feed_of peers (Ok (Bind address)) = None
 feed_of peers (Ok (PeerLine name identity port)) = None
 feed_of peers (Ok (ConnectionsLine name connections)) = None
@@ -186,6 +212,7 @@ pub record Stand : Type 0 where
   pub cutoffs : List ℕ
   pub remembers : List ℕ
   pub patiences : List ℕ
+  pub syncs : List ℕ
   pub binds : List (List ℕ)
   pub peers : List Peer
   pub connections : List PeerConnections
@@ -200,6 +227,7 @@ stand_of said =
       cutoffs = filter_map cutoff_of said;
       remembers = filter_map remember_of said;
       patiences = filter_map patience_of said;
+      syncs = filter_map sync_of said;
       binds = filter_map bind_of said;
       peers = filter_map peer_of said;
       connections = filter_map connections_of said;
@@ -233,6 +261,7 @@ line_fault stand (Ok (MaxArticle octets)) = once stand.sizes
 line_fault stand (Ok (Cutoff seconds)) = once stand.cutoffs
 line_fault stand (Ok (Remember seconds)) = once stand.remembers
 line_fault stand (Ok (Patience seconds)) = once stand.patiences
+line_fault stand (Ok (Sync seconds)) = once stand.syncs
 line_fault stand (Ok (Bind address)) = once stand.binds
 line_fault stand (Ok (PeerLine name identity port)) = peer_fault stand.peers name
 line_fault stand (Ok (ConnectionsLine name connections)) =
@@ -274,6 +303,7 @@ pub record RelaySettings : Type 0 where
   pub cutoff : ℕ
   pub remember : Option ℕ
   pub patience : ℕ
+  pub sync : Option ℕ
   pub bind : List ℕ
   pub peers : List Peer
   pub feeds : List Feed
@@ -308,6 +338,7 @@ settings_of said =
       cutoff = first_or 864000 (stand_of said).cutoffs;
       remember = first_of (stand_of said).remembers;
       patience = first_or 3600 (stand_of said).patiences;
+      sync = first_of (stand_of said).syncs;
       bind = first_or each_address (stand_of said).binds;
       peers = map (connected (stand_of said).connections) (stand_of said).peers;
       feeds = filter_map (feed_of (stand_of said).peers) said;

@@ -19,8 +19,8 @@ use Rattle.relay_conf.specs.declared.relay.RelayDraft.{RelayDraft}
 use Rattle.relay_conf.specs.Faults.{whole_fault, unless_fault}
 use Rattle.relay_conf.specs.Drafts.{ReadingGives}
 use Rattle.relay_conf.specs.RelayLines.{RelayLine, RawLine, SaidLine, RawSays, Skipped, Own}
-use Rattle.relay_conf.specs.RelayLines.{MaxArticle, Cutoff, Remember, Patience, Bind, PeerLine}
-use Rattle.relay_conf.specs.RelayLines.{ConnectionsLine, FeedLine}
+use Rattle.relay_conf.specs.RelayLines.{MaxArticle, Cutoff, Remember, Patience, Sync, Bind}
+use Rattle.relay_conf.specs.RelayLines.{PeerLine, ConnectionsLine, FeedLine}
 use Rattle.relay_conf.specs.Relay.{Stand, stand_of, connected, each_address, line_fault}
 use Rattle.relay_conf.specs.Relay.{peer_number, is_peer, no_own_fault, RelaySettings}
 
@@ -31,6 +31,7 @@ pub record Reading : Type 0 where
   pub cutoff : Option ℕ
   pub remember : Option ℕ
   pub patience : Option ℕ
+  pub sync : Option ℕ
   pub bind : Option (List ℕ)
   pub peers : List Peer
   pub connections : List PeerConnections
@@ -46,6 +47,7 @@ draft_view d =
       cutoff = d.cutoff;
       remember = d.remember;
       patience = d.patience;
+      sync = d.sync;
       bind = d.bind;
       peers = d.peers.items;
       connections = d.connections.items;
@@ -62,6 +64,7 @@ nothing =
       cutoff = None;
       remember = None;
       patience = None;
+      sync = None;
       bind = None;
       peers = [];
       connections = [];
@@ -82,6 +85,7 @@ stand_view r =
       cutoffs = option_to_list r.cutoff;
       remembers = option_to_list r.remember;
       patiences = option_to_list r.patience;
+      syncs = option_to_list r.sync;
       binds = option_to_list r.bind;
       peers = r.peers;
       connections = r.connections;
@@ -96,6 +100,7 @@ after_line number r (MaxArticle octets) = record r { max_article = Some octets }
 after_line number r (Cutoff seconds) = record r { cutoff = Some seconds }
 after_line number r (Remember seconds) = record r { remember = Some seconds }
 after_line number r (Patience seconds) = record r { patience = Some seconds }
+after_line number r (Sync seconds) = record r { sync = Some seconds }
 after_line number r (Bind address) = record r { bind = Some address }
 after_line number r (PeerLine name identity port) =
     record r {
@@ -170,6 +175,7 @@ named_feed_of (Ok (MaxArticle octets)) = None
 named_feed_of (Ok (Cutoff seconds)) = None
 named_feed_of (Ok (Remember seconds)) = None
 named_feed_of (Ok (Patience seconds)) = None
+named_feed_of (Ok (Sync seconds)) = None
 named_feed_of (Ok (Bind address)) = None
 named_feed_of (Ok (PeerLine name identity port)) = None
 named_feed_of (Ok (ConnectionsLine name connections)) = None
@@ -185,6 +191,7 @@ named_of number (Ok (MaxArticle octets)) = None
 named_of number (Ok (Cutoff seconds)) = None
 named_of number (Ok (Remember seconds)) = None
 named_of number (Ok (Patience seconds)) = None
+named_of number (Ok (Sync seconds)) = None
 named_of number (Ok (Bind address)) = None
 named_of number (Ok (PeerLine name identity port)) = None
 named_of number (Ok (ConnectionsLine name connections)) =
@@ -235,6 +242,7 @@ reading_settings r =
       cutoff = unwrap_or r.cutoff 864000;
       remember = r.remember;
       patience = unwrap_or r.patience 3600;
+      sync = r.sync;
       bind = unwrap_or r.bind each_address;
       peers = map (connected r.connections) r.peers;
       feeds = map (numbered_feed r.peers) r.feeds;

@@ -11,8 +11,8 @@ use Rattle.relay_conf.specs.declared.faults.ConfError.{ConfError}
 use Rattle.relay_conf.specs.declared.settings.Relay.{Relay}
 use Rattle.relay_conf.specs.LineByLine.{SayTogether, HaveFault, LinesGive}
 use Rattle.relay_conf.specs.RelayLines.{LineSays, RelayLine, RawLine, Skipped, Own, MaxArticle}
-use Rattle.relay_conf.specs.RelayLines.{Cutoff, Remember, Patience, Bind, PeerLine, ConnectionsLine}
-use Rattle.relay_conf.specs.RelayLines.{FeedLine}
+use Rattle.relay_conf.specs.RelayLines.{Cutoff, Remember, Patience, Sync, Bind, PeerLine}
+use Rattle.relay_conf.specs.RelayLines.{ConnectionsLine, FeedLine}
 use Rattle.relay_conf.specs.Relay.{RelaySettings, early_fault, relay_said}
 
 -- a line of relay.conf as the definitions have it, its expression as text
@@ -23,6 +23,7 @@ raw_view (lines.MaxArticle octets) = MaxArticle octets
 raw_view (lines.Cutoff seconds) = Cutoff seconds
 raw_view (lines.Remember seconds) = Remember seconds
 raw_view (lines.Patience seconds) = Patience seconds
+raw_view (lines.Sync seconds) = Sync seconds
 raw_view (lines.Bind address) = Bind address
 raw_view (lines.Peer name identity port) = PeerLine name.now identity.now port
 raw_view (lines.Connections name connections) = ConnectionsLine name.now connections
@@ -39,6 +40,7 @@ limit_view limits.MaxArticle number = MaxArticle number
 limit_view limits.Cutoff number = Cutoff number
 limit_view limits.Remember number = Remember number
 limit_view limits.Patience number = Patience number
+limit_view limits.Sync number = Sync number
 
 -- the settings of relay.conf as the definitions have them
 abbrev pub relay_view : Relay → RelaySettings
@@ -49,6 +51,7 @@ relay_view relay =
       cutoff = relay.cutoff;
       remember = relay.remember;
       patience = relay.patience;
+      sync = relay.sync;
       bind = ipv4_octets relay.bind;
       peers = relay.peers.items;
       feeds = relay.feeds.items;

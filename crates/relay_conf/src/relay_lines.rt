@@ -25,6 +25,8 @@ pub(crate) enum Line<'a> {
     Remember(u64),
     /// The seconds for which a silent peer is waited for.
     Patience(u32),
+    /// The seconds between two flushes of the files.
+    Sync(u64),
     /// The address on which ports listen.
     Bind([u8; 4]),
     /// A peer: its name, its identity and its port.
@@ -42,6 +44,7 @@ pub(crate) enum Limit {
     Cutoff,
     Remember,
     Patience,
+    Sync,
 }
 
 /// Reads a line alone, but for the expression of a feed.
@@ -72,6 +75,8 @@ fn line_of<'a>(word: &[u8], rest: &'a [u8]) -> Result<Line<'a>, Fault>
         limit_line(Limit::Remember, 0, 4_000_000_000, rest)
     } else if is(word, b"patience") {
         limit_line(Limit::Patience, 1, 86_400, rest)
+    } else if is(word, b"sync") {
+        limit_line(Limit::Sync, 1, 86_400, rest)
     } else if is(word, b"bind") {
         bind_line(rest)
     } else if is(word, b"peer") {
@@ -106,6 +111,7 @@ fn limit_line<'a>(limit: Limit, least: u64, most: u32, rest: &[u8]) -> Result<Li
         Limit::Cutoff => Ok(Line::Cutoff(number)),
         Limit::Remember => Ok(Line::Remember(number)),
         Limit::Patience => Ok(Line::Patience(number as u32)),
+        Limit::Sync => Ok(Line::Sync(number)),
     }
 }
 

@@ -74,6 +74,9 @@ pub struct Relay {
     pub remember: Option<u64>,
     /// The seconds for which a silent peer is waited for.
     pub patience: u32,
+    /// The seconds between two flushes of the files of the buffers while the relay is served;
+    /// without it there is none.
+    pub sync: Option<u64>,
     /// The address of the machine on which ports listen; 0.0.0.0 stands for all.
     pub bind: Ipv4Addr,
     pub peers: Vec<Peer>,
@@ -84,6 +87,7 @@ pub struct Relay {
       cutoff = cutoff;
       remember = remember;
       patience = patience;
+      sync = sync;
       bind = ipv4_octets bind;
       peers = peers.items;
       feeds = feeds.items;
@@ -99,6 +103,7 @@ impl Drop for Relay {
             cutoff: _,
             remember: _,
             patience: _,
+            sync: _,
             bind: _,
             peers: _,
             feeds: _,
