@@ -45,6 +45,14 @@ remember_text lines cutoff None =
     codes "relay.conf: remember (no line says it): no message-id is forgotten\n"
 remember_text lines cutoff (Some seconds) = remembered_text lines cutoff seconds
 
+-- what is told of how often files are flushed while the relay is served
+unfoldable pub sync_text : (lines : List (List ℕ)) → Option ℕ → List ℕ
+sync_text lines None =
+    codes "relay.conf: sync (no line says it): articles are flushed when the relay stops\n"
+sync_text lines (Some seconds) =
+    setting_text lines (codes "sync") (decimal seconds)
+    (codes "seconds between two flushes of the files of buffers")
+
 -- what is told of the relay itself
 unfoldable pub settings_text : Relay → (lines : List (List ℕ)) → List ℕ
 settings_text relay lines =
@@ -56,5 +64,6 @@ settings_text relay lines =
     ++ remember_text lines relay.cutoff relay.remember
     ++ setting_text lines (codes "patience") (decimal relay.patience)
     (codes "seconds for which a silent peer is waited for")
+    ++ sync_text lines relay.sync
     ++ setting_text lines (codes "bind") (ipv4_text (ipv4_octets relay.bind))
     (codes "the address on which ports listen, 0.0.0.0 for all")

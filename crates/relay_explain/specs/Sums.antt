@@ -1,6 +1,6 @@
 -- What a configuration takes of the machine (docs/OPERATING.md, Memory and Connections).
 use Rattle.std.specs.Prelude.{ℕ, ◌+◌, ◌*◌, ◌/◌, ◌==◌, List, ◌++◌, codes, decimal, length}
-use Rattle.std.specs.Prelude.{if◌then◌else◌}
+use Rattle.std.specs.Prelude.{Option, Some, None, if◌then◌else◌}
 use Rattle.std.specs.List.{sum_by}
 use Rattle.relay_conf.specs.declared.cycbuff.BufferConf.{BufferConf}
 use Rattle.relay_conf.specs.declared.relay.Feed.{Feed}
@@ -36,11 +36,18 @@ memory_of config =
     marks_of config.buffers.buffers.items + length config.buffers.buffers.items * 131072
     + rings_of config.relay.feeds.items + length config.buffers.groups.items * 6000 + 65536
 
--- the descriptors: of each buffer, three of each connection, of the socket and of whoever asks
--- there, and of the standard streams
+-- the descriptors of so many files of buffers: each is open once more where it is flushed while the
+-- relay is served
+abbrev pub openings_of : (sync : Option ℕ) → (files : ℕ) → ℕ
+openings_of None files = files
+openings_of (Some seconds) files = files * 2
+
+-- the descriptors: of the files of buffers, three of each connection, of the socket and of whoever
+-- asks there, and of the standard streams
 unfoldable pub descriptors_of : Config → ℕ
 descriptors_of config =
-    length config.buffers.buffers.items + connections_of config.relay.peers.items * 3 + 5
+    openings_of config.relay.sync (length config.buffers.buffers.items)
+    + connections_of config.relay.peers.items * 3 + 5
 
 -- what a configuration takes of the machine
 unfoldable pub wants_text : Config → List ℕ

@@ -52,6 +52,7 @@ pub(crate) fn put_settings(alloc: Global, text: Text, relay: &Relay, lines: &[&[
         relay.patience as u64,
         b"seconds for which a silent peer is waited for",
     );
+    let text = put_sync(text, lines, relay.sync);
     put_address(alloc, text, lines, &relay.bind)
 }
 
@@ -94,6 +95,22 @@ fn put_remember(text: Text, lines: &[&[u8]], cutoff: u64, remember: Option<u64>)
                 key_line(lines, b"remember"),
                 SOON_FORGOTTEN,
             )
+        }
+    }
+}
+
+/// Puts what is told of how often files are flushed while the relay is served.
+#[tactic(auto, unfolding(crate::specs::Settings::sync_text))]
+fn put_sync(text: Text, lines: &[&[u8]], sync: Option<u64>) -> Text
+    ensures { Adds text result (terms.sync_text (map (λ line. line.now) lines.now) sync) }
+{
+    match sync {
+        None => text.add(
+            b"relay.conf: sync (no line says it): articles are flushed when the relay stops\n",
+        ),
+        Some(seconds) => {
+            let told = b"seconds between two flushes of the files of buffers".as_slice();
+            put_number(text, lines, b"sync", seconds, told)
         }
     }
 }

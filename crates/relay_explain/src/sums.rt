@@ -98,7 +98,18 @@ fn memory_of(config: &Config) -> u128
 fn descriptors_of(config: &Config) -> u128
     ensures { result ≡ terms.descriptors_of config.now }
 {
-    let buffers = config.buffers.buffers.len() as u128;
+    let openings = openings_of(config.relay.sync, config.buffers.buffers.len());
     let connections = connections_of(&config.relay.peers);
-    buffers + connections * 3 + 5
+    openings + connections * 3 + 5
+}
+
+/// The descriptors of so many files of buffers.
+fn openings_of(sync: Option<u64>, files: usize) -> u128
+    ensures value { result ≡ terms.openings_of sync files }
+    ensures most { result ≤ files * 2 }
+{
+    match sync {
+        None => files as u128,
+        Some(_) => files as u128 * 2,
+    }
 }
