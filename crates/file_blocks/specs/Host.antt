@@ -1,5 +1,6 @@
 -- What was asked of a file of the machine.
 use Rattle.std.specs.Prelude.{◌+◌, ℕ, List, [], ◌∷◌, Bool, true, false, IsTrue}
+use Rattle.file_blocks.specs.declared.flusher.Flusher.{Flusher}
 use Rattle.file_blocks.specs.declared.host.HeldFile.{HeldFile}
 use Rattle.file_blocks.specs.declared.host.HostFile.{HostFile}
 use Rattle.file_blocks.specs.declared.host.Identity.{Identity}
@@ -15,6 +16,10 @@ identity_of file = file.identity
 -- which file it is that is held
 abbrev pub held_identity : HeldFile → Identity
 held_identity held = held.identity
+
+-- which file it is that is flushed beside whoever writes it
+abbrev pub flushed_identity : Flusher → Identity
+flushed_identity flusher = flusher.identity
 
 -- how many of the calls failed
 unfoldable pub failed_in : List (ℕ × Bool) → ℕ

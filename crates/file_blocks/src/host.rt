@@ -46,11 +46,21 @@ pub struct Identity {
     inode: u64,
 }
 
+impl Identity {
+    /// Which file it is of which this was found.
+    pub(crate) fn of(found: &Metadata) -> Identity {
+        Identity {
+            device: found.dev(),
+            inode: found.ino(),
+        }
+    }
+}
+
 /// A regular file of the machine that is held: it is open to be read and written, and locked, so
 /// that nobody else who asks for its lock has it. Nothing was read of it or written to it.
 pub struct HeldFile {
     file: File,
-    identity: Identity,
+    pub(crate) identity: Identity,
 }
 
 // Written out, so that no crate above proves anew how each part is let go.
@@ -79,10 +89,7 @@ impl HeldFile {
         lock(&file)?;
         Ok(HeldFile {
             file,
-            identity: Identity {
-                device: found.dev(),
-                inode: found.ino(),
-            },
+            identity: Identity::of(&found),
         })
     }
 
@@ -251,7 +258,7 @@ impl RunFile for HostFile {
 
 /// Refuses what stands at the path and is no regular file. Where nothing stands there, the file is
 /// to be made.
-fn look_before(rt: &impl Files, path: &str) -> Result<(), Unusable> {
+pub(crate) fn look_before(rt: &impl Files, path: &str) -> Result<(), Unusable> {
     match fs::metadata(rt, path) {
         Ok(found) => take_regular(&found),
         Err(error) if error.kind() == io::ErrorKind::NotFound => Ok(()),

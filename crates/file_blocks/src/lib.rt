@@ -11,6 +11,7 @@
 mod course;
 mod file;
 mod fitted;
+mod flusher;
 mod gathering;
 mod host;
 mod last;
@@ -21,6 +22,7 @@ mod store;
 
 pub use file::RunFile;
 pub use fitted::FittedFile;
+pub use flusher::Flusher;
 pub use host::{HeldFile, HostFile, Identity, Unusable};
 pub use run::RUN_BLOCKS;
 pub use store::FileBlocks;
