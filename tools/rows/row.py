@@ -63,7 +63,7 @@ FILES = ("file", "folder", "pipe", "link", "symlink", "mode", "cut", "poke", "re
 
 # The lines that set something of the program while it runs.
 SHARES = ("clock", "later", "pause", "pauses", "stall", "stalled", "release", "fails", "peers",
-          "crowded")
+          "crowded", "refuses", "flushes", "unflushed")
 
 # The users of programs that may have a few threads alone: each program has one of its own, since
 # the system counts a user's.
@@ -81,6 +81,8 @@ class Row:
         self.set_before = set()
         self.numbers, self.counts = {}, {}
         self.calls, self.most = {}, None
+        # How many flushes lines have spoken of.
+        self.flushed = 0
         # By their names; the relay has none.
         self.clients, self.programs = {}, {}
         self.started = []
@@ -256,8 +258,12 @@ class Row:
             self.see_come(name)
         elif name == "release":
             self.shared.release()
-        elif name == "fails":
-            self.shared.set(fails=int(rest))
+        elif name in ("fails", "refuses"):
+            self.shared.set(**{name: int(rest)})
+        elif name == "flushes":
+            self.see_flushed([it[0] for it in rest.split()])
+        elif name == "unflushed":
+            self.see_unflushed(float(rest))
         else:
             takes = int(more) + 1 if more else 0
             self.shared.set(takes=takes, breaks=word == "break", octets=word == "octets",
@@ -270,6 +276,32 @@ class Row:
             if time.monotonic() > end:
                 raise Wrong(f"nothing waits after {self.given.patience} seconds")
             time.sleep(0.001)
+
+    def see_flushed(self, files):
+        """These are the next files to be flushed, in this order, soon."""
+        end = time.monotonic() + self.given.patience
+        while len(found := self.shared.flushed(self.flushed)) < len(files):
+            if time.monotonic() > end:
+                break
+            time.sleep(0.001)
+        if not found.startswith("".join(files)):
+            raise Wrong(f"flushed are {' '.join(found)}")
+        self.flushed += len(files)
+
+    def see_unflushed(self, seconds):
+        """Nothing more is flushed for so many seconds."""
+        time.sleep(seconds)
+        if found := self.shared.flushed(self.flushed):
+            raise Wrong(f"flushed are {' '.join(found)}")
+
+    def see_tasks(self, count):
+        """The relay has so many threads."""
+        tasks = Path(f"/proc/{self.programs[''].process.pid}/task")
+        end = time.monotonic() + self.given.patience
+        while (found := len(os.listdir(tasks))) != count:
+            if time.monotonic() > end:
+                raise Wrong(f"it has {found} threads")
+            time.sleep(0.01)
 
     def start(self, name, words):
         """Starts the program under this name."""
@@ -563,6 +595,8 @@ class Row:
             self.see_rest(float(rest))
         elif line == "narrow":
             self.make_fault(ROWS_NARROW="1")
+        elif name == "tasks":
+            self.see_tasks(int(rest))
         elif name == "tells":
             self.see_told(*rest.split(" ", 1))
         elif name == "pulses":

@@ -24,8 +24,8 @@ SHARING = r"""
 
 static struct {
     uint64_t clock, writes, reads, stalled, fails, takes, breaks, octets, later, yields, pause, whose,
-        pauses, crowded, hangs;
-    char file[64];
+        pauses, crowded, hangs, flushes, refuses, flushed;
+    char file[64], flushed_files[2048];
 } *shared;
 
 __attribute__((constructor)) static void share(void) {
@@ -85,6 +85,38 @@ static int fails(int file, uint64_t *waits) {
         return 0;
     errno = EIO;
     return 1;
+}
+
+/* A flush of a buffer is noted by the front of its file's name, waits where it has to, and fails
+   where it has to. */
+int fsync(int file) {
+    char link[64], path[4096];
+    ssize_t length;
+    const char *name;
+    uint64_t left;
+    if (shared && ends(file, ".buf")) {
+        snprintf(link, sizeof link, "/proc/self/fd/%d", file);
+        length = readlink(link, path, sizeof path - 1);
+        path[length > 0 ? length : 0] = 0;
+        name = strrchr(path, '/');
+        left = __atomic_load_n(&shared->flushed, __ATOMIC_SEQ_CST);
+        shared->flushed_files[left % sizeof shared->flushed_files] = name ? name[1] : '?';
+        __atomic_add_fetch(&shared->flushed, 1, __ATOMIC_SEQ_CST);
+        if (NOW(flushes) && ends(file, shared->file)) {
+            __atomic_add_fetch(&shared->stalled, 1, __ATOMIC_SEQ_CST);
+            while (NOW(flushes))
+                usleep(500);
+        }
+        left = NOW(refuses);
+        while (left && !__atomic_compare_exchange_n(&shared->refuses, &left, left - 1, 0,
+                                                    __ATOMIC_SEQ_CST, __ATOMIC_SEQ_CST))
+            ;
+        if (left) {
+            errno = EIO;
+            return -1;
+        }
+    }
+    return syscall(SYS_fsync, file);
 }
 
 /* What a thread is by what it did last, and how often it gave way to others since then. */
@@ -235,12 +267,13 @@ ssize_t send(int file, const void *octets, size_t count, int flags) {
 }
 """
 NUMBERS = ("clock", "writes", "reads", "stalled", "fails", "takes", "breaks", "octets", "later",
-           "yields", "pause", "whose", "pauses", "crowded",
-           "hangs")
+           "yields", "pause", "whose", "pauses", "crowded", "hangs", "flushes", "refuses",
+           "flushed")
 # Whose pauses those are that a row asks for.
 WHOSE = {"others": 0, "writers": 1, "sessions": 2}
-# The octets of a number, and of the end of a path behind them.
-SIZE, END = 8, 64
+# The octets of a number, of the end of a path behind them, and of the fronts of the names of the
+# files that were flushed behind that.
+SIZE, END, FLUSHED = 8, 64, 2048
 
 
 class Shared:
@@ -260,7 +293,7 @@ class Shared:
         return struct.unpack_from("<Q", self.room, SIZE * NUMBERS.index(name))[0]
 
     def stall(self, word, file):
-        """Each write or read of this file waits from here on."""
+        """Each write, read or flush of this file waits from here on."""
         place = SIZE * len(NUMBERS)
         self.room[place : place + END] = f"/{file}".encode().ljust(END, b"\0")
         self.set(**{word: 1, "stalled": 0})
@@ -272,4 +305,9 @@ class Shared:
         self.set(yields=int(times))
 
     def release(self):
-        self.set(writes=0, reads=0)
+        self.set(writes=0, reads=0, flushes=0)
+
+    def flushed(self, since):
+        """The fronts of the names of the files that were flushed, behind so many others."""
+        front = SIZE * len(NUMBERS) + END
+        return "".join(chr(self.room[front + it % FLUSHED]) for it in range(since, self.get("flushed")))

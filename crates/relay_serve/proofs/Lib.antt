@@ -4,6 +4,7 @@ mod Founds
 mod Kept
 mod PeerSources
 mod Repairs
+mod Rounds
 mod Rows
 mod ServeFaults
 mod Sizes

@@ -13,4 +13,5 @@ pub mod RunTotals
 pub mod Running
 pub mod Starting
 pub mod Synced
+pub mod Syncing
 pub mod Watched

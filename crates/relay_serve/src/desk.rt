@@ -1,6 +1,10 @@
 //! Whoever is asked while a relay is served.
+ghost use Rattle.std.specs.Prelude.{◌≡◌, is_some};
+ghost use Rattle.relay_serve.specs.Syncing.{syncing_in};
+
 use crate::gate::CountingGate;
 use crate::side_thread::Figured;
+use crate::syncing::Syncing;
 use live_wire::Stop;
 use relay_folder::{Control, Teller, Word};
 use relay_report::text_of;
@@ -26,6 +30,8 @@ pub(crate) struct Desk<'a> {
     stop: &'a Stop,
     gate: &'a CountingGate<'a>,
     control: Control,
+    /// What is flushed meanwhile.
+    syncing: Option<Syncing<'a>>,
     ended: AtomicBool,
 }
 
@@ -36,12 +42,16 @@ impl<'a> Desk<'a> {
         stop: &'a Stop,
         gate: &'a CountingGate<'a>,
         control: Control,
-    ) -> Desk<'a> {
+        syncing: Option<Syncing<'a>>,
+    ) -> Desk<'a>
+        ensures syncing { syncing_in result ≡ syncing.entry }
+    {
         Desk {
             alloc,
             stop,
             gate,
             control,
+            syncing,
             ended: AtomicBool::new(false),
         }
     }
@@ -112,6 +122,20 @@ impl<'a> Desk<'a> {
         }
     }
 
+    /// Whether files are flushed meanwhile.
+    pub(crate) fn syncs(&self) -> bool
+        ensures { result ≡ is_some (syncing_in self.now) }
+    {
+        self.syncing.is_some()
+    }
+
+    /// Flushes them until the relay has ended.
+    pub(crate) fn sync<R: Wait + Clock + Eprint>(&self, rt: &R) {
+        if let Some(syncing) = &self.syncing {
+            syncing.go_on(rt, &self.ended);
+        }
+    }
+
     /// Is told that the relay has ended.
     pub(crate) fn ended(&self) {
         self.ended.store(true, Ordering::SeqCst);
@@ -119,7 +143,7 @@ impl<'a> Desk<'a> {
 }
 
 /// The second of the machine's clock that never goes back, the first one where it can't be asked.
-fn second_of<R: Clock>(rt: &R) -> u64 {
+pub(crate) fn second_of<R: Clock>(rt: &R) -> u64 {
     match rt.monotonic() {
         Ok(passed) => passed.as_secs(),
         Err(_) => 0,

@@ -3,10 +3,11 @@ ghost use Rattle.std.specs.Prelude.{◌≡◌, ◌↔◌, length, map, All, AllP
 ghost use Rattle.std.specs.Prelude.{IsSome, IsTrue, MatchBool};
 ghost use Rattle.relay_serve.specs.Files.{HasReason, IsFaultAt, IsFaultOf, IsFileFault};
 ghost use Rattle.relay_serve.specs.Files.{DifferentFiles, SharesFile, WasBlank, WasEmptied};
+ghost use Rattle.file_blocks.specs.Host.{flushed_identity, held_identity};
 ghost use Rattle.file_blocks.specs.Store.{count_of, was_blank};
 
 use crate::reasons::reason_of;
-use file_blocks::{FileBlocks, FittedFile, HeldFile, Unusable};
+use file_blocks::{FileBlocks, FittedFile, Flusher, HeldFile, Unusable};
 use relay_conf::{BufferConf, Buffers};
 use relay_report::{LostFile, Reason, ServeError};
 use std::alloc::{AllocError, Global};
@@ -81,6 +82,43 @@ fn hold_file<R: Files<File = File>>(
                 Ok(file)
             }
         }
+        Err(refused) => Err(reason_of(&refused)),
+    }
+}
+
+/// The file of a buffer, which is held, open once more to be flushed beside whoever writes it. The
+/// error is want of memory, or that this can't be done.
+pub(crate) fn flusher_of<R: Files<File = File>>(
+    rt: &R,
+    alloc: Global,
+    folder: &str,
+    buffer: &BufferConf,
+    held: &HeldFile,
+) -> Result<Flusher, ServeError>
+    ensures same { IfOk result (λ flusher. flushed_identity flusher ≡ held_identity held.now) }
+    ensures fault { IfErr result (IsFaultOf buffer.now) }
+{
+    match open_once_more(rt, alloc, folder, buffer, held) {
+        Ok(flusher) => Ok(flusher),
+        Err(Some(reason)) => Err(unusable(alloc, buffer, reason)),
+        Err(None) => Err(ServeError::Memory),
+    }
+}
+
+/// The file of a buffer, which is held, open once more, or why that can't be; no reason where
+/// memory was refused.
+fn open_once_more<R: Files<File = File>>(
+    rt: &R,
+    alloc: Global,
+    folder: &str,
+    buffer: &BufferConf,
+    held: &HeldFile,
+) -> Result<Flusher, Option<Reason>>
+    ensures { IfOk result (λ flusher. flushed_identity flusher ≡ held_identity held.now) }
+{
+    let path = path_of(alloc, folder, buffer)?;
+    match held.flusher(rt, path.as_str()) {
+        Ok(flusher) => Ok(flusher),
         Err(refused) => Err(reason_of(&refused)),
     }
 }

@@ -30,6 +30,7 @@ mod starting;
 mod stop_number;
 mod streams;
 mod synced;
+mod syncing;
 mod watched;
 
 pub use adding::add_on;

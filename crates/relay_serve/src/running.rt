@@ -18,7 +18,7 @@ use crate::files::unformatted;
 use crate::gate::CountingGate;
 use crate::lives::{finish, unstarted};
 use crate::run_totals::RunTotals;
-use crate::side_thread::{Figured, Served, start_side_thread};
+use crate::side_thread::{Figured, Served, start_beside};
 use block_shelf::BeginError;
 use cyc_block::BlockStore;
 use live_store::{ArticleLog, StorePremises};
@@ -291,13 +291,13 @@ fn run_beside<
             requires { W.pre run }
             ensures { (result ≡ Err faults.NoThread) ⊎ W.post run result }
         {
-            let Some(attending) = start_side_thread(scope, rt, side, served) else {
+            let Some(beside) = start_beside(scope, rt, side, served) else {
                 drop(run);
                 return Err(ServeError::NoThread);
             };
             let ran = run();
             side.ended();
-            attending.join(rt);
+            beside.join(rt);
             ran
         },
     )

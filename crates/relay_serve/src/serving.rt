@@ -18,6 +18,7 @@ use crate::ports::open_ports;
 use crate::repairing::begin_again;
 use crate::running::{Finished, Records, Surroundings, channels_of, run_relay};
 use crate::streams::fill_streams;
+use crate::syncing::{Syncing, open_syncing};
 use crate::watched::{Watched, watch};
 use file_blocks::FileBlocks;
 use live_store::ArticleLog;
@@ -132,10 +133,10 @@ where
         + Sync,
     ensures { ServeGives config.now result (W.contents writer.old) (W.contents writer.new) }
 {
-    let (unbegun, peer_sources) = open_all(rt, alloc, config, asked, stop)?;
+    let (unbegun, peer_sources, syncing) = open_all(rt, alloc, config, asked, stop)?;
     match Control::listen(rt, alloc, asked.folder) {
         Ok(control) => {
-            let desk = Desk::new(alloc, stop, gate, control);
+            let desk = Desk::new(alloc, stop, gate, control, syncing);
             tell_serving(rt, peer_sources.len(), unbegun.stores.len());
             let access = Access {
                 peer_sources,
@@ -148,6 +149,7 @@ where
             answer
         }
         Err(error) => {
+            drop(syncing);
             drop(peer_sources);
             drop(unbegun);
             match error.kind() {
@@ -158,15 +160,15 @@ where
     }
 }
 
-/// Has the files of the buffers, then the ports of the peers, and then makes the files as long as
-/// they have to be.
+/// Has the files of the buffers, each once more where they are flushed meanwhile, then the ports of
+/// the peers, and then makes the files as long as they have to be.
 fn open_all<'a, R>(
     rt: &R,
     alloc: Global,
-    config: &Config,
+    config: &'a Config,
     asked: &Asked<'_>,
     stop: &'a Stop,
-) -> Result<(Unbegun, Vec<PeerSource<Port<'a>>>), ServeError>
+) -> Result<(Unbegun, Vec<PeerSource<Port<'a>>>, Option<Syncing<'a>>), ServeError>
 where
     R: Net<Listener = TcpListener, Stream = TcpStream> + Files<File = File>,
     ensures stores { IfOk result (λ opened. map count_of opened.0.stores.items
@@ -176,13 +178,14 @@ where
         ⊎ IsPortFault config.now.relay.peers.items error) }
 {
     let files = hold_files(rt, alloc, &config.buffers, asked.folder)?;
+    let syncing = open_syncing(rt, alloc, config, asked.folder, &files)?;
     let peer_sources = open_ports(rt, alloc, &config.relay, asked.sessions, stop)?;
     let stores = fit_files(alloc, &config.buffers, files)?;
     let unbegun = Unbegun {
         stores,
         fresh: asked.fresh,
     };
-    Ok((unbegun, peer_sources))
+    Ok((unbegun, peer_sources, syncing))
 }
 
 /// Tells that a relay is served, at so many ports, over so many buffers.

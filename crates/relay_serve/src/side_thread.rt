@@ -1,6 +1,7 @@
 //! What goes on beside a relay that is served.
-ghost use Rattle.std.specs.Prelude.{◌≡◌, length};
+ghost use Rattle.std.specs.Prelude.{◌≡◌, IfSome, is_some, length};
 ghost use Rattle.relay_live.specs.Making.{buffers_in};
+ghost use Rattle.relay_serve.specs.Syncing.{syncing_in};
 
 use crate::desk::Desk;
 use crate::figures::figures_of;
@@ -26,13 +27,63 @@ pub(crate) trait Figured<R> {
 }
 
 /// Starts the thread of what goes on beside a relay, none where no thread is to be had.
-pub(crate) fn start_side_thread<
-    's,
-    E,
-    F: Figured<R> + Sync,
-    R: Threads + Wait + Clock + Eprint + Sync,
->(scope: &'s Scope<'s, E>, rt: &'s R, side: &'s Desk<'s>, relay: &'s F) -> Option<JoinHandle<()>> {
+fn start_side_thread<'s, E, F: Figured<R> + Sync, R: Threads + Wait + Clock + Eprint + Sync>(
+    scope: &'s Scope<'s, E>,
+    rt: &'s R,
+    side: &'s Desk<'s>,
+    relay: &'s F,
+) -> Option<JoinHandle<()>> {
     scope.spawn(move || side.attend(rt, relay)).ok()
+}
+
+/// The threads of what goes on beside a relay.
+#[derive(Drop)]
+pub(crate) struct Beside {
+    /// Of whoever is asked.
+    attending: JoinHandle<()>,
+    /// Of whoever flushes files.
+    syncing: Option<JoinHandle<()>>,
+}
+
+impl Beside {
+    /// Waits until they have ended.
+    pub(crate) fn join<R: Threads + Wait>(self, rt: &R) {
+        let Beside { attending, syncing } = self;
+        attending.join(rt);
+        if let Some(syncing) = syncing {
+            syncing.join(rt);
+        }
+    }
+}
+
+/// Starts the threads of what goes on beside a relay, none where one is not to be had: a second one
+/// only where files are flushed.
+pub(crate) fn start_beside<'s, E, F: Figured<R> + Sync, R: Threads + Wait + Clock + Eprint + Sync>(
+    scope: &'s Scope<'s, E>,
+    rt: &'s R,
+    side: &'s Desk<'s>,
+    relay: &'s F,
+) -> Option<Beside>
+    ensures { IfSome result (λ beside. is_some beside.syncing ≡ is_some (syncing_in side.now)) }
+{
+    let attending = start_side_thread(scope, rt, side, relay)?;
+    if !side.syncs() {
+        return Some(Beside {
+            attending,
+            syncing: None,
+        });
+    }
+    match scope.spawn(move || side.sync(rt)) {
+        Ok(syncing) => Some(Beside {
+            attending,
+            syncing: Some(syncing),
+        }),
+        Err(_) => {
+            side.ended();
+            attending.join(rt);
+            None
+        }
+    }
 }
 
 /// A configuration with what the threads of its relay share, and their clock.

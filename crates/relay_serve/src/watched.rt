@@ -61,13 +61,7 @@ impl<'a, S, R: Clock + Eprint> Watched<'a, S, R> {
             return;
         }
         self.told = second;
-        self.print(kind);
-    }
-
-    /// Prints that a call of this kind failed.
-    fn print(&self, kind: &str) {
-        let name = str::from_utf8(self.name).unwrap_or("?");
-        let _lost = eprintln!(self.rt; "failed buffer={name} kind={kind}");
+        print_failed(self.rt, self.name, kind);
     }
 
     /// Hands on the answer to a call of this kind, and tells where that failed.
@@ -93,6 +87,12 @@ impl<'a, S: Flushing, R: Clock + Eprint> Watched<'a, S, R> {
             self.tell("Write");
         }
     }
+}
+
+/// Prints that a call of this kind failed, by the name of its buffer.
+pub(crate) fn print_failed<R: Eprint>(rt: &R, name: &[u8], kind: &str) {
+    let name = str::from_utf8(name).unwrap_or("?");
+    let _lost = eprintln!(rt; "failed buffer={name} kind={kind}");
 }
 
 /// Whether this is written as the head block 0 of a buffer that is open.
