@@ -1,5 +1,5 @@
 -- All buffers are found again, one after the other; what they keep then.
-use Rattle.std.proofs.Common.{◌≡◌, ◌∙◌, ℕ, ◌*◌, ◌^◌, ◌<◌, ◌≤◌, inl, inr, arith, refl, sym, ap}
+use Rattle.std.proofs.Common.{◌≡◌, ◌∙◌, ℕ, ◌*◌, ◌^◌, ◌<◌, ◌≤◌, ◌==◌, inl, inr, arith, refl, sym, ap}
 use Rattle.std.proofs.Common.{subst, Bool, true, List, [], ◌∷◌, ◌++◌, length, map, All, Option}
 use Rattle.std.proofs.Common.{Some, slice_get, option_map, count_by}
 use Rattle.std.specs.Prelude.{unwrap_or}
@@ -7,7 +7,7 @@ use Rattle.std.proofs.lemmas.List.Elements.{All-contains_itself, All-filter, All
 use Rattle.std.proofs.lemmas.List.Elements.{All-weaker}
 use Rattle.std.proofs.Math.Nat.{mul-le-mul_right}
 use Rattle.std.proofs.lemmas.List.{length-map}
-use Rattle.std.proofs.lemmas.Bool.{cases_lt}
+use Rattle.std.proofs.lemmas.Bool.{and_from, cases_lt, eq-eqb}
 use Rattle.std.proofs.lemmas.Option.{none-some, same_Some, slice_get-map, slice_get_within}
 use Rattle.std.specs.List.{Contains}
 use Rattle.cyc_block.specs.declared.store.BlockStore.{Ghosts}
@@ -66,7 +66,7 @@ use Rattle.buffer_repair.specs.Parts.{buffer_in}
 use Rattle.buffer_repair.specs.Finding.{remains_in}
 use Rattle.buffer_repair.specs.Parts.{remains_of, store_in}
 use Rattle.buffer_repair.specs.Keeping.{AgreeWithBefore, AreLeftOf, AreOnRecord, IsLiveText}
-use Rattle.buffer_repair.specs.Keeping.{KeepsFound}
+use Rattle.buffer_repair.specs.Keeping.{KeepsFound, saved_in}
 use Rattle.buffer_repair.specs.Remains.{AreOfGroups, AreTurns, Remains, all_texts_left}
 use Rattle.buffer_repair.specs.Remains.{courses_left, history_left}
 use Rattle.buffer_repair.specs.declared.found_set.FoundBufferSet.{FoundBufferSet}
@@ -421,10 +421,11 @@ module _ {S : Type 0} {g : Ghosts S} (settings : Buffers) {stores : List S}
       past : History
       same : past.buffer ≡ r.buffer
       said : IsHistoryOf w.groups begun kept openings past
-      left : IsLeftOf past saved r.blocks
+      left : IsLeftOf past (saved_in saved r.buffer) r.blocks
       front : IsFrontOn r.buffer r.blocks r.cycle r.used
       each : (t : codes.Token) → Contains r.tokens t → IsOfHistory past r.blocks (token_view t)
-      all_saved : (t : codes.Token) → saved (token_view t) ≡ true → Contains r.tokens t
+      all_saved : (t : codes.Token) → t.buffer ≡ r.buffer.number → saved (token_view t) ≡ true
+          → Contains r.tokens t
 
     had_at : (b : ℕ) (r : Remains) → slice_get left_all b ≡ Some r → HadAt b r
     had_at b r is =
@@ -432,8 +433,9 @@ module _ {S : Type 0} {g : Ghosts S} (settings : Buffers) {stores : List S}
         (omega (arith, slice_get_within left_all b r is, left_count)) in
         let a = at_buffer b one.0 one.1 in
         let had = leaves.buffers b one.0 one.1 in
-        let left : IsLeftOf had.history saved (g.blocks a.store) =
-        subst (λ s. IsLeftOf had.history saved (g.blocks s))
+        let own = saved_in saved one.0 in
+        let left : IsLeftOf had.history own (g.blocks a.store) =
+        subst (λ s. IsLeftOf had.history own (g.blocks s))
         (same_Some had.store a.store (sym had.there ∙ a.there)) had.left in
         let blocks : g.blocks a.store ≡ (remains_of a.one).blocks =
         sym (a.how.held.blocks a.sure) in
@@ -446,12 +448,18 @@ module _ {S : Type 0} {g : Ghosts S} (settings : Buffers) {stores : List S}
           past = had.history;
           same = had.is_of_buffer ∙ sym (is_left a).same;
           said = had.is_said;
-          left = subst (IsLeftOf had.history saved) blocks left;
+          left = subst (IsLeftOf had.history (saved_in saved (remains_of a.one).buffer)) blocks
+              (subst (λ (x : places.Buffer). IsLeftOf had.history (saved_in saved x)
+              (g.blocks a.store)) (sym (is_left a).same) left);
           front = (is_left a).front;
           each = λ t c. subst (λ (bs : List (List ℕ)). IsOfHistory had.history bs (token_view t))
-              blocks (a.how.begun a.sure had.history saved left
+              blocks (a.how.begun a.sure had.history own left
               (had.is_of_buffer ∙ a.over_it) t c);
-          all_saved = a.how.kept a.sure had.history saved left (had.is_of_buffer ∙ a.over_it);
+          all_saved = λ t here is_saved.
+              a.how.kept a.sure had.history own left (had.is_of_buffer ∙ a.over_it) t
+              (and_from (t.buffer == one.0.number) (saved (token_view t))
+              (eq-eqb t.buffer one.0.number
+              (here ∙ ap (λ (x : places.Buffer). x.number) (is_left a).same)) is_saved);
         })
 
     -- what is found of the stores of a relay with these groups is one's with these groups
@@ -462,7 +470,7 @@ module _ {S : Type 0} {g : Ghosts S} (settings : Buffers) {stores : List S}
           let none = f.said.begins.none (λ k i is. nobody k i
           (subst (λ (x : places.Buffer). IsBufferAt w.groups k i x) f.same is)) in
           subst (λ (x : places.Buffer). IsUnused x r.cycle r.used) f.same
-          (none_reached r.blocks f.past saved f.left none r.cycle r.used
+          (none_reached r.blocks f.past (saved_in saved r.buffer) f.left none r.cycle r.used
           (subst (λ (x : places.Buffer). IsFrontOn x r.blocks r.cycle r.used)
           (sym f.same) f.front));
       fit = λ b k i r group at is_group is_buffer.
@@ -507,7 +515,7 @@ module _ {S : Type 0} {g : Ghosts S} (settings : Buffers) {stores : List S}
           (there ∙ ap Some (sym f.same)) f.said.begins) in
           let most : on_line r.buffer.blocks cycle used ≤ front_of f.past =
           subst (λ (x : places.Buffer). on_line x.blocks cycle used ≤ front_of f.past) f.same
-          (front_before f.past saved r.blocks f.left cycle used
+          (front_before f.past (saved_in saved r.buffer) r.blocks f.left cycle used
           (subst (λ (x : places.Buffer). IsFrontOn x r.blocks cycle used) (sym f.same)
           f.told.front)) in
           omega (arith, ends, was, most)
@@ -545,8 +553,8 @@ module _ {S : Type 0} {g : Ghosts S} (settings : Buffers) {stores : List S}
           left_under w left_all sound numbered left_count left_at of_groups_left ids turns
           are_turns t.buffer r at t (sym f.number)
           ∙ listed_before ids r f.past f.same f.each t old (sym f.number)
-          (under_past t.buffer r f t refl old was) (declared t) (f.all_saved (declared t) is_saved)
-          refl
+          (under_past t.buffer r f t refl old was) (declared t)
+          (f.all_saved (declared t) (sym f.number) is_saved) refl
 
       -- so what is found agrees with what that relay had
       pub agree_before : AgreeWithBefore w begun now saved kept all_texts

@@ -1,7 +1,7 @@
 -- What buffers that were found again keep, in the relay's own words, before they are shut
 -- (docs/PROTOCOL.md, Crashes).
 use Rattle.std.specs.Prelude.{◌≡◌, ◌≢◌, ℕ, ◌+◌, ◌<◌, ◌≤◌, not, Bool, true, List, filter, length}
-use Rattle.std.specs.Prelude.{take}
+use Rattle.std.specs.Prelude.{◌==◌, ◌&&◌, take}
 use Rattle.std.specs.Prelude.{All}
 use Rattle.std.specs.Prelude.{count_by, Option, None, Some, slice_get, Result, Ok, Err}
 use Rattle.cyc_block.specs.declared.store.BlockStore.{Ghosts}
@@ -94,6 +94,10 @@ LeavesRecord settings found_set =
     → AreOnRecord w (courses_left w.groups turns (remains_in found_set))
     (all_texts_left ids (remains_in found_set))
 
+-- the tokens of one buffer, of those that were saved
+abbrev pub saved_in : (saved : Token → Bool) → places.Buffer → Token → Bool
+saved_in saved buffer t = t.buffer == buffer.number && saved t
+
 -- the store at this place may be what a crash has left of a buffer whose history was what the
 -- relay's state says of it
 pub record HasLeft {S : Type 0} (g : Ghosts S) (stores : List S) (groups : List Group)
@@ -105,7 +109,7 @@ pub record HasLeft {S : Type 0} (g : Ghosts S) (stores : List S) (groups : List 
   pub history : History
   pub is_of_buffer : history.buffer ≡ buffer
   pub is_said : IsHistoryOf groups begun kept openings history
-  pub left : IsLeftOf history saved (g.blocks store)
+  pub left : IsLeftOf history (saved_in saved buffer) (g.blocks store)
 
 -- The stores may be what a crash has left of a relay with these buffers and groups, that was on
 -- these courses and kept these texts; those that were saved had to be left.

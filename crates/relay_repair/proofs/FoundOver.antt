@@ -10,7 +10,7 @@ use Rattle.block_shelf.specs.Each.{AreEach}
 use Rattle.block_shelf.specs.Openings.{Opening}
 use Rattle.block_shelf.specs.Starting.{IsUnwritten}
 use Rattle.buffer_repair.specs.Keeping.{AreLeftOf, AreLeftOfGroups, HasLeft, KeepsLeft}
-use Rattle.buffer_repair.specs.Keeping.{LeavesRecord}
+use Rattle.buffer_repair.specs.Keeping.{LeavesRecord, saved_in}
 use Rattle.buffer_repair.specs.Keeping.{TellsBefore}
 use Rattle.buffer_repair.specs.declared.found_set.FoundBufferSet.{FoundBufferSet}
 use Rattle.cyc_block.specs.declared.store.BlockStore.{Ghosts}
@@ -85,7 +85,7 @@ left_on {g = g} {old = old} {saved = saved} are honest left = record {
         history = was.history;
         is_of_buffer = was.is_of_buffer;
         is_said = was.is_said;
-        left = subst (λ blocks. IsLeftOf was.history saved blocks)
+        left = subst (λ blocks. IsLeftOf was.history (saved_in saved buffer) blocks)
             (sym (now.belongs.held.blocks (holds_at g.honest old honest b was.store was.there)))
             was.left;
       };
