@@ -24,10 +24,12 @@ PORT = 21991
 
 
 def start(folder, ports):
-    """Starts it; the relay, and the seconds until it answers."""
+    """Starts it; the relay, and the seconds until it is served."""
     begun = time.monotonic()
     relay = servers.Server("cnrelay", [PROGRAM, "serve", str(folder)], ports, stdout=subprocess.PIPE, text=True)
-    asked = subprocess.run([PROGRAM, "report", str(folder)], capture_output=True, text=True, timeout=7_200)
+    asked = None
+    while asked is None or asked.stdout.startswith("recovering"):
+        asked = subprocess.run([PROGRAM, "report", str(folder)], capture_output=True, text=True, timeout=7_200)
     took = time.monotonic() - begun
     if asked.returncode:
         raise servers.Trouble(f"report ended with {asked.returncode}: {asked.stderr}")

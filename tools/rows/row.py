@@ -253,7 +253,7 @@ class Row:
         elif name == "pause":
             self.shared.pause(*rest.split())
         elif name == "stall":
-            self.shared.stall(word, more)
+            self.shared.stall(word, *more.split())
         elif name in ("stalled", "pauses"):
             self.see_come(name)
         elif name == "release":

@@ -24,7 +24,7 @@ SHARING = r"""
 
 static struct {
     uint64_t clock, writes, reads, stalled, fails, takes, breaks, octets, later, yields, pause, whose,
-        pauses, crowded, hangs, flushes, refuses, flushed;
+        pauses, crowded, hangs, flushes, refuses, flushed, passes;
     char file[64], flushed_files[2048];
 } *shared;
 
@@ -72,7 +72,14 @@ static int fails(int file, uint64_t *waits) {
     uint64_t left;
     if (!ends(file, ".buf"))
         return 0;
+    left = 0;
     if (__atomic_load_n(waits, __ATOMIC_SEQ_CST) && ends(file, shared->file)) {
+        left = NOW(passes);
+        while (left && !__atomic_compare_exchange_n(&shared->passes, &left, left - 1, 0, __ATOMIC_SEQ_CST,
+                                                    __ATOMIC_SEQ_CST))
+            ;
+    }
+    if (!left && __atomic_load_n(waits, __ATOMIC_SEQ_CST) && ends(file, shared->file)) {
         __atomic_add_fetch(&shared->stalled, 1, __ATOMIC_SEQ_CST);
         while (__atomic_load_n(waits, __ATOMIC_SEQ_CST))
             usleep(500);
@@ -268,7 +275,7 @@ ssize_t send(int file, const void *octets, size_t count, int flags) {
 """
 NUMBERS = ("clock", "writes", "reads", "stalled", "fails", "takes", "breaks", "octets", "later",
            "yields", "pause", "whose", "pauses", "crowded", "hangs", "flushes", "refuses",
-           "flushed")
+           "flushed", "passes")
 # Whose pauses those are that a row asks for.
 WHOSE = {"others": 0, "writers": 1, "sessions": 2}
 # The octets of a number, of the end of a path behind them, and of the fronts of the names of the
@@ -292,11 +299,11 @@ class Shared:
     def get(self, name):
         return struct.unpack_from("<Q", self.room, SIZE * NUMBERS.index(name))[0]
 
-    def stall(self, word, file):
-        """Each write, read or flush of this file waits from here on."""
+    def stall(self, word, file, passes="0"):
+        """Each write, read or flush of this file waits from here on, but for the first so many."""
         place = SIZE * len(NUMBERS)
         self.room[place : place + END] = f"/{file}".encode().ljust(END, b"\0")
-        self.set(**{word: 1, "stalled": 0})
+        self.set(**{"passes": int(passes), word: 1, "stalled": 0})
 
     def pause(self, whose, times, milliseconds):
         """Each thread of these pauses when it gives way so many times in a row, from here on."""

@@ -1,7 +1,10 @@
 mod AddFaults
+mod Counted
 mod FileFaults
 mod Founds
+mod HeadsRead
 mod Kept
+mod Listed
 mod PeerSources
 mod Repairs
 mod Rounds
@@ -9,4 +12,5 @@ mod Rows
 mod ServeFaults
 mod Sizes
 mod Starts
+mod ShutAgain
 mod Uncalled

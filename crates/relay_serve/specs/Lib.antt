@@ -8,6 +8,8 @@ pub mod Lives
 pub mod Moments
 pub mod Ports
 pub mod Reasons
+pub mod Recovered
+pub mod Recovering
 pub mod Repairing
 pub mod RunTotals
 pub mod Running

@@ -7,7 +7,6 @@ use crate::side_thread::Figured;
 use crate::syncing::Syncing;
 use live_wire::Stop;
 use relay_folder::{Control, Teller, Word};
-use relay_report::text_of;
 use std::alloc::{AllocError, Global};
 use std::fs::Files;
 use std::mem;
@@ -15,15 +14,12 @@ use std::sync::Wait;
 use std::sync::atomic::{AtomicBool, Ordering};
 use std::time::Clock;
 
-/// How many seconds pass between two rounds of forgetting.
-const BETWEEN_ROUNDS: u64 = 60;
-
 /// How many of those who have asked while the relay ended wait for the end, at most.
 const LAST_ONES: usize = 64;
 
-/// Answers what is asked at the socket of a relay's folder: `report` is told its figures and what
-/// each peer's sessions said, `stop` has its ports end, and who asked for that hears no end before
-/// the program has ended. Meanwhile it goes a round of forgetting each minute.
+/// Answers what is asked at the socket of a relay's folder: `report` is told what the relay tells of
+/// itself, `stop` has its ports end, and who asked for that hears no end before the program has
+/// ended. Meanwhile it goes the relay's rounds.
 #[derive(Drop)]
 pub(crate) struct Desk<'a> {
     alloc: Global,
@@ -66,18 +62,14 @@ impl<'a> Desk<'a> {
         mem::forget(teller);
     }
 
-    /// Tells whoever asked the report of the relay as it is, and a line for each peer.
+    /// Tells whoever asked the report of the relay.
     fn report<F: Figured<R>, R: Clock>(
         &self,
         rt: &R,
         relay: &F,
         teller: &Teller,
     ) -> Result<(), AllocError> {
-        let figures = relay.figures(rt, self.alloc)?;
-        let text = text_of(self.alloc, &figures);
-        drop(figures);
-        let mut text = text?;
-        self.gate.put_peers(&mut text)?;
+        let text = relay.report(rt, self.alloc, self.gate)?;
         teller.tell(rt, &text);
         Ok(())
     }
@@ -105,9 +97,10 @@ impl<'a> Desk<'a> {
         }
     }
 
-    /// Goes on until the relay has ended.
+    /// Goes on until what it goes on beside has ended.
     pub(crate) fn attend<F: Figured<R>, R: Wait + Clock + Eprint>(&self, rt: &R, relay: &F) {
-        let mut last_round = second_of(rt);
+        let begun = second_of(rt);
+        let mut last_round = begun;
         for _ in rt.forever() {
             if self.ended.load(Ordering::SeqCst) {
                 return;
@@ -115,8 +108,8 @@ impl<'a> Desk<'a> {
             self.answer(rt, relay);
             let second = second_of(rt);
             self.stop.pass(second);
-            if second.saturating_sub(last_round) >= BETWEEN_ROUNDS {
-                relay.forget(rt);
+            if second.saturating_sub(last_round) >= relay.between() {
+                relay.go_round(rt, second.saturating_sub(begun));
                 last_round = second;
             }
         }
@@ -136,9 +129,14 @@ impl<'a> Desk<'a> {
         }
     }
 
-    /// Is told that the relay has ended.
+    /// Is told that what it goes on beside has ended.
     pub(crate) fn ended(&self) {
         self.ended.store(true, Ordering::SeqCst);
+    }
+
+    /// Is told that there is something else beside which it will go on.
+    pub(crate) fn goes_on(&self) {
+        self.ended.store(false, Ordering::SeqCst);
     }
 }
 

@@ -1,8 +1,9 @@
 //! A relay that was left without a stop is repaired before it starts (docs/PROTOCOL.md, Crashes:
 //! the relay).
 ghost use Rattle.std.specs.Prelude.{◌≡◌, ◌<◌, ◌^◌, ◌↔◌, ℕ, IfErr, IfOk, IsTrue, None, OnOk};
-ghost use Rattle.std.specs.Prelude.{Some, length, map};
+ghost use Rattle.std.specs.Prelude.{◌≤◌, [], Some, length, map, vec_capacity};
 ghost use Rattle.relay_serve.specs.Adding.{IsHistoryFault};
+ghost use Rattle.relay_serve.specs.Recovered.{IsHeadIn};
 ghost use Rattle.relay_serve.specs.Repairing.{GoesOn, GoesOnFrom, IsKeptAs, IsLastStop};
 ghost use Rattle.relay_serve.specs.Repairing.{IsOfRepair, IsUnstoppedBy, kept_text};
 ghost use Rattle.relay_repair.specs.Telling.{octets_in};
@@ -15,23 +16,26 @@ ghost use Rattle.block_shelf.specs.declared.starting.StopFault.TheVariants as st
 
 use crate::begun::{Beginning, Looked};
 use crate::clock::MachineClock;
+use crate::desk::Desk;
+use crate::found_heads::read_heads;
 use crate::keeping::keep_synced;
-use crate::lives::unstarted;
 use crate::recovered::{tell_recovered, tell_recovering};
+use crate::recovering::repair_beside;
 use crate::starting::refusal;
 use crate::stop_number::stop_in;
 use crate::synced::Synced;
 use block_shelf::{StopFault, number_of};
-use cyc_block::BlockStore;
+use cyc_block::{BlockStore, HeadNumbers};
 use live_session::Clock;
 use relay_conf::Config;
 use relay_core::Stopped;
 use relay_folder::{HistoryPlace, Origin};
 use relay_remains::{HeadFault, Standing, standing_of};
-use relay_repair::repair;
 use relay_report::ServeError;
 use std::alloc::Global;
 use std::random::RandomSource;
+use std::sync::Wait;
+use std::thread::Threads;
 use std::time;
 
 /// What a relay begins over, once one that was left without a stop is repaired: what is found of it
@@ -42,11 +46,12 @@ pub(crate) fn begin_again<S, H, R>(
     config: &Config,
     history: &mut H,
     beginning: Beginning<S>,
+    desk: &Desk<'_>,
 ) -> Result<Beginning<S>, ServeError>
 where
     S: Synced + Looked + Drop,
     H: HistoryPlace,
-    R: time::Clock + Eprint + RandomSource,
+    R: Threads + Wait + time::Clock + Eprint + RandomSource + Sync,
     requires stores { map (λ store. length (S.blocks store)) beginning.stores.items
         ≡ map (λ buffer. buffer.blocks) config.now.buffers.buffers.items }
     ensures stores { IfOk result (λ begun. map (λ store. length (S.blocks store)) begun.stores.items
@@ -73,7 +78,7 @@ where
                 stores,
                 history: text,
             };
-            let Stopped { stores, history } = go_on(rt, alloc, config, history, left)?;
+            let Stopped { stores, history } = go_on(rt, alloc, config, history, left, desk)?;
             Ok(Beginning {
                 stores,
                 origin: Origin::Stopped(history),
@@ -91,11 +96,12 @@ fn go_on<S, H, R>(
     config: &Config,
     history: &mut H,
     left: Stopped<S>,
+    desk: &Desk<'_>,
 ) -> Result<Stopped<S>, ServeError>
 where
     S: Synced + Drop,
     H: HistoryPlace,
-    R: time::Clock + Eprint + RandomSource,
+    R: Threads + Wait + time::Clock + Eprint + RandomSource + Sync,
     requires stores { map (λ store. length (S.blocks store)) left.stores.items
         ≡ map (λ buffer. buffer.blocks) config.now.buffers.buffers.items }
     ensures stores { IfOk result (λ stopped.
@@ -114,7 +120,7 @@ where
             stores,
             history: text,
         }),
-        Ok((stores, true)) => repaired(rt, alloc, config, history, stores, text),
+        Ok((stores, true)) => repaired(rt, alloc, config, history, stores, text, desk),
         Err(error) => {
             drop(text);
             Err(error)
@@ -206,7 +212,7 @@ fn last_stop(alloc: Global, config: &Config, text: &[u8]) -> Result<u64, ServeEr
 }
 
 /// Repairs the relay that was left on these stores, with this history of its last stop, and keeps
-/// what is found, telling of both.
+/// what is found, telling of both. Whoever asks at the desk meanwhile is answered.
 fn repaired<S, H, R>(
     rt: &R,
     alloc: Global,
@@ -214,11 +220,12 @@ fn repaired<S, H, R>(
     history: &mut H,
     stores: Vec<S>,
     text: Vec<u8>,
+    desk: &Desk<'_>,
 ) -> Result<Stopped<S>, ServeError>
 where
     S: Synced + Drop,
     H: HistoryPlace,
-    R: time::Clock + Eprint + RandomSource,
+    R: Threads + Wait + time::Clock + Eprint + RandomSource + Sync,
     requires stores { map (λ store. length (S.blocks store)) stores.items
         ≡ map (λ buffer. buffer.blocks) config.now.buffers.buffers.items }
     ensures stores { IfOk result (λ stopped.
@@ -230,22 +237,56 @@ where
         stopped.history.items stopped.stores.items history.old history.new) }
     ensures fault { IfErr result (IsServeFault config.now) }
 {
+    // Room for the heads, before anything is written.
+    let mut heads = Vec::with_capacity(alloc, stores.len())?;
     tell_recovering(rt, stores.len(), text.len());
     let now = MachineClock::new(rt).now();
-    let answer = repair(rt, alloc, config, stores, history_of(&text), now);
-    drop(text);
-    match answer {
-        Ok(stopped) => {
-            let stopped = keep_repaired(history, stopped)?;
-            tell_recovered(rt, alloc, config, &stopped.history);
-            Ok(stopped)
+    let stopped = repair_beside(rt, alloc, config, stores, history_of(&text), now, desk)?;
+    let stopped = with_heads(alloc, config, stopped, &mut heads)?;
+    let stopped = keep_repaired(history, stopped)?;
+    tell_recovered(rt, alloc, config, &text, &stopped.history, &heads);
+    Ok(stopped)
+}
+
+/// What a repair gave, once the heads that it wrote were read.
+fn with_heads<S: Synced + Drop>(
+    alloc: Global,
+    config: &Config,
+    stopped: Stopped<S>,
+    heads: &mut Vec<HeadNumbers>,
+) -> Result<Stopped<S>, ServeError>
+    requires none { heads.old.items ≡ [] }
+    requires room { length stopped.stores.items ≤ vec_capacity heads.old }
+    ensures heads { OnOk result (AreEach (IsHeadIn ⟦<S as BlockStore>⟧) stopped.stores.items
+        heads.new.items) }
+    ensures unwritten { IfOk result (λ read. AreEach (IsUnwritten ⟦<S as BlockStore>⟧ None)
+        stopped.stores.items read.stores.items) }
+    ensures text { IfOk result (λ read. read.history ≡ stopped.history) }
+    ensures stores { IfOk result (λ read.
+        map (λ store. length (S.blocks store)) read.stores.items
+        ≡ map (λ store. length (S.blocks store)) stopped.stores.items) }
+    ensures fault { IfErr result (IsServeFault config.now) }
+{
+    let Stopped {
+        stores,
+        history: text,
+    } = stopped;
+    let mut stores = stores;
+    match read_heads(alloc, config, &mut stores, heads) {
+        Ok(()) => Ok(Stopped {
+            stores,
+            history: text,
+        }),
+        Err(error) => {
+            drop(text);
+            drop(stores);
+            Err(error)
         }
-        Err(refused) => Err(unstarted(alloc, config, refused)),
     }
 }
 
 /// The history that a text is, none where it is empty.
-fn history_of(text: &[u8]) -> Option<&[u8]>
+pub(crate) fn history_of(text: &[u8]) -> Option<&[u8]>
     ensures { octets_in result ≡ kept_text text.now }
 {
     if text.is_empty() { None } else { Some(text) }

@@ -273,7 +273,7 @@ where
     ensures fault { IfErr result (IsServeFault config.now) }
 {
     let watched = watch(rt, &config.buffers, begun)?;
-    let begun = begin_again(rt, alloc, config, history, watched)?;
+    let begun = begin_again(rt, alloc, config, history, watched, access.desk)?;
     tell_start(rt, &begun.origin);
     run_watched(rt, alloc, config, begun, access)
 }

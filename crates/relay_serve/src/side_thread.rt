@@ -5,29 +5,35 @@ ghost use Rattle.relay_serve.specs.Syncing.{syncing_in};
 
 use crate::desk::Desk;
 use crate::figures::figures_of;
+use crate::gate::CountingGate;
 use cyc_block::BlockStore;
 use live_store::StorePremises;
 use relay_conf::Config;
 use relay_live::{Shared, expire_round};
-use relay_report::Figures;
+use relay_report::{Figures, text_of};
 use std::alloc::{AllocError, Global};
 use std::sync::Wait;
 use std::sync::ledger::Ledger;
 use std::thread::{JoinHandle, Scope, Threads};
 use std::time::Clock;
 
-/// A relay that is served, as whoever goes on beside it sees it.
-pub(crate) trait Figured<R> {
-    /// The figures: each buffer, feed and shard as it is when its lock is taken, one after the
-    /// other.
-    fn figures(&self, rt: &R, alloc: Global) -> Result<Figures, AllocError>;
+/// How many seconds pass between two rounds of forgetting.
+const BETWEEN_ROUNDS: u64 = 60;
 
-    /// Goes a round of forgetting, at the moment of the relay's clock.
-    fn forget(&self, rt: &R);
+/// A relay, as whoever goes on beside it sees it.
+pub(crate) trait Figured<R> {
+    /// What whoever asks for the report is told.
+    fn report(&self, rt: &R, alloc: Global, gate: &CountingGate<'_>) -> Result<Vec<u8>, AllocError>;
+
+    /// How many seconds pass between two rounds.
+    fn between(&self) -> u64;
+
+    /// Goes a round, so many seconds after what goes on beside it began.
+    fn go_round(&self, rt: &R, seconds: u64);
 }
 
 /// Starts the thread of what goes on beside a relay, none where no thread is to be had.
-fn start_side_thread<'s, E, F: Figured<R> + Sync, R: Threads + Wait + Clock + Eprint + Sync>(
+pub(crate) fn start_side_thread<'s, E, F: Figured<R> + Sync, R: Threads + Wait + Clock + Eprint + Sync>(
     scope: &'s Scope<'s, E>,
     rt: &'s R,
     side: &'s Desk<'s>,
@@ -124,18 +130,48 @@ impl<'a, S: BlockStore + Drop, J: StorePremises, L: Ledger, C: live_session::Clo
     }
 }
 
-impl<S: BlockStore + Drop, J: StorePremises, L: Ledger, C: live_session::Clock, R: Wait> Figured<R>
-    for Served<'_, S, J, L, C> {
+impl<S: BlockStore + Drop, J: StorePremises, L: Ledger, C: live_session::Clock> Served<
+    '_,
+    S,
+    J,
+    L,
+    C,
+> {
     ghost use Rattle.std.specs.Prelude.{IfOk};
     ghost use Rattle.relay_serve.specs.Figures.{HasNames};
 
-    fn figures(&self, rt: &R, alloc: Global) -> Result<Figures, AllocError>
+    /// The figures: each buffer, feed and shard as it is when its lock is taken, one after the
+    /// other.
+    fn figures<R: Wait>(&self, rt: &R, alloc: Global) -> Result<Figures, AllocError>
         ensures names { IfOk result (HasNames self.now.config.now) }
     {
         figures_of(rt, alloc, self.config, self.shared)
     }
+}
 
-    fn forget(&self, rt: &R) {
+impl<S: BlockStore + Drop, J: StorePremises, L: Ledger, C: live_session::Clock, R: Wait> Figured<R>
+    for Served<'_, S, J, L, C> {
+    /// The report of the relay as it is, and a line for each peer.
+    fn report(
+        &self,
+        rt: &R,
+        alloc: Global,
+        gate: &CountingGate<'_>,
+    ) -> Result<Vec<u8>, AllocError> {
+        let figures = self.figures(rt, alloc)?;
+        let text = text_of(alloc, &figures);
+        drop(figures);
+        let mut text = text?;
+        gate.put_peers(&mut text)?;
+        Ok(text)
+    }
+
+    fn between(&self) -> u64 {
+        BETWEEN_ROUNDS
+    }
+
+    /// A round of forgetting, at the moment of the relay's clock.
+    fn go_round(&self, rt: &R, _seconds: u64) {
         let _round = expire_round(rt, self.shared, self.clock.now());
     }
 }

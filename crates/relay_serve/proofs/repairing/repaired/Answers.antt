@@ -1,25 +1,31 @@
-use Rattle.std.proofs.Common.{◌∙◌, ap, subst, sym}
+use Rattle.std.proofs.Common.{◌∙◌, ℕ, ap, subst, sym}
+use Rattle.std.specs.Global.{Vec}
 use Rattle.relay_repair.specs.Repairing.{Repairs}
-use Rattle.relay_serve.proofs.Repairs.{unrepaired_serves}
+use Rattle.relay_serve.proofs.ShutAgain.{repairs_again}
 use Rattle.relay_serve.specs.Repairing.{kept_text}
 use Rattle.relay_serve.proofs.repairing.repaired.Goals as goal
 
 -- what is kept is what the repair gave
-pub returns-in_ok-stopped-in-Ok-clause-repaired : goal.returns-in_ok-stopped-in-Ok-clause-repaired
-returns-in_ok-stopped-in-Ok-clause-repaired g c = record {
-  now = c.now-now.result;
-  back = c.in-Ok.stopped.stores.items;
-  repairs =
-      subst (λ written. Repairs g.S.BlockStore c.args.config.now c.args.stores.items
-      (kept_text c.args.text.items) c.now-now.result c.in-Ok.stopped.stores.items written)
-      (sym c.in_ok-stopped-in-Ok.ensures.text)
-      (subst (λ text. Repairs g.S.BlockStore c.args.config.now c.args.stores.items text
-      c.now-now.result c.in-Ok.stopped.stores.items c.in-Ok.stopped.history.items)
-      (c.history_of.ensures ∙ ap kept_text c.deref.ensures.value) c.in-Ok.ensures.repaired);
-  uncalled = c.in_ok-stopped-in-Ok.ensures.uncalled;
-}
-
--- why it isn't repaired is told
-pub returns-in-Err-clause-fault : goal.returns-in-Err-clause-fault
-returns-in-Err-clause-fault g c =
-    unrepaired_serves c.args.config.now c.in-Err.refused c.unstarted.result c.unstarted.ensures
+pub returns-clause-repaired : goal.returns-clause-repaired
+returns-clause-repaired g c =
+    let config = c.args.config.now in
+    let left = c.args.stores.items in
+    let gave = c.in_ok-stopped.stopped in
+    let read = c.in_ok-stopped-2.stopped in
+    record {
+      now = c.now-now.result;
+      back = read.stores.items;
+      repairs =
+          subst (λ written. Repairs g.S.BlockStore config left (kept_text c.args.text.items)
+          c.now-now.result read.stores.items written)
+          (sym (ap (λ (text : Vec ℕ). text.items) c.in_ok-stopped-2.ensures.text)
+          ∙ sym c.in_ok-stopped-3.ensures.text)
+          (repairs_again g.S.BlockStore gave.stores.items read.stores.items
+          c.in_ok-stopped-2.ensures.unwritten config left (kept_text c.args.text.items)
+          c.now-now.result gave.history.items
+          (subst (λ text. Repairs g.S.BlockStore config left text c.now-now.result
+          gave.stores.items gave.history.items)
+          (c.history_of.ensures ∙ ap kept_text c.deref.ensures.value)
+          c.in_ok-stopped.ensures.repaired));
+      uncalled = c.in_ok-stopped-3.ensures.uncalled;
+    }
