@@ -31,7 +31,7 @@ pub heads_say : {S : Type 0} {g : Ghosts S} (stores : List S) (buffers : List (U
 heads_say {g = g} stores buffers are =
     each_mapped IsStartedOver (IsFilledAs g) filled_in stores buffers are
     (λ b store one there is honest.
-        record { said = said_of Closed (stop_of (inside one)) (inside one); says = is.said honest; closed = refl; is = refl })
+    record { said = said_of Closed (stop_of (inside one)) (inside one); says = is.said honest; closed = refl; is = refl })
 
 module _ {S : Type 0} {g : Ghosts S} (buffers : List (Unopened S g)) (w : Terms) (σ : State)
     (failures : ℕ → ℕ)
@@ -73,10 +73,10 @@ module _ {S : Type 0} {g : Ghosts S} (buffers : List (Unopened S g)) (w : Terms)
       same_lists (map filled_in buffers) (filled_of w σ)
       (count ∙ as_many ∙ sym (length-map w.buffers (filled_at w σ)))
       (λ k d within.
-          let one = there_within buffers k (omega (arith, within, count)) in
-          let at = there_within w.buffers k (omega (arith, within, count, as_many)) in
-          get_or_from_slice_get (map filled_in buffers) k (filled_in one.0) d
-          (slice_get-map filled_in buffers k ∙ ap (option_map filled_in) one.1)
-          ∙ one_is k one.0 at.0 one.1 at.1
-          ∙ sym (get_or_from_slice_get (filled_of w σ) k (filled_at w σ at.0) d
-          (slice_get-map (filled_at w σ) w.buffers k ∙ ap (option_map (filled_at w σ)) at.1)))
+      let one = there_within buffers k (omega (arith, within, count)) in
+      let at = there_within w.buffers k (omega (arith, within, count, as_many)) in
+      get_or_from_slice_get (map filled_in buffers) k (filled_in one.0) d
+      (slice_get-map filled_in buffers k ∙ ap (option_map filled_in) one.1)
+      ∙ one_is k one.0 at.0 one.1 at.1
+      ∙ sym (get_or_from_slice_get (filled_of w σ) k (filled_at w σ at.0) d
+      (slice_get-map (filled_at w σ) w.buffers k ∙ ap (option_map (filled_at w σ)) at.1)))

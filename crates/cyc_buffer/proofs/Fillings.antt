@@ -14,7 +14,7 @@ use Rattle.cyc_buffer.specs.declared.buffer.Buffer.{Buffer}
 pub filled_so : {S : Type 0} {g : Ghosts S} (state : HeadState) (stop : ℕ) (buffer : Buffer S g)
     (trusted : Bool) (h : History) → Agrees trusted buffer h
     → filled_by (said_of state stop buffer) ≡ filled_with h
-filled_so state stop buffer trusted h agrees = 
+filled_so state stop buffer trusted h agrees =
     let keeps = agrees.keeps in
     λ i. record {
       blocks = (sym (ap (λ (b : places.Buffer). b.blocks) keeps.buffer)) i;

@@ -253,8 +253,8 @@ module _ {S J : Type 0} {s : blocks.Ghosts S} {j : store_premises.Ghosts J} (con
       ahead_by config stores kept (map unopened_in buffers) answer
       (heads_say stores buffers are.over)
       (λ w begun texts failures held.
-          buffers_keep config.buffers stores sized buffers are.over kept.stop w begun texts failures
-          held)
+      buffers_keep config.buffers stores sized buffers are.over kept.stop w begun texts failures
+      held)
       is
 
   -- the parts start
