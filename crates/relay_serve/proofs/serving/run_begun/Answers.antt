@@ -13,13 +13,12 @@ watch-requires g c = record {
 }
 
 -- which, watched and in a file, has as many blocks as the file was opened for,
-pub begin_again-requires : goal.begin_again-requires
-begin_again-requires g c = record {
-  stores = watched_sizes _
-      ∙ ap (λ (stores : List (FileBlocks HostFile)). map count_of stores)
-      c.in_ok-watched.ensures.stores
-      ∙ c.requires.stores;
-}
+pub begin_again-requires-clause-stores : goal.begin_again-requires-clause-stores
+begin_again-requires-clause-stores g c κs within =
+    watched_sizes _
+    ∙ ap (λ (stores : List (FileBlocks HostFile)). map count_of stores)
+    c.in_ok-watched.ensures.stores
+    ∙ c.requires.stores
 
 -- and so once it is repaired
 pub run_watched-requires-clause-stores : goal.run_watched-requires-clause-stores
