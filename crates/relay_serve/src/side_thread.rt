@@ -33,12 +33,12 @@ pub(crate) trait Figured<R> {
 }
 
 /// Starts the thread of what goes on beside a relay, none where no thread is to be had.
-pub(crate) fn start_side_thread<'s, E, F: Figured<R> + Sync, R: Threads + Wait + Clock + Eprint + Sync>(
-    scope: &'s Scope<'s, E>,
-    rt: &'s R,
-    side: &'s Desk<'s>,
-    relay: &'s F,
-) -> Option<JoinHandle<()>> {
+pub(crate) fn start_side_thread<
+    's,
+    E,
+    F: Figured<R> + Sync,
+    R: Threads + Wait + Clock + Eprint + Sync,
+>(scope: &'s Scope<'s, E>, rt: &'s R, side: &'s Desk<'s>, relay: &'s F) -> Option<JoinHandle<()>> {
     scope.spawn(move || side.attend(rt, relay)).ok()
 }
 
