@@ -1,7 +1,5 @@
 -- What is written behind what was there.
 use Rattle.std.proofs.Common.{◌≡◌, ℕ, List, [], ◌∷◌, ◌++◌, length, refl, sym, ap, ◌∙◌, append_assoc}
-use Rattle.std.proofs.Common.{cond}
-use Rattle.std.specs.Prelude.{Result, Ok, Err, OnOk, is_ok}
 use Rattle.std.specs.Int.{to_be_bytes, w16, w32, w64}
 use Rattle.relay_log.specs.Check.{check}
 use Rattle.relay_log.specs.Journal.{Entry, Taken, said_octets, counted_octets, entry_octets}
@@ -15,12 +13,6 @@ four_behind was a b c d one two three four =
     (three ∙ ap (λ (o : List ℕ). o ++ c) (two ∙ ap (λ (o : List ℕ). o ++ b) one))
     ∙ append_assoc ((was ++ a) ++ b) c d ∙ append_assoc (was ++ a) b (c ++ d)
     ∙ append_assoc was a (b ++ (c ++ d))
-
--- what a call has put, where it did
-pub on_put : {X E : Type 0} (result : Result X E) (now was put : List ℕ)
-    → now ≡ cond (is_ok result) (was ++ put) was → OnOk result (now ≡ was ++ put)
-on_put (Ok x) now was put is = is
-on_put (Err e) now was put is = tt
 
 -- three texts and their check are an entry, where they are what it says behind its number
 pub entry_put : (was now first second third : List ℕ) (entry : Entry)

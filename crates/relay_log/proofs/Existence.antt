@@ -67,5 +67,6 @@ one_is_there text fits front =
     ap front_at front.parts ∙ front_again stop front.rest front.fits in
     let takes = front_takes text (stop, front.rest) fits read in
     let behind = are_entries (length front.rest) front.rest takes.0.rest_fits (omega arith) in
-    let parts = both_parts text front.rest behind.rest stop behind.entries front.parts behind.parts in
+    let parts = both_parts text front.rest behind.rest stop behind.entries front.parts
+    behind.parts in
     (_, read_is text behind.rest stop behind.entries parts front.fits behind.are behind.ends)

@@ -207,6 +207,17 @@ as_it_is old journal setting new apart is =
           MatchBool b (IsFoldedWith old journal.entries setting new) (new ≡ old)) other.0 is
     ]
 
+-- what is folded in asks of a setting only how many buffers there are
+pub with_buffers : (old : Kept) (entries : List Entry) (setting : Setting) (new : Kept)
+    (buffers : ℕ) → setting.buffers ≡ buffers
+    → AreLasting new.ids (last_said buffers old.ids entries)
+    → new ≡ record old { ids = new.ids } → IsFoldedWith old entries setting new
+with_buffers old entries setting new buffers same ids others =
+    record {
+      ids = subst (λ (n : ℕ). AreLasting new.ids (last_said n old.ids entries)) (sym same) ids;
+      others = others;
+    }
+
 -- a journal again
 pub twice_folded : (old : Kept) (journal : Journal) (setting : Setting) (new : Kept)
     → IsFolded old journal setting new → IsFolded new journal setting new

@@ -9,7 +9,7 @@ mod Foldings
 mod FoldsIn
 mod Knows
 mod LastFolding
-mod Rooms
+pub mod Rooms
 mod Said
 mod Sums
 mod Texts

@@ -6,4 +6,5 @@ pub mod Folding
 pub mod Journal
 pub mod Knowing
 pub mod Reading
+pub mod Room
 pub mod Views

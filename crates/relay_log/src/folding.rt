@@ -2,11 +2,11 @@
 ghost use Rattle.std.specs.Prelude.{◌≡◌, ◌∷◌, [], None, Some, List, map, IfOk, OnOk};
 ghost use Rattle.std.specs.List.{AllByRecursion};
 ghost use Rattle.cyc_token.specs.Token.{token_view};
-ghost use Rattle.id_history.specs.History.{Holds};
+ghost use Rattle.id_history.specs.History.{Holds, Setting};
 ghost use Rattle.id_history.specs.Lasting.{AreLasting};
 ghost use Rattle.id_history.specs.Room.{HasRoom};
 ghost use Rattle.id_history.specs.Shards.{KeepsAll};
-ghost use Rattle.id_history.specs.Views.{history_view, id_view, setting_view};
+ghost use Rattle.id_history.specs.Views.{history_view, id_view};
 ghost use Rattle.relay_log.specs.Folding.{IsFolded, all_told, last_said, nothing, told};
 ghost use Rattle.relay_log.specs.Journal.{IsEntry};
 ghost use Rattle.relay_log.specs.Knowing.{KnowsBefore};
@@ -14,7 +14,7 @@ ghost use Rattle.relay_log.specs.Views.{entry_view, journal_view};
 
 use crate::journal::{Entry, Journal};
 use cyc_token::Token;
-use id_history::{History, KeptId, Setting, Shards, Take};
+use id_history::{History, KeptId, Shards, Take};
 use nntp_text::MsgId;
 use std::alloc::{AllocError, Global};
 use std::hash::RandomState;
@@ -23,7 +23,7 @@ use std::hash::RandomState;
 const FOLDING: u64 = 0;
 
 /// The history with what its journal says of message-ids: each id of either is there once, with
-/// what was said of it last. An entry whose token names no buffer of the setting is left out; takes
+/// what was said of it last. An entry whose token names none of so many buffers is left out; takes
 /// of feeds aren't folded yet. A journal of another stop leaves the history as it is. It takes a
 /// time that is linear in the ids, but for their sort.
 pub fn folded(
@@ -31,16 +31,17 @@ pub fn folded(
     hasher: RandomState,
     history: History,
     journal: Journal,
-    setting: &Setting,
+    buffers: u32,
 ) -> Result<History, AllocError>
-    ensures folded { IfOk result (λ new. IsFolded (history_view history) (journal_view journal)
-        (setting_view setting.now) (history_view new)) }
+    ensures folded { IfOk result (λ new. (setting : Setting) → setting.buffers ≡ buffers
+        → IsFolded (history_view history) (journal_view journal) setting (history_view new)) }
 
     // So it can be written, and read back in a setting that the history held.
     ensures room { IfOk result (λ new. HasRoom history → HasRoom new) }
-    ensures holds { IfOk result (λ new. Holds (setting_view setting.now) (history_view history)
+    ensures holds { IfOk result (λ new. (setting : Setting) → setting.buffers ≡ buffers
+        → Holds setting (history_view history)
         → AllByRecursion IsEntry (map entry_view journal.entries.items)
-        → Holds (setting_view setting.now) (history_view new)) }
+        → Holds setting (history_view new)) }
 {
     if journal.stop != history.stop {
         return Ok(history);
@@ -52,7 +53,7 @@ pub fn folded(
         feeds,
         ids,
     } = history;
-    match ids_folded(alloc, hasher, ids, journal.entries, setting.buffers) {
+    match ids_folded(alloc, hasher, ids, journal.entries, buffers) {
         Ok(ids) => Ok(History {
             stop,
             newest,

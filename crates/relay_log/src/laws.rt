@@ -176,7 +176,7 @@ pub fn folded_reads(
         (setting_view setting.now) (history_view new)) }
     ensures memory { IfErr result (λ error. error ≡ HistoryError.Memory) }
 {
-    match folded(alloc, hasher, history, journal, setting) {
+    match folded(alloc, hasher, history, journal, setting.buffers) {
         Ok(new) => read_back(alloc, &new, setting),
         Err(_) => Err(HistoryError::Memory),
     }

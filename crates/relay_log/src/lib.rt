@@ -18,5 +18,5 @@ mod writing;
 pub use folding::folded;
 pub use journal::{Entry, Journal};
 pub use reading::read;
-pub use text::folded_text;
-pub use writing::{append, begin};
+pub use text::{folded_text, history_with};
+pub use writing::{MOST_ENTRY_OCTETS, append, append_refused, append_stored, begin};

@@ -1,5 +1,6 @@
 //! A journal is folded in to the text of a history.
 ghost use Rattle.std.specs.Prelude.{◌≡◌, IfErr, IfOk, Option};
+ghost use Rattle.id_history.specs.History as terms;
 ghost use Rattle.id_history.specs.History.{Holds, Kept};
 ghost use Rattle.id_history.specs.Room.{HasRoom};
 ghost use Rattle.id_history.specs.Views.{history_view, setting_view};
@@ -30,28 +31,29 @@ pub fn folded_text(
         → (kept : Kept) → ¬ IsTextOf (setting_view setting.now) kept text.now) }
 {
     let history = read(alloc, text, setting)?;
-    let new = history_with(alloc, hasher, history, journal, setting)?;
+    let new = history_with(alloc, hasher, history, journal, setting.buffers)?;
     let written = write(alloc, &new)?;
     Ok(written)
 }
 
-/// The history with the journal folded in that the text begins with.
-fn history_with(
+/// The history with the journal folded in that the text begins with, as it is where that is none.
+/// An entry whose token names none of so many buffers is left out.
+pub fn history_with(
     alloc: Global,
     hasher: RandomState,
     history: History,
     text: &[u8],
-    setting: &Setting,
+    buffers: u32,
 ) -> Result<History, AllocError>
-    ensures folded { IfOk result (λ new. (found : Option Journal)
-        × IsFoldedBy (history_view history) text.now (setting_view setting.now)
-        (history_view new) found) }
+    ensures folded { IfOk result (λ new. (setting : terms.Setting) → setting.buffers ≡ buffers
+        → (found : Option Journal)
+        × IsFoldedBy (history_view history) text.now setting (history_view new) found) }
     ensures room { IfOk result (λ new. HasRoom history → HasRoom new) }
-    ensures holds { IfOk result (λ new. Holds (setting_view setting.now) (history_view history)
-        → Holds (setting_view setting.now) (history_view new)) }
+    ensures holds { IfOk result (λ new. (setting : terms.Setting) → setting.buffers ≡ buffers
+        → Holds setting (history_view history) → Holds setting (history_view new)) }
 {
     match reading::read(alloc, text)? {
-        Some(journal) => folded(alloc, hasher, history, journal, setting),
+        Some(journal) => folded(alloc, hasher, history, journal, buffers),
         None => Ok(history),
     }
 }

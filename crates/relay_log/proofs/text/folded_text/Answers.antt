@@ -1,4 +1,5 @@
-use Rattle.id_history.specs.Views.{history_view}
+use Rattle.std.proofs.Common.{refl}
+use Rattle.id_history.specs.Views.{history_view, setting_view}
 use Rattle.relay_log.proofs.Rooms.{has_room}
 use Rattle.relay_log.proofs.text.folded_text.Goals as goal
 
@@ -10,6 +11,7 @@ write-requires c =
 -- the text is of that history
 pub returns-clause-folded : goal.returns-clause-folded
 returns-clause-folded c =
+    let folded = c.in_ok-new.ensures.folded (setting_view c.args.setting.now) refl in
     record {
       before = history_view c.in_ok-history.history;
       was = record {
@@ -20,9 +22,10 @@ returns-clause-folded c =
       after = history_view c.in_ok-new.new;
       is = record {
         fits = c.in_ok-written.ensures.fits;
-        holds = c.in_ok-new.ensures.holds c.in_ok-history.ensures.found.1;
+        holds = c.in_ok-new.ensures.holds (setting_view c.args.setting.now) refl
+            c.in_ok-history.ensures.found.1;
         octets = c.in_ok-written.ensures.octets;
       };
-      found = c.in_ok-new.ensures.folded.0;
-      folded = c.in_ok-new.ensures.folded.1;
+      found = folded.0;
+      folded = folded.1;
     }

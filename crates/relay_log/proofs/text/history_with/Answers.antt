@@ -12,4 +12,5 @@ returns-in-Some-clause-folded c =
     subst (λ found. IfSome found (λ journal. IsLongest c.args.text.now (journal_view journal)))
     c.in-Some.is c.in_ok-journal.ensures.longest in
     IfOk-weaker c.folded.result _ _
-    (λ new is. (Some (journal_view c.in-Some.journal), (longest, is))) c.folded.ensures.folded
+    (λ new is setting same. (Some (journal_view c.in-Some.journal), (longest, is setting same)))
+    c.folded.ensures.folded

@@ -1,8 +1,7 @@
 use Rattle.std.proofs.Common.{◌≡◌, ◌∙◌, sym, ap, ◌++◌, List, ℕ}
-use Rattle.std.proofs.lemmas.Result.{on_ok_weaker}
 use Rattle.std.specs.Int.{to_be_bytes, w32}
 use Rattle.relay_log.specs.Check.{check, not_zero, sum_on}
-use Rattle.relay_log.proofs.Appends.{four_behind, on_put}
+use Rattle.relay_log.proofs.Appends.{four_behind}
 use Rattle.relay_log.proofs.Sums.{check_of_three}
 use Rattle.relay_log.proofs.writing.put.Goals as goal
 
@@ -19,12 +18,9 @@ returns-clause-octets c =
     (c.sum_on-2.ensures ∙ ap (λ s. sum_on s second) c.sum_on.ensures))
     ∙ sym (check_of_three first second third) in
     let octets = c.to_be_bytes-check.ensures ∙ ap (to_be_bytes w32) summed in
-    let third_put = c.extend_from_slice-3.new.self.items in
-    on_ok_weaker c.extend_from_slice-4.result
-    (λ last. four_behind c.args.out.now.items first second third (to_be_bytes w32 sum)
-    (c.in_ok-extend_from_slice.ensures.items
-    ∙ ap (λ (o : List ℕ). o ++ first) c.in_ok-reserve.ensures.items)
-    c.in_ok-extend_from_slice-2.ensures.items c.in_ok-extend_from_slice-3.ensures.items
-    (last ∙ ap (λ (o : List ℕ). third_put ++ o) octets))
-    (on_put c.extend_from_slice-4.result c.extend_from_slice-4.new.self.items third_put
-    c.to_be_bytes-check.result c.extend_from_slice-4.ensures.items)
+    let third_put = c.put_octets-3.new.room.items in
+    four_behind c.args.out.now.items first second third (to_be_bytes w32 sum)
+    (c.put_octets.ensures.items
+    ∙ ap (λ (o : List ℕ). o ++ first) c.in_ok-find_room.ensures.items)
+    c.put_octets-2.ensures.items c.put_octets-3.ensures.items
+    (c.put_octets-4.ensures.items ∙ ap (λ (o : List ℕ). third_put ++ o) octets)

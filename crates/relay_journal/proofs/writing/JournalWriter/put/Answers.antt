@@ -1,0 +1,21 @@
+use Rattle.std.proofs.Common.{◌∙◌, ◌++◌, ap, append-nil, false, refl, sym, true≢false, List, Some}
+use Rattle.std.proofs.Common.{ℕ}
+use Rattle.relay_log.specs.Journal.{journal_octets}
+use Rattle.relay_journal.proofs.Texts.{more_entries}
+use Rattle.relay_journal.proofs.writing.JournalWriter.put.Goals as goal
+
+-- the entries stand behind the others
+pub returns-in-Ok : goal.returns-in-Ok
+returns-in-Ok g c = record {
+  failed = false;
+  begun = c.requires;
+  told = sym (append-nil _);
+  is_told = refl;
+  kept = λ honest went stop entries more was are.
+      c.in-Ok.ensures.kept honest (journal_octets stop entries) was
+      ∙ ap Some (ap (λ (octets : List ℕ). journal_octets stop entries ++ octets) are
+      ∙ more_entries stop entries more);
+  behind = λ honest failed. absurd (true≢false (sym failed));
+  honest = c.append.ensures.honest;
+  front = refl;
+}

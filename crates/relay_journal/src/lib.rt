@@ -1,0 +1,16 @@
+//! The journal of a relay at its place: how a start reads it, and how it is written while the relay
+//! is served (docs/FORMATS.md, Journal file).
+//!
+//! It stands over any `JournalPlace`, of which contracts say what it holds. What can't be read or
+//! written is told, and stops nothing.
+#![tactic(auto)]
+
+mod journaling;
+mod lines;
+mod reading;
+mod writing;
+
+pub use journaling::{Journaling, ROOM};
+pub use lines::{JournalLine, JournalLines, PrintedLines, ToldJournal};
+pub use reading::read_journal;
+pub use writing::JournalWriter;
