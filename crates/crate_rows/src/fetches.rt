@@ -1,8 +1,12 @@
-//! A row for fetches out of what the threads of a relay share (relay_live), by one thread.
+//! Rows for fetches out of what the threads of a relay share, and for what is said to the journal
+//! (relay_live), by one thread.
 ghost use Rattle.std.specs.Prelude.{◌≡◌, ◌∷◌, [], true, All, length, map, IfOk};
 ghost use Rattle.relay_conf.specs.K1.{IsK1};
 ghost use Rattle.relay_live.specs.Holding.{has_buffer};
 
+mod said;
+
+use crate::fetches::said::put_said;
 use crate::jobs::{article, job};
 use crate::row_text::{Cells, Sheet};
 use buffer_group::Job;
@@ -12,6 +16,7 @@ use id_history::Take;
 use job_queue::Handed;
 use line_words::is;
 use live_jobs::{Store, StoreResult};
+use live_journal::PendingJournal;
 use live_session::{Clock, Shares};
 use live_store::{ArticleLog, Fetched, StorePremises};
 use relay_conf::Config;
@@ -41,24 +46,44 @@ struct Articles {
     octets: u64,
 }
 
-/// Writes the answer of a call: what is fetched under each of the last cells, of as many articles
-/// of K1 as the second cell says, with as many octets as the third one says. The call of the device
-/// that the first one says fails; that which writes the head block is call 1.
+/// What a row asks of a relay over K1.
+#[derive(Clone, Copy)]
+enum Asked {
+    /// What is fetched under each of the last cells, of as many articles as the second cell says,
+    /// with as many octets as the third one says.
+    Fetched,
+    /// What is said to a journal with room for as many octets as the second cell says, while what
+    /// each of the last cells says is done.
+    Said,
+}
+
+/// Writes the answer of a call. The call of the device that the first cell says fails; that which
+/// writes the head block is call 1.
 pub fn answer<R: RandomSource + Wait>(rt: &R, call: &[u8], cells: &Cells, sheet: &Sheet) {
-    if !is(call, b"fetched") {
+    let asked = if is(call, b"fetched") {
+        Asked::Fetched
+    } else if is(call, b"said") {
+        Asked::Said
+    } else {
         return sheet.refuse();
-    }
+    };
     match Config::k1(sheet.alloc) {
         Ok(config) => {
-            put_over(rt, &config, cells, sheet);
+            put_over(rt, &config, asked, cells, sheet);
             drop(config);
         }
         Err(_) => sheet.lack(),
     }
 }
 
-/// Writes what is fetched over the device of K1.
-fn put_over<R: RandomSource + Wait>(rt: &R, config: &Config, cells: &Cells, sheet: &Sheet)
+/// Writes what is asked, over the device of K1.
+fn put_over<R: RandomSource + Wait>(
+    rt: &R,
+    config: &Config,
+    asked: Asked,
+    cells: &Cells,
+    sheet: &Sheet,
+)
     requires { IsK1 config.now }
 {
     let Ok(devices) = devices_of(sheet.read(cells.next()), sheet.alloc) else {
@@ -67,7 +92,7 @@ fn put_over<R: RandomSource + Wait>(rt: &R, config: &Config, cells: &Cells, shee
     match ArticleLog::new(sheet.alloc) {
         Ok(register) => {
             let blank = Blank::new(1);
-            put_of::<Brand, Brand, R>(rt, config, &register, devices, blank, cells, sheet);
+            put_of::<Brand, Brand, R>(rt, config, &register, devices, blank, asked, cells, sheet);
             drop(register);
         }
         Err(_) => sheet.lack(),
@@ -87,13 +112,14 @@ fn devices_of(failing: u64, alloc: Global) -> Result<Vec<Device>, AllocError>
     Ok(devices)
 }
 
-/// Writes what is fetched over these devices, which are trusted.
+/// Writes what is asked, over these devices, which are trusted.
 fn put_of<J: StorePremises, L: Ledger, R: RandomSource + Wait>(
     rt: &R,
     config: &Config,
     register: &ArticleLog,
     devices: Vec<Device>,
     blank: Blank,
+    asked: Asked,
     cells: &Cells,
     sheet: &Sheet,
 )
@@ -116,7 +142,10 @@ fn put_of<J: StorePremises, L: Ledger, R: RandomSource + Wait>(
     );
     match made {
         Ok(shared) => {
-            put_shared(rt, config, register, &shared, share, cells, sheet);
+            match asked {
+                Asked::Fetched => put_shared(rt, config, register, &shared, share, cells, sheet),
+                Asked::Said => put_said(rt, config, register, &shared, share, cells, sheet),
+            }
             drop(shared);
         }
         Err(error) => {
@@ -144,7 +173,11 @@ fn put_shared<J: StorePremises, L: Ledger, R: Wait>(
         count: sheet.read(cells.next()),
         octets: sheet.read(cells.next()),
     };
-    let keeper = Keeper::new(shared, register, &config.buffers, &Standing);
+    let Ok(journal) = PendingJournal::new(sheet.alloc, 0) else {
+        drop(share);
+        return sheet.lack();
+    };
+    let keeper = Keeper::new(shared, register, &config.buffers, &Standing, &journal);
     if are_kept(rt, shared, &keeper, share, articles, sheet) {
         put_fetches(rt, shared, register, articles.octets, cells.rest(), sheet);
     } else {

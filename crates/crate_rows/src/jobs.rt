@@ -10,7 +10,7 @@ use nntp_text::MsgId;
 use std::alloc::Global;
 
 /// The number of the session that brings the articles.
-const SESSION: u64 = 1;
+pub const SESSION: u64 = 1;
 
 /// A(number, octets) of the first peer, as it is stored (docs/FORMATS.md, Example article).
 pub fn article(number: u64, octets: u64, sheet: &Sheet) -> Vec<u8> {
@@ -28,15 +28,20 @@ pub fn article(number: u64, octets: u64, sheet: &Sheet) -> Vec<u8> {
 
 /// A job of the session with this article, for group 0 and no feed.
 pub fn job(number: u64, octets: u64, sheet: &Sheet) -> Option<Job> {
-    let name = Sheet::new(sheet.alloc);
-    name.filled(b"<#@x>", &[number]);
-    let id = MsgId::parse(sheet.alloc, &name.onto(sheet)).ok()?;
+    let id = id_of(number, sheet)?;
     let article = accepted(article(number, octets, sheet), sheet.alloc)?;
     Some(Job {
         session: SESSION,
         id,
         article,
     })
+}
+
+/// The message-id of the article of this number.
+pub fn id_of(number: u64, sheet: &Sheet) -> Option<MsgId> {
+    let name = Sheet::new(sheet.alloc);
+    name.filled(b"<#@x>", &[number]);
+    MsgId::parse(sheet.alloc, &name.onto(sheet)).ok()
 }
 
 /// A text as an accepted article of K1's class, where it is an article.

@@ -123,8 +123,8 @@ abbrev pub begun_at : (k : ℕ) → Option (Where Record) → Option (Where Reco
 begun_at k own = if k == 0 then None else own
 
 -- What a session heard of block k is what one read of it gave, by reads that had the record that
--- they have there: nothing was found only for a cause of such a read, so that a first block is never
--- taken for that of another record.
+-- they have there: nothing was found only for a cause of such a read, so that a first block is
+-- never taken for that of another record.
 pub record IsReadAt (k : ℕ) (old new : Option (Where Record)) (chunk : Chunk) : Type 0 where
   pub read : Result OneRead Fault
   pub octets : List ℕ

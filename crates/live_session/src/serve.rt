@@ -1,5 +1,6 @@
 //! A session is served over a connection.
-ghost use Rattle.std.specs.Prelude.{◌≡◌, ◌≤◌, ◌<◌, ◌^◌, Bool, true, false, [], length, IfOk, IfSome};
+ghost use Rattle.std.specs.Prelude.{◌≡◌, ◌≤◌, ◌<◌, ◌^◌, Bool, true, false, [], length, IfOk};
+ghost use Rattle.std.specs.Prelude.{IfSome};
 ghost use Rattle.std.specs.Prelude.{None, Some, Ok};
 ghost use Rattle.std.specs.Prelude.{is_some};
 ghost use Rattle.article_verdict.specs.Config.{terms_of};

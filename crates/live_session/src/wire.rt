@@ -147,8 +147,8 @@ fn append<H: Hears, W: Says>(wire: &mut Wire<H, W>, said: Vec<u8>)
     }
 }
 
-/// The connection ends so, if it hasn't ended before. It is broken off only once nothing waits, since
-/// what waits then isn't written any more.
+/// The connection ends so, if it hasn't ended before. It is broken off only once nothing waits,
+/// since what waits then isn't written any more.
 pub(crate) fn stop<H: Hears, W: Says>(wire: &mut Wire<H, W>, finish: Finish)
     requires ends { is_break finish ≡ true }
     requires none { finish ≡ finishes.Broken → wire.old.outbox.items ≡ [] }

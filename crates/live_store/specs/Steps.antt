@@ -118,8 +118,8 @@ WritesOrConflicts old shown text (Err (writes.Conflict conflict)) new = new ≡ 
 abbrev pub IsWriteFaultOf : (octets : ℕ) → Fault → Type 0
 IsWriteFaultOf octets fault = (fault.kind ≡ kinds.Write) × (fault.length ≡ octets)
 
--- the fault that the write of a block carries, where it does, is of the text; else the open write is
--- in conflict
+-- the fault that the write of a block carries, where it does, is of the text; else the open write
+-- is in conflict
 abbrev pub IsWriteFault : (text : List ℕ) → WriteFault → Type 0
 IsWriteFault text (writes.Device fault) = IsWriteFaultOf (length text) fault
 IsWriteFault text (writes.Conflict conflict) = conflict_in conflict ≡ conflicts.Write

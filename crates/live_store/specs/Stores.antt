@@ -29,8 +29,8 @@ pub record IsStoreFault (text : List ℕ) (fault : Fault) : Type 0 where
   pub kind : (fault.kind ≡ kinds.Write) ⊎ (fault.kind ≡ kinds.Worn)
   pub length : fault.length ≡ length text
 
--- the record of the receipt has class and text; or the fault, or the conflict, is one of the storing
--- of the text
+-- the record of the receipt has class and text; or the fault, or the conflict, is one of the
+-- storing of the text
 abbrev pub IsStored : {J : Type 0} {g : Ghosts J} → (class : ℕ) → (text : List ℕ) → Stored J g
     → Type 0
 IsStored class text (stored.Kept finished) = IsTextOf class text finished.receipt.shown

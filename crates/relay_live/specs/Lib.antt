@@ -5,6 +5,7 @@ pub mod Counts
 pub mod PeerServers
 pub mod Figures
 pub mod Holding
+pub mod Journaling
 pub mod Keepers
 pub mod Locked
 pub mod Locking

@@ -7,7 +7,7 @@ use Rattle.block_shelf.specs.Each.{AreEach}
 use Rattle.block_shelf.specs.Heads as heads
 use Rattle.block_shelf.specs.Starting.{CanStart, EarlierStart, IsFirstOther, IsFromOutside}
 use Rattle.block_shelf.specs.Starting.{IsMixedAt, IsUnwritten, buffer_over, failed_at}
-use Rattle.block_shelf.specs.Starting.{BuffersKeep, ResumePlacedGroups, buffers_inside}
+use Rattle.block_shelf.specs.Starting.{ResumePlacedGroups, buffers_inside}
 use Rattle.block_shelf.specs.Starting.{fault_of_start}
 use Rattle.block_shelf.specs.Starting.{number_told}
 use Rattle.block_shelf.specs.declared.starting.StopFault.{StopFault}
@@ -51,7 +51,7 @@ use Rattle.relay_live.specs.declared.desks.Desks.{Desks}
 use Rattle.relay_live.specs.declared.shared.Shared.{Shared}
 use Rattle.news_terms.specs.HeadBlocks.{Closed}
 use Rattle.relay_model.specs.Claims.{Claim}
-use Rattle.relay_model.specs.State.{Feed, State}
+use Rattle.relay_model.specs.State.{Feed}
 use Rattle.relay_model.specs.Terms.{Terms}
 use Rattle.relay_model.specs.World.{World}
 

@@ -94,8 +94,8 @@ impl<S: BlockStore + Drop, J: StorePremises> BufferLocks<S, J> {
         Held::of(self.numbers[place], self.locks[place].lock(rt))
     }
 
-    /// The buffers out of their locks, each with the number of its lock, put where there is room for
-    /// them.
+    /// The buffers out of their locks, each with the number of its lock, put where there is room
+    /// for them.
     pub(crate) fn free(
         self,
         room: Vec<Freed<NumberedBuffer<S, J>>>,

@@ -4,6 +4,7 @@ ghost use Rattle.id_history.specs.declared.claims.Take.TheVariants as takes;
 ghost use Rattle.live_jobs.specs.Forgotten.{IsForgotten};
 ghost use Rattle.relay_live.specs.Settling.{SettlesJob};
 
+use crate::refusing::refuse;
 use cyc_token::Token;
 use id_history::{Shard, Take};
 use job_queue::{Crowd, Looked};
@@ -44,6 +45,17 @@ impl Claims {
         session: u64,
     ) -> Result<Take, AllocError> {
         self.shard.lock(rt).take(id, session)
+    }
+
+    /// Whether the id was marked.
+    pub(crate) fn refuse<R: Wait>(
+        &self,
+        rt: &R,
+        id: &MsgId,
+        session: u64,
+        now: u64,
+    ) -> Result<bool, AllocError> {
+        refuse(&mut self.shard.lock(rt), id, session, now)
     }
 
     /// As `take`, but where another session stores an article of the id it waits until that has

@@ -17,8 +17,8 @@ impl<S: BlockStore + Drop, J: StorePremises, L: Ledger> Shared<S, J, L> {
 
     /// Fetches the text under a token, in any thread: one block at a time under the lock of the
     /// token's buffer. A text that is given whole is that of the record of its number, which has
-    /// the token; gone is said with a front, unknown with its cause, and a device's failure with its
-    /// fault.
+    /// the token; gone is said with a front, unknown with its cause, and a device's failure with
+    /// its fault.
     pub fn fetch<R: Wait>(
         &self,
         rt: &R,

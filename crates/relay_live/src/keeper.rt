@@ -9,6 +9,7 @@ ghost use Rattle.relay_live.specs.Keepers.{was_begun};
 ghost use Rattle.relay_live.specs.Settling.{SettlesJob};
 
 use crate::holding;
+use crate::journaled::Journaled;
 use crate::register_ref::RegisterRef;
 use crate::shared::Shared;
 use block_shelf::{Place, PlacedGroup};
@@ -18,6 +19,7 @@ use cyc_buffer::FaultKind;
 use cyc_token::Token;
 use job_queue::Handed;
 use live_jobs::{CountedDesk, Forgotten, Posted, Store, StoreResult, Unsettled};
+use live_journal::PendingJournal;
 use live_session::Clock;
 use live_store::{StorePremises, Stored};
 use relay_conf::Buffers;
@@ -26,13 +28,14 @@ use std::sync::{Mutex, Wait};
 use std::thread;
 
 /// What all writers store by: what the threads share, the register of these store premises, the
-/// buffers' settings and a clock.
+/// buffers' settings, a clock, and the journal that is told of what is stored.
 #[derive(Drop)]
 pub struct Keeper<'a, S: BlockStore + Drop, J: StorePremises, L: Ledger, C: Clock, Q: RegisterRef> {
     pub(crate) shared: &'a Shared<S, J, L>,
     pub(crate) register: &'a Q,
     settings: &'a Buffers,
     pub(crate) clock: &'a C,
+    pub(crate) journal: &'a PendingJournal,
     ghost here: { Q.lent register.now ≡ J.register },
     ghost holds: { J.holds ≡ has_buffer settings.now },
 }
@@ -53,6 +56,7 @@ impl<'a, S: BlockStore + Drop, J: StorePremises, L: Ledger, C: Clock, Q: Registe
         register: &'a Q,
         settings: &'a Buffers,
         clock: &'a C,
+        journal: &'a PendingJournal,
     ) -> Keeper<'a, S, J, L, C, Q>
         requires register { Q.lent register.now ≡ J.register }
         requires holds { J.holds ≡ has_buffer settings.now }
@@ -63,6 +67,7 @@ impl<'a, S: BlockStore + Drop, J: StorePremises, L: Ledger, C: Clock, Q: Registe
             register,
             settings,
             clock,
+            journal,
         }
     }
 
@@ -95,14 +100,15 @@ impl<'a, S: BlockStore + Drop, J: StorePremises, L: Ledger, C: Clock, Q: Registe
         Some(stored)
     }
 
-    /// The article is settled at the moment that the clock gives, where the job's id is its
-    /// session's and the desk makes a further post.
+    /// The article is settled at this moment, where the job's id is its session's and the desk
+    /// makes a further post.
     fn try_settle<R: Wait>(
         &self,
         rt: &R,
         share: &mut Share<L>,
         job: &Job,
         token: Token,
+        moment: u64,
     ) -> Option<Posted>
         requires { 0 < share.old.parts }
         ensures { SettlesJob job.now.id job.now.session token job.now.article.permitted.items
@@ -114,27 +120,28 @@ impl<'a, S: BlockStore + Drop, J: StorePremises, L: Ledger, C: Clock, Q: Registe
             session: job.session,
             token,
             permitted,
-            moment: self.clock.now(),
+            moment,
         };
         let claims = self.shared.claims(&job.id);
         claims.settle(rt, &self.shared.desk, share, &article)
     }
 
-    /// The article is settled. It is tried again until the job's id is its session's, and `None`
-    /// only where the desk makes no further post.
+    /// The article is settled at this moment. It is tried again until the job's id is its
+    /// session's, and `None` only where the desk makes no further post.
     fn settle<R: Wait>(
         &self,
         rt: &R,
         share: &mut Share<L>,
         job: &Job,
         token: Token,
+        moment: u64,
     ) -> Option<Posted>
         requires { 0 < share.old.parts }
         ensures { SettlesJob job.now.id job.now.session token job.now.article.permitted.items
             share.old.amount share.new.amount share.old.parts share.new.parts result }
     {
         for _ in rt.forever() {
-            if let Some(posted) = self.try_settle(rt, share, job, token) {
+            if let Some(posted) = self.try_settle(rt, share, job, token, moment) {
                 return Some(posted);
             }
             if is_full(rt, &self.shared.desk) {
@@ -145,28 +152,39 @@ impl<'a, S: BlockStore + Drop, J: StorePremises, L: Ledger, C: Clock, Q: Registe
         unreachable!()
     }
 
-    /// The text is stored and the article settled, or given up: then its id is unknown.
-    fn keep<R: Wait>(&self, rt: &R, share: &mut Share<L>, handed: &Handed) -> StoreResult<J>
+    /// The text is stored and the article settled, or given up: then its id is unknown. What is
+    /// kept is said to the journal, once it is settled and all locks are free.
+    fn keep<R: Wait>(&self, rt: &R, share: &mut Share<L>, handed: &Handed) -> Journaled<J>
         requires part { share.old.parts ≡ 1 }
         ensures part { share.new.parts ≡ 1 }
-        ensures counted { share.new.amount ≡ share.old.amount + worth (is_kept result) }
-        ensures fits { FitsJob J.holds result handed.now }
+        ensures counted { share.new.amount
+            ≡ share.old.amount + worth (is_kept result.store_result) }
+        ensures fits { FitsJob J.holds result.store_result handed.now }
     {
         let job = &handed.job;
         match self.write(rt, &job.article) {
-            Some(Stored::Kept(finished)) => match self.settle(rt, share, job, finished.token()) {
-                Some(posted) => StoreResult::Kept(finished.into_receipt(), posted),
-                None => StoreResult::Conflict(self.forget(rt, job)),
-            },
+            Some(Stored::Kept(finished)) => {
+                let token = finished.token();
+                let moment = self.clock.now();
+                match self.settle(rt, share, job, token, moment) {
+                    Some(posted) => {
+                        let said = self.journal.stored(rt, &job.id, &token, moment);
+                        Journaled::kept(finished.into_receipt(), posted, said)
+                    }
+                    None => Journaled::given_up(StoreResult::Conflict(self.forget(rt, job))),
+                }
+            }
             Some(Stored::Failed(fault)) => {
                 let forgotten = self.forget(rt, job);
                 if holding::has_buffer(self.settings, job.article.group, fault.buffer()) {
-                    StoreResult::Failed(fault, forgotten)
+                    Journaled::given_up(StoreResult::Failed(fault, forgotten))
                 } else {
-                    StoreResult::Conflict(forgotten)
+                    Journaled::given_up(StoreResult::Conflict(forgotten))
                 }
             }
-            Some(Stored::Conflict(_)) | None => StoreResult::Conflict(self.forget(rt, job)),
+            Some(Stored::Conflict(_)) | None => {
+                Journaled::given_up(StoreResult::Conflict(self.forget(rt, job)))
+            }
         }
     }
 
@@ -218,10 +236,10 @@ impl<
     R: Wait,
 > Store<L, StoreResult<J>, R> for Keeper<'a, S, J, L, C, Q> {
     fn store(&self, rt: &R, share: &mut Share<L>, handed: &Handed) -> StoreResult<J> {
-        let store_result = self.keep(rt, share, handed);
+        let journaled = self.keep(rt, share, handed);
         if let Some(slot) = self.shared.slots.get(handed.end as usize) {
-            let _told = slot.tell(rt, handed.number, &store_result);
+            let _told = slot.tell(rt, handed.number, &journaled);
         }
-        store_result
+        journaled.into_store_result()
     }
 }

@@ -8,11 +8,13 @@ ghost use Rattle.relay_live.specs.Sessions.{IsOneMore};
 
 use crate::drawing::Number;
 use crate::forgetting::expire_round;
+use crate::journaled_shares::JournaledShares;
 use crate::keeper::Keeper;
 use crate::register_ref::RegisterRef;
 use crate::shared::Shared;
 use cyc_block::BlockStore;
 use live_jobs::{Accounts, JobChannel, KeptJob, Service, SessionSeat};
+use live_journal::PendingJournal;
 use live_session::{Clock, Connection, Gate, Served, SessionContext, serve_session};
 use live_store::StorePremises;
 use live_wire::{Connections, Hears, Says};
@@ -42,6 +44,7 @@ pub struct PeerServer<
     pub(crate) register: &'a Q,
     pub(crate) config: &'a Config,
     pub(crate) clock: &'a C,
+    pub(crate) journal: &'a PendingJournal,
     pub(crate) gate: &'a G,
     /// The number of the peer.
     pub(crate) peer: usize,
@@ -86,6 +89,7 @@ impl<
             register: keeper.register,
             config,
             clock: keeper.clock,
+            journal: keeper.journal,
             gate,
             peer,
             connections,
@@ -127,8 +131,9 @@ impl<
         let began = self.clock.now();
         self.gate.opened(rt, self.peer, number);
         let kept = mem::replace(&mut self.kept, Vec::new(self.alloc));
+        let shares = JournaledShares::new(self.shared, self.journal);
         let context = SessionContext {
-            shares: self.shared,
+            shares: &shares,
             register: self.register.register(),
             channels,
             config: self.config,

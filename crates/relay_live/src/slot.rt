@@ -2,8 +2,9 @@
 ghost use Rattle.std.specs.Prelude.{◌≡◌, IfSome};
 ghost use Rattle.relay_live.specs.Slots.{left_by, told_number, told_to};
 
+use crate::journaled::Journaled;
 use job_queue::Crowd;
-use live_jobs::{JobAnswer, LOOKS, StoreResult, answer_of};
+use live_jobs::{JobAnswer, LOOKS, answer_of};
 use live_store::StorePremises;
 use std::sync::{Mutex, Wait};
 use std::thread;
@@ -32,11 +33,12 @@ impl<J: StorePremises> Slot<J> {
 
     /// Puts what became of the end's job of this number. Where an answer of a later job stands
     /// there nobody waits for this one, and it is dropped.
-    pub fn tell<R: Wait>(&self, rt: &R, number: u64, store_result: &StoreResult<J>) -> Told
+    pub fn tell<R: Wait>(&self, rt: &R, number: u64, journaled: &Journaled<J>) -> Told
         ensures { told_number result ≡ number }
     {
+        let answer = answer_of(number, journaled.store_result());
         let held = self.answer.lock(rt);
-        put(held, answer_of(number, store_result)).unlock(&self.filled)
+        put(held, answer).unlock(&self.filled)
     }
 
     /// Waits until a writer has told what became of the end's job of this number, and takes that.

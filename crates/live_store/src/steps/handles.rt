@@ -65,8 +65,8 @@ pub(crate) fn octets_of(text: &[u8]) -> Result<u32, Conflict>
 }
 
 /// What a begin that is refused comes to: a worn buffer is told as its fault; an article that is
-/// too big, and a buffer where another write is open, as in conflict. Only where a begin was refused
-/// it is called.
+/// too big, and a buffer where another write is open, as in conflict. Only where a begin was
+/// refused it is called.
 pub(super) fn refused(error: BufError) -> Result<Fault, Conflict>
     ensures told { IsRefusedAs error result }
     ensures fault { (octets : ℕ) → IsBeginFault octets error

@@ -19,14 +19,16 @@ returns-then-group-channels-clause-did g c = record {
   memory = λ is. absurd (pushed-memory _ is);
 }
 
-pub returns-then-handed-ge-JOB_NUMBERS-clause-did : goal.returns-then-handed-ge-JOB_NUMBERS-clause-did
+pub returns-then-handed-ge-JOB_NUMBERS-clause-did :
+    goal.returns-then-handed-ge-JOB_NUMBERS-clause-did
 returns-then-handed-ge-JOB_NUMBERS-clause-did g c = record {
   seat = c.requires.seat;
   place = record { number = refl; end_is = refl };
   shared = λ w. not_pushed w c.args.live.now c.args.group;
   reads = tt;
   slot = tt;
-  push = λ group is. ∣ inr (inl (omega (arith, c.if-handed-ge-JOB_NUMBERS.true, c.handed.ensures))) ∣₁;
+  push = λ group is. ∣ inr (inl (omega (arith, c.if-handed-ge-JOB_NUMBERS.true, c.handed.ensures)))
+      ∣₁;
   memory = λ is. absurd (pushed-memory _ is);
 }
 

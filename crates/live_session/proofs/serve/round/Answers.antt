@@ -139,6 +139,7 @@ returns-in-Memory g c =
       };
       turns = refl;
       newest = λ _. c.in-Memory.ensures.newest memory-held;
-      waiting = λ few. none_waits _ (ap (λ (o : Vec ℕ). length o.items) c.stop-in-Memory.ensures.waiting
+      waiting = λ few. none_waits _
+          (ap (λ (o : Vec ℕ). length o.items) c.stop-in-Memory.ensures.waiting
           ∙ ap length c.flush-in-Memory.ensures.none);
     }

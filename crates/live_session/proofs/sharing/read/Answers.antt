@@ -30,7 +30,8 @@ returns-clause-cause g c =
       read = c.read-read.result;
       octets = c.read-read.new.chunk;
       given_is = c.chunk_of.ensures;
-      after = subst (λ o. IsRecordAfter (ones_found c.read-read.result) o c.read-read.new.reads.shown) begun
+      after = subst (λ o. IsRecordAfter (ones_found c.read-read.result) o
+          c.read-read.new.reads.shown) begun
           c.read-read.ensures.after;
       unknown = subst (λ o. IfOk c.read-read.result (IsOneUnfound c.args.k o)) begun
           c.read-read.ensures.unknown;

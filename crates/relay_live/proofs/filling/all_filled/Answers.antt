@@ -42,4 +42,5 @@ returns g c =
     let past : length all ≤ c.loop-unopened.unopened-index =
     omega (arith, c.loop-unopened-test.false, ap length c.deref-unopened-items.ensures.value) in
     c.loop-unopened.invariant.said
-    ∙ ap (λ xs. map filled_in (map unopened_in xs)) (take_all c.loop-unopened.unopened-index all past)
+    ∙ ap (λ xs. map filled_in (map unopened_in xs))
+    (take_all c.loop-unopened.unopened-index all past)

@@ -2,7 +2,7 @@ use Rattle.std.proofs.Common.{◌∙◌, ◌++◌, ◌∷◌, ◌<◌, [], ap, a
 use Rattle.std.proofs.Common.{None, refl, subst, sym, ℕ}
 use Rattle.std.proofs.lemmas.List.{length-append, length-map}
 use Rattle.cyc_buffer.specs.Agreement.{store_of}
-use Rattle.cyc_buffer.specs.Head.{inside, said_of, stop_of}
+use Rattle.cyc_buffer.specs.Head.{inside, said_of}
 use Rattle.cyc_buffer.specs.Stopped.{Says}
 use Rattle.news_terms.specs.HeadBlocks.{Closed}
 use Rattle.block_shelf.proofs.EachLemmas.{count_through, here_through}

@@ -64,11 +64,12 @@ returns-in-Ok-read_back g c =
         starts = was.started honest;
       };
       reason = λ honest. tt;
-      said = λ honest. subst (λ (r : BufferState). Says (g.S.BlockStore.heads c.args.store) (record {
-        number = c.args.number;
-        blocks = length (g.S.BlockStore.blocks c.args.store);
-        first_cycle = c.args.first_cycle;
-      }) (numbers_in r Closed c.in-Ok.started.stop)) (sym read.read.buffer_state)
+      said = λ honest. subst
+          (λ (r : BufferState). Says (g.S.BlockStore.heads c.args.store) (record {
+            number = c.args.number;
+            blocks = length (g.S.BlockStore.blocks c.args.store);
+            first_cycle = c.args.first_cycle;
+          }) (numbers_in r Closed c.in-Ok.started.stop)) (sym read.read.buffer_state)
           (was.said honest);
       unopened = read.read.opened ∙ was.unopened;
       idle = ap (λ (r : BufferState). is_some r.progress) read.read.buffer_state ∙ was.idle;

@@ -1,5 +1,4 @@
-use Rattle.std.proofs.Common.{◌∙◌, ap}
-use Rattle.std.specs.Prelude.{slice_index_or}
+use Rattle.std.proofs.Common.{◌∙◌}
 use Rattle.relay_live.proofs.Orders.{number_at}
 use Rattle.relay_live.proofs.buffer_locks.BufferLocks.hold.Goals as goal
 

@@ -3,8 +3,8 @@ use Rattle.relay_live.specs.BufferLocks.{count_in, lock_room, number_room, numbe
 use Rattle.relay_live.specs.Locked.{AreInOrder}
 use Rattle.relay_live.proofs.buffer_locks.BufferLocks.over.Given as goal
 
--- the buffers so far are behind locks, which have the numbers of their places, and there is room for
--- the others
+-- the buffers so far are behind locks, which have the numbers of their places, and there is room
+-- for the others
 abbrev pub invariant-loop-buffer : goal.invariant-loop-buffer
 invariant-loop-buffer g l = record {
   all : l.yielded ++ l.buffer-iterator.rest.items ≡ l.fn.buffers.items;

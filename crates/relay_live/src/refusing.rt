@@ -1,0 +1,41 @@
+//! Refuses an article, and tells whether its id was marked.
+ghost use Rattle.std.specs.Prelude.{◌≡◌, IfOk, OnErr, OnOk};
+ghost use Rattle.id_history.specs.Answers.{offer_view};
+ghost use Rattle.id_history.specs.Changes.{ChangesClaim, KeepsClaims, OfClaim};
+ghost use Rattle.id_history.specs.Shard.{Keeps};
+ghost use Rattle.relay_live.specs.Journaling.{is_marked_by, is_wanted};
+ghost use Rattle.relay_model.specs.Claims.{after_refuse};
+
+use id_history::{Offer, Shard};
+use nntp_text::MsgId;
+use std::alloc::AllocError;
+
+/// The session's article of the id is refused at this moment (`Shard::refuse`). Whether that is
+/// what is known of the id from now on: not where it was stored or refused before, nor where
+/// another session has to do with it.
+pub(crate) fn refuse(
+    shard: &mut Shard,
+    id: &MsgId,
+    session: u64,
+    now: u64,
+) -> Result<bool, AllocError>
+    ensures marked { IfOk result (λ marked. OfClaim (Keeps shard.old) id.now
+        (λ claim. marked ≡ is_marked_by session claim)) }
+    ensures claims { OnOk result (ChangesClaim (Keeps shard.old) (Keeps shard.new) id.now
+        (after_refuse session now)) }
+    ensures err { OnErr result (KeepsClaims (Keeps shard.old) (Keeps shard.new)) }
+{
+    let offer = shard.offer(id, session)?;
+    shard.refuse(id, session, now)?;
+    Ok(is_wanted(offer))
+}
+
+/// Whether the session whose offer is answered so is to send the article.
+fn is_wanted(offer: Offer) -> bool
+    ensures { result ≡ is_wanted (offer_view offer) }
+{
+    match offer {
+        Offer::Wanted => true,
+        Offer::Later | Offer::Seen => false,
+    }
+}
