@@ -1,9 +1,9 @@
 -- A begin, in what the buffer set keeps, by what the code finds on its way: the group, its pick
 -- with the number, and the buffer.
-use Rattle.std.proofs.Common.{◌≡◌, ◌∙◌, ℕ, ◌<◌, ◌≤◌, nat_lt, Bool, false, refl, sym, ap}
-use Rattle.std.proofs.Common.{arith, length, map, List, [], ◌∷◌, Option, None, Some, All}
+use Rattle.std.proofs.Common.{◌≡◌, ◌∙◌, ℕ, ◌<◌, ◌≤◌, nat_lt, Bool, false, refl, sym, ap, arith}
+use Rattle.std.proofs.Common.{length, map, subst, true, List, [], ◌∷◌, Option, None, Some, All}
 use Rattle.std.proofs.Common.{slice_get, length-set, option_map, slice_set}
-use Rattle.std.proofs.lemmas.Bool.{ltb-false}
+use Rattle.std.proofs.lemmas.Bool.{false≢true, ltb-false}
 use Rattle.std.proofs.lemmas.Bool.Decides.{nat_tests}
 use Rattle.std.proofs.lemmas.List.Elements.{All-append, All-cons, All-nil}
 use Rattle.std.proofs.lemmas.List.{set-get_or}
@@ -17,6 +17,7 @@ use Rattle.cyc_block.specs.declared.store.BlockStore.{Ghosts}
 use Rattle.cyc_buffer.specs.Agreement as buffers
 use Rattle.cyc_buffer.specs.Agreement.{Agrees, Follows, store_of, buffer_state_of}
 use Rattle.cyc_buffer.specs.Answers.{refusal}
+use Rattle.cyc_buffer.specs.Crash.{IsLeftOf}
 use Rattle.cyc_buffer.specs.History as histories
 use Rattle.cyc_buffer.specs.History.{History, Article, asked, finished_at, is_at, next_cycle}
 use Rattle.cyc_buffer.specs.History.{open_token, with_begin}
@@ -26,12 +27,12 @@ use Rattle.cyc_buffer.specs.declared.buffer_state.Open.{Open}
 use Rattle.cyc_token.specs.Token.{token_view}
 use Rattle.news_terms.proofs.BufferArticles.{next_in}
 use Rattle.news_terms.proofs.CourseLaws.{articles_next, next_laid, next_some, pick_within}
-use Rattle.news_terms.specs.Courses.{Course, IsLaid, course_next, pick_in}
-use Rattle.news_terms.specs.Courses.{place_next}
+use Rattle.news_terms.specs.Courses.{Course, IsLaid, course_next, pick_in, place_next}
 use Rattle.news_terms.specs.Fronts.{FitsGroup, HasOwnNumbers}
 use Rattle.news_terms.specs.Picks as picks
 use Rattle.news_terms.specs.Places as places
-use Rattle.news_terms.specs.Places.{Extent, Group, Place, place_in_buffer, size_of, last_cycle}
+use Rattle.news_terms.specs.Places.{Extent, Group, IsLive, Place, last_cycle, on_line}
+use Rattle.news_terms.specs.Places.{place_in_buffer, size_of}
 use Rattle.news_terms.specs.Settings.{IsBufferAt}
 use Rattle.news_terms.specs.Token.{Token}
 use Rattle.news_terms.proofs.ListPlaces.{holds_at, there_within}
@@ -40,8 +41,8 @@ use Rattle.relay_model.specs.Terms.{Terms}
 use Rattle.block_shelf.proofs.BegunHistories.{begun_more, begun_texts, courses_after, more_here}
 use Rattle.block_shelf.proofs.BegunHistories.{more_there, other_begins, own_numbers, picked_begins}
 use Rattle.block_shelf.proofs.Shelving.{KeptAt, buffers_kept, groups_kept, kept_at, only_there}
-use Rattle.block_shelf.proofs.Shelving.{opened_after, past_last, put_both, replaced, stands, still}
-use Rattle.block_shelf.proofs.Shelving.{with_buffer}
+use Rattle.block_shelf.proofs.Shelving.{opened_after, past_last, put_both, replaced, same_stays}
+use Rattle.block_shelf.proofs.Shelving.{stands, still, with_buffer}
 use Rattle.block_shelf.proofs.Writings.{is_free, just_begun, untouched, writing_here}
 use Rattle.block_shelf.specs.Calls.{BegunAs, CanBegin, KeepsAll, place_in, token_at}
 use Rattle.block_shelf.specs.Keeping.{KeepsTexts, KeepsPlacedGroup}
@@ -51,6 +52,7 @@ use Rattle.block_shelf.specs.Starting.{PlacedGroupsKeep}
 use Rattle.block_shelf.specs.declared.buffer_set.PlacedGroup.{PlacedGroup}
 use Rattle.block_shelf.specs.declared.buffer_set.BufferSet.{BufferSet}
 use Rattle.block_shelf.specs.declared.picking.Place as code_places
+use Rattle.block_shelf.specs.Leaving.{Trust}
 
 -- WHERE NOTHING IS BEGUN
 
@@ -89,7 +91,7 @@ module _ {S : Type 0} {g : Ghosts S} (old : BufferSet S g) (i : ℕ) {placed_gro
   keeps_all number code' there same_buffer_state same_store =
       λ trusted w begun kept openings failures keeps.
       let at = kept_at (buffers_kept keeps) there in
-      still keeps at (same_agrees same_buffer_state same_store)
+      still keeps at (same_agrees same_buffer_state same_store) (same_stays same_store)
       (at.failed ∙ ap g.failures (sym same_store)) (λ n apart. refl)
       (same_groups (groups_kept keeps))
 
@@ -103,7 +105,7 @@ worn : (h : History) (octets : ℕ) (fresh : Bool) → size_of octets ≤ h.buff
     × (None ≡ refusal h octets fresh → next_cycle h fresh (size_of octets) ≤ last_cycle)
 worn h octets fresh room free = (λ e is. grind (arith, nat_tests), λ is. grind (arith, nat_tests))
 
-module _ {S : Type 0} {g : Ghosts S} {trusted : Bool} {old : BufferSet S g} {w : Terms}
+module _ {S : Type 0} {g : Ghosts S} {trusted : Trust} {old : BufferSet S g} {w : Terms}
     {begun : ℕ → Course} {kept : List Kept} {openings : ℕ → Option Opening} {failures : ℕ → ℕ}
     (keeps : KeepsTexts trusted old w begun kept openings failures) {h : ℕ} (class octets : ℕ)
     (can : CanBegin w h (size_of octets) openings) {i : ℕ} (is : i ≡ h) where
@@ -238,7 +240,7 @@ module _ {S : Type 0} {g : Ghosts S} {trusted : Bool} {old : BufferSet S g} {w :
           goes_to,
           goes_there,
           (
-            in_time.0 e (rw fresh_is (refuses trusted now at.agrees)),
+            in_time.0 e (rw fresh_is (refuses trusted.honest now at.agrees)),
             keeps_all old i found to.number code' there same_buffer_state same_store trusted w begun
                 kept openings failures keeps,
           ),
@@ -255,13 +257,21 @@ module _ {S : Type 0} {g : Ghosts S} {trusted : Bool} {old : BufferSet S g} {w :
             → Agrees t code' (with_begin class octets to.pick.fresh each))
             (named : (t : Bool) (each : History) → Agrees t code each
             → Some (token_view (buffers.token_of write))
-            ≡ open_token (with_begin class octets to.pick.fresh each)) where
+            ≡ open_token (with_begin class octets to.pick.fresh each))
+            (leaves : (each : History) (saved later : Token → Bool) → Agrees true code each
+            → IsLeftOf each saved (g.blocks (store_of code))
+            → ((t : Token) → later t ≡ true → (saved t ≡ true)
+            × IsLive each.buffer.blocks
+            (histories.front_of (with_begin class octets to.pick.fresh each))
+            (on_line each.buffer.blocks t.cycle t.first))
+            → IsLeftOf (with_begin class octets to.pick.fresh each) later
+            (g.blocks (store_of code'))) where
           -- the token of the open write
           abbrev token : Token
           token = token_view (buffers.token_of write)
 
           token_is : token ≡ token_at class octets goes_to
-          token_is = same_Some token _ (rw fresh_is (named trusted now at.agrees))
+          token_is = same_Some token _ (rw fresh_is (named trusted.honest now at.agrees))
 
           named_here : token.buffer ≡ now.buffer.number
           named_here = ap (λ (t : Token). t.buffer) token_is
@@ -327,12 +337,12 @@ module _ {S : Type 0} {g : Ghosts S} {trusted : Bool} {old : BufferSet S g} {w :
             goes_to,
             goes_there,
             (
-              in_time.1 (rw fresh_is (takes trusted now at.agrees)),
+              in_time.1 (rw fresh_is (takes trusted.honest now at.agrees)),
               token_is,
               λ text long. replaced keeps at (record {
                 history = with_begin class octets pick.fresh now;
                 same = refl;
-                agrees = rw fresh_is (follows trusted now at.agrees);
+                agrees = rw fresh_is (follows trusted.honest now at.agrees);
                 said = record {
                   begins = picked_begins h class octets can.there at.said.begins here
                       (λ k j at_group.
@@ -344,6 +354,12 @@ module _ {S : Type 0} {g : Ghosts S} {trusted : Bool} {old : BufferSet S g} {w :
                   writing = writing_here openings h (just_begun now text token_is);
                 };
                 failed = ap failures at.number ∙ at.failed ∙ ap g.failures (sym same_store);
+                left = λ sure yes none.
+                    rw fresh_is
+                    (leaves now (λ t. false) (λ t. false)
+                    (subst (λ b. Agrees b code now) sure at.agrees)
+                    (at.left sure yes (ap g.failures (sym same_store) ∙ none))
+                    (λ t never. absurd (false≢true never)));
                 others = untouched (record {
                   was = λ other e. cc can.free;
                   now = λ other e. cc named_here;

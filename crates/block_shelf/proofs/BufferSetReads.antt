@@ -14,6 +14,7 @@ use Rattle.cyc_buffer.specs.Answers.{is_beyond, or_by_text}
 use Rattle.cyc_buffer.specs.Calls.{ReadsBlock}
 use Rattle.cyc_buffer.specs.History as histories
 use Rattle.cyc_buffer.specs.History.{History, Article, finished_at}
+use Rattle.cyc_buffer.specs.Reads.{StaysHeld}
 use Rattle.cyc_buffer.specs.declared.answers.BufError.{BufError}
 use Rattle.cyc_buffer.specs.declared.answers.BufError.TheVariants.{Device}
 use Rattle.cyc_buffer.specs.declared.answers.FaultKind.TheVariants as kinds
@@ -36,12 +37,13 @@ use Rattle.relay_model.specs.State.{State, put_at}
 use Rattle.relay_model.specs.Terms.{Terms}
 use Rattle.block_shelf.proofs.Reported.{fronts_agree}
 use Rattle.block_shelf.proofs.Shelving.{AreKept, KeptAt, buffers_kept, failed_once, groups_kept}
-use Rattle.block_shelf.proofs.Shelving.{kept_at, past_last, still, with_buffer}
+use Rattle.block_shelf.proofs.Shelving.{held_stays, kept_at, past_last, still, with_buffer}
 use Rattle.block_shelf.specs.Keeping.{KeepsTexts}
 use Rattle.block_shelf.specs.Openings.{Opening}
 use Rattle.block_shelf.specs.Reading.{IsFoundOf, IsFrontFor, IsNowhere, BlockRead, HasFound}
 use Rattle.block_shelf.specs.Reading.{HasNotFound, IsFrontAt}
 use Rattle.block_shelf.specs.declared.buffer_set.BufferSet.{BufferSet}
+use Rattle.block_shelf.specs.Leaving.{Trust}
 
 -- WHAT A HISTORY ANSWERS, AND WHAT A FETCH FINDS
 
@@ -104,11 +106,11 @@ module _ (buffer : places.Buffer) (token : Token) (k front : ℕ)
       (front_view buffer front) (unwrap_or (decided_at token buffer place front) (article_of text))
   answered text = grind (arith, beyond)
 
-module _ {S : Type 0} {g : Ghosts S} {trusted : Bool} {codes : List (Buffer S g)} {w : Terms}
+module _ {S : Type 0} {g : Ghosts S} {trusted : Trust} {codes : List (Buffer S g)} {w : Terms}
     (σ : State) {openings : ℕ → Option Opening} {failures : ℕ → ℕ}
     (are : AreKept trusted codes w σ.begun σ.kept openings failures) where
   -- the buffer that a token names stands at its number
-  named_buffer : (token : Token) → buffer_of w token ≡ slice_get w.buffers token.buffer
+  pub named_buffer : (token : Token) → buffer_of w token ≡ slice_get w.buffers token.buffer
   named_buffer token =
       find_numbered 0 token.buffer w.buffers (λ b one is. omega (arith, are.numbered b one is))
       token.buffer (omega arith)
@@ -128,9 +130,10 @@ module _ {S : Type 0} {g : Ghosts S} {trusted : Bool} {codes : List (Buffer S g)
   fronts_are i front is says =
       let at = kept_at are is in
       rw at.there
-      (ap Some (says trusted at.now at.agrees ∙ ap (front_view at.now.buffer) (front_here at)))
+      (ap Some (says trusted.honest at.now at.agrees ∙ ap (front_view at.now.buffer)
+      (front_here at)))
 
-module _ {S : Type 0} {g : Ghosts S} {trusted : Bool} {old : BufferSet S g} {w : Terms} (σ : State)
+module _ {S : Type 0} {g : Ghosts S} {trusted : Trust} {old : BufferSet S g} {w : Terms} (σ : State)
     {openings : ℕ → Option Opening} {failures : ℕ → ℕ}
     (keeps : KeepsTexts trusted old w σ.begun σ.kept openings failures) where
   -- where no buffer has the token's number nothing is found
@@ -219,30 +222,32 @@ module _ {S : Type 0} {g : Ghosts S} {trusted : Bool} {old : BufferSet S g} {w :
     -- what a read of the buffer does is what the buffer set says
     pub reads : {before after : List ℕ} {code' : Buffer S g} (result : Result Found BufError)
         → ReadsBlock code token k before result after code'
+        → StaysHeld g (store_of code) (store_of code')
         → BlockRead trusted w σ openings failures (token_view token) k result after
         (with_buffer old i code' old.placed_groups)
-    reads {after = after} (Ok one) does =
+    reads {after = after} (Ok one) does held =
         HasFound one refl
-        (still keeps at does.same (at.failed ∙ sym does.device.no_failure) (λ n apart. refl)
+        (still keeps at does.same (held_stays held (omega (arith, does.device.no_failure)))
+        (at.failed ∙ sym does.device.no_failure) (λ n apart. refl)
         (groups_kept keeps))
         (λ honest.
         found_of after one (does.found now (subst (λ b. Agrees b code now) honest at.agrees)))
         (λ what decides. rw decides at
-        (found_of after one (does.unread trusted now at.agrees (unread_by_numbers decides))))
+        (found_of after one (does.unread trusted.honest now at.agrees (unread_by_numbers decides))))
         (λ nowhere. found_of after one
-        (does.unread trusted now at.agrees (unread_nowhere nowhere)))
-    reads {code' = code'} (Err e) does =
+        (does.unread trusted.honest now at.agrees (unread_nowhere nowhere)))
+    reads {code' = code'} (Err e) does held =
         let never : (what : Fetched) → decided w σ (token_view token) ≡ Some what → ⊥ =
-        λ what decides. does.unread trusted now at.agrees (unread_by_numbers decides) in
+        λ what decides. does.unread trusted.honest now at.agrees (unread_by_numbers decides) in
         HasNotFound e (put_at failures token.buffer (g.failures (store_of code'))) refl
-        (does.fault trusted now at.agrees
+        (does.fault trusted.honest now at.agrees
         ∙ ap (λ n. Device (record { kind = kinds.Read; buffer = n; length = token.length }))
         (sym number_is))
-        (still keeps at does.same
+        (still keeps at does.same (held_stays held (omega (arith, does.device.failed)))
         (put_at_here failures token.buffer (g.failures (store_of code')) i number)
         (λ n apart. put_at_there failures token.buffer (g.failures (store_of code')) n
         (λ e. apart (e ∙ sym number)))
         (groups_kept keeps))
         (failed_once failures (ap failures (sym number) ∙ at.failed) does.device.failed)
         (grind (arith, never))
-        (λ nowhere. does.unread trusted now at.agrees (unread_nowhere nowhere))
+        (λ nowhere. does.unread trusted.honest now at.agrees (unread_nowhere nowhere))

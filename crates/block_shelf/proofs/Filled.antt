@@ -6,7 +6,7 @@ use Rattle.std.proofs.lemmas.List.{length-map, same_lists}
 use Rattle.std.proofs.lemmas.Option.{get_or_from_slice_get, same_Some, slice_get-map}
 use Rattle.cyc_block.specs.declared.store.BlockStore.{Ghosts}
 use Rattle.cyc_buffer.specs.Agreement.{Agrees}
-use Rattle.cyc_buffer.specs.Filled.{Filled, filled_by, filled_with}
+use Rattle.cyc_buffer.specs.Filled.{filled_with}
 use Rattle.cyc_buffer.specs.Head.{inside, said_of, stop_of}
 use Rattle.cyc_buffer.specs.History.{History}
 use Rattle.cyc_buffer.proofs.Fillings.{filled_so}
@@ -31,7 +31,12 @@ pub heads_say : {S : Type 0} {g : Ghosts S} (stores : List S) (buffers : List (U
 heads_say {g = g} stores buffers are =
     each_mapped IsStartedOver (IsFilledAs g) filled_in stores buffers are
     (λ b store one there is honest.
-    record { said = said_of Closed (stop_of (inside one)) (inside one); says = is.said honest; closed = refl; is = refl })
+    record {
+      said = said_of Closed (stop_of (inside one)) (inside one);
+      says = is.said honest;
+      closed = refl;
+      is = refl;
+    })
 
 module _ {S : Type 0} {g : Ghosts S} (buffers : List (Unopened S g)) (w : Terms) (σ : State)
     (failures : ℕ → ℕ)
@@ -55,7 +60,8 @@ module _ {S : Type 0} {g : Ghosts S} (buffers : List (Unopened S g)) (w : Terms)
       (subst (λ each. Agrees true each h) same had.keeps.agrees) in
       let of : h.buffer ≡ buffer = had.keeps.is_of_buffer in
       let told =
-      figures_agree w σ (λ g. None) keeps.sound keeps.laid keeps.numbered k h (at ∙ ap Some (sym of))
+      figures_agree w σ (λ g. None) keeps.sound keeps.laid keeps.numbered k h
+      (at ∙ ap Some (sym of))
       had.keeps.is_said in
       is
       ∙ (λ i. record {

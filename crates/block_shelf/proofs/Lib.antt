@@ -3,14 +3,17 @@ pub mod BegunBufferSet
 pub mod BegunHistories
 pub mod EachLemmas
 pub mod Filled
+pub mod Fresh
 pub mod GivenBack
 pub mod HostFaults
+pub mod Killed
 pub mod NewBufferSet
 pub mod OpenWrites
 pub mod Opens
 pub mod Placed
 pub mod RefusedOver
 pub mod Reported
+pub mod Restarted
 pub mod Resumes
 pub mod BufferSetReads
 pub mod Shelving

@@ -1,7 +1,7 @@
 -- A buffer set before anything is begun: its buffers, its placed groups, and what it keeps.
-use Rattle.std.proofs.Common.{◌≡◌, ◌∙◌, ℕ, ◌+◌, ◌<◌, ◌≤◌, Bool, true, inl, inr, List, [], ◌∷◌, ◌++◌}
-use Rattle.std.proofs.Common.{length, map, All, Option, None, Some, slice_get, take, get_or}
-use Rattle.std.proofs.Common.{append-nil, zero, suc, refl, sym, ap, arith}
+use Rattle.std.proofs.Common.{◌≡◌, ◌∙◌, ℕ, ◌+◌, ◌<◌, ◌≤◌, true, false, inl, inr, List, [], ◌∷◌}
+use Rattle.std.proofs.Common.{◌++◌, subst, length, map, All, Option, None, Some, slice_get, take}
+use Rattle.std.proofs.Common.{get_or, append-nil, zero, suc, refl, sym, ap, arith}
 use Rattle.std.specs.List.{cons_option, enumerate_from}
 use Rattle.std.specs.Prelude.{option_map}
 use Rattle.std.proofs.lemmas.List.{length-append, length-map, map-append, take_more}
@@ -11,6 +11,10 @@ use Rattle.std.proofs.lemmas.Option.{none-some, same_Some, slice_get-map, slice_
 use Rattle.std.proofs.lemmas.Option.{slice_get_within}
 use Rattle.buffer_group.specs.Groups.{blocks_in}
 use Rattle.cyc_block.specs.declared.store.BlockStore.{Ghosts}
+use Rattle.cyc_buffer.proofs.CrashSteps.{left_unused}
+use Rattle.cyc_buffer.specs.Agreement.{store_of}
+use Rattle.cyc_buffer.specs.Crash.{IsLeftOf}
+use Rattle.cyc_buffer.specs.Head.{LeavesBlocks}
 use Rattle.cyc_buffer.specs.History.{new_history}
 use Rattle.cyc_buffer.specs.declared.buffer.Buffer.{Buffer}
 use Rattle.news_terms.proofs.CourseLaws.{first_laid}
@@ -19,8 +23,7 @@ use Rattle.news_terms.specs.Fronts.{FitsGroup}
 use Rattle.news_terms.specs.Places as places
 use Rattle.news_terms.specs.Settings.{AreSound}
 use Rattle.news_terms.proofs.ListPlaces.{at_pushed, holds_at, numbered_at, there_within}
-use Rattle.relay_conf.specs.Places.{group_view, group_over, numbered_buffer}
-use Rattle.relay_conf.specs.Places.{numbered_buffers}
+use Rattle.relay_conf.specs.Places.{group_view, group_over, numbered_buffer, numbered_buffers}
 use Rattle.relay_conf.specs.Settings.{places_of_buffers, places_of_groups}
 use Rattle.relay_conf.specs.declared.cycbuff.BufferConf.{BufferConf}
 use Rattle.relay_conf.specs.declared.cycbuff.GroupConf.{GroupConf}
@@ -31,7 +34,8 @@ use Rattle.block_shelf.specs.Filling.{IsNewOver, AreNewOver, AreNewPlacedGroups,
 use Rattle.block_shelf.specs.Filling.{members, IsNamed}
 use Rattle.block_shelf.specs.Histories.{IsHistoryOf}
 use Rattle.block_shelf.specs.Starting.{buffer_over}
-use Rattle.block_shelf.specs.Keeping.{KeepsTexts, HasBuffer}
+use Rattle.block_shelf.specs.Keeping.{KeepsAt, KeepsTexts}
+use Rattle.block_shelf.specs.Leaving.{IsFresh, MayBeLeft, Trust}
 use Rattle.block_shelf.specs.declared.buffer_set.BufferSet.{BufferSet}
 
 -- an item that was put behind the others is there
@@ -149,6 +153,16 @@ pub new_said : (groups : List places.Group) (buffer : places.Buffer)
     → IsHistoryOf groups (λ h. first_course) [] (λ h. None) (new_history buffer)
 new_said groups buffer = grind arith
 
+-- over a fresh store a crash may leave that
+pub new_left : {S : Type 0} {g : Ghosts S} (buffer : places.Buffer) (old new : S)
+    → length (g.blocks old) ≡ buffer.blocks → IsFresh g old → LeavesBlocks g old new
+    → MayBeLeft g new (new_history buffer)
+new_left {g = g} buffer old new count fresh leaves none =
+    subst (λ blocks. IsLeftOf (new_history buffer) (λ t. false) blocks)
+    (sym (leaves.blocks fresh.honest))
+    (left_unused buffer (g.blocks old) count
+    (λ t k piece. fresh.blank (t.first + k) t k piece.image))
+
 -- there are as many stores as buffers
 pub same_count : {S : Type 0} (g : Ghosts S) (settings : Buffers) (stores : List S)
     → map (λ store. length (g.blocks store)) stores
@@ -183,7 +197,8 @@ buffers_count settings = simp (length-map, length-enumerate_from)
 
 module _ {S : Type 0} {g : Ghosts S} (settings : Buffers) (stores : List S)
     (buffer_set : BufferSet S g)
-    (trusted : Bool) (honest : trusted ≡ true → All g.honest stores) (w : Terms)
+    (trusted : Trust) (honest : trusted.honest ≡ true → All g.honest stores)
+    (fresh : trusted.left ≡ true → All (IsFresh g) stores) (w : Terms)
     (all : w.buffers ≡ places_of_buffers settings) (groups : w.groups ≡ places_of_groups settings)
     (sized : map (λ store. length (g.blocks store)) stores
     ≡ map (λ (conf : BufferConf). conf.blocks) settings.buffers.items)
@@ -208,22 +223,27 @@ module _ {S : Type 0} {g : Ghosts S} (settings : Buffers) (stores : List S)
 
   -- the buffer at each place keeps that nothing was begun
   new_buffer : (b : ℕ) (buffer : places.Buffer) → slice_get w.buffers b ≡ Some buffer
-      → HasBuffer trusted buffer_set.buffers.items w.groups (λ h. first_course) [] (λ h. None)
+      → KeepsAt trusted buffer_set.buffers.items w.groups (λ h. first_course) [] (λ h. None)
       (failures_in g stores) b buffer
   new_buffer b buffer at =
       let one = store_of_buffer b buffer at in
       let code = over.each b one.0 one.1 in
       rw one.2 (record {
-        code = code.code;
-        there = code.there;
-        keeps = record {
-          history = new_history (buffer_over g b one.0);
-          is_of_buffer = refl;
-          agrees = code.is_new.agrees trusted
-              (λ yes. holds_at g.honest stores (honest yes) b one.0 one.1);
-          is_said = new_said w.groups (buffer_over g b one.0);
-          failed = rw one.1 (sym code.is_new.failures);
+        has = record {
+          code = code.code;
+          there = code.there;
+          keeps = record {
+            history = new_history (buffer_over g b one.0);
+            is_of_buffer = refl;
+            agrees = code.is_new.agrees trusted.honest
+                (λ yes. holds_at g.honest stores (honest yes) b one.0 one.1);
+            is_said = new_said w.groups (buffer_over g b one.0);
+            failed = rw one.1 (sym code.is_new.failures);
+          };
         };
+        left = λ sure yes.
+            new_left (buffer_over g b one.0) one.0 (store_of code.code) refl
+            (holds_at (IsFresh g) stores (fresh yes) b one.0 one.1) code.is_new.blocks;
       })
 
   -- so the buffer set keeps that nothing was begun

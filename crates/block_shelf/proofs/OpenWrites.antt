@@ -1,21 +1,23 @@
 -- A write of a block, and the end of a group's open write, in what the buffer set keeps.
-use Rattle.std.proofs.Common.{◌≡◌, ◌≢◌, ◌∙◌, ℕ, ◌+◌, ◌*◌, ◌<◌, nat_lt, Bool, false, refl, sym, ap}
-use Rattle.std.proofs.Common.{subst, arith, take, length, List, [], ◌∷◌, ◌++◌, Option, None, Some}
-use Rattle.std.proofs.Common.{slice_get, Ok, Err}
+use Rattle.std.proofs.Common.{◌≡◌, ◌≢◌, ◌⊎◌, ◌∙◌, ℕ, ◌+◌, ◌*◌, ◌<◌, nat_lt, Bool, true, false, refl}
+use Rattle.std.proofs.Common.{sym, ap, subst, arith, take, length, List, [], ◌∷◌, ◌++◌, Option}
+use Rattle.std.proofs.Common.{None, Some, slice_get, Ok, Err}
 use Rattle.std.proofs.lemmas.List.{length-take, take_min, take_all}
-use Rattle.std.proofs.lemmas.Bool.{ltb-false}
+use Rattle.std.proofs.lemmas.Bool.{false≢true, ltb-false}
 use Rattle.std.proofs.lemmas.Option.{same_Some, none-some, slice_get_past}
 use Rattle.std.specs.Prelude.{IsSomeAnd, count_by}
 use Rattle.cyc_block.specs.declared.store.BlockStore.{Ghosts}
+use Rattle.cyc_buffer.proofs.CrashWrites.{left_writing}
 use Rattle.cyc_buffer.proofs.OpenLemmas.{can_write, can_finish, is_open}
 use Rattle.cyc_buffer.specs.Agreement as buffers
 use Rattle.cyc_buffer.specs.Agreement.{Agrees, Follows, CanWrite, CanFinish, ContinuesIn, IsOpenAs}
 use Rattle.cyc_buffer.specs.Agreement.{Owns, store_of}
 use Rattle.cyc_buffer.specs.BufferState.{Writes}
 use Rattle.cyc_buffer.specs.Calls.{LeavesDevice, WritesNext}
+use Rattle.cyc_buffer.specs.Crash.{IsLeftOf}
 use Rattle.cyc_buffer.specs.History.{History, Article, Begin, Writing, finish_begins, head_of}
 use Rattle.cyc_buffer.specs.History.{with_block, with_failure, token_of_open, token_at, with_finish}
-use Rattle.cyc_buffer.specs.History.{without_write}
+use Rattle.cyc_buffer.specs.History.{changed, with_next_block, without_write}
 use Rattle.cyc_buffer.specs.declared.answers.BufError.{BufError}
 use Rattle.cyc_buffer.specs.declared.buffer.Buffer.{Buffer}
 use Rattle.cyc_buffer.specs.declared.buffer_state.Open.{Open}
@@ -43,6 +45,7 @@ use Rattle.block_shelf.specs.Calls as calls
 use Rattle.block_shelf.specs.Calls.{WrittenAs}
 use Rattle.block_shelf.specs.Histories.{IsHistoryOf, IsWriting}
 use Rattle.block_shelf.specs.Keeping.{HasBuffer, KeepsTexts, HasItsLength}
+use Rattle.block_shelf.specs.Leaving.{MayBeLeft, Trust}
 use Rattle.block_shelf.specs.Openings.{Opening, IsOpen, IsBroken, token_in}
 use Rattle.block_shelf.specs.declared.buffer_set.Begun.{Begun}
 use Rattle.block_shelf.specs.declared.buffer_set.BufferSet.{BufferSet}
@@ -92,7 +95,7 @@ is_writing : (token : Token) (text : List ℕ) (written : ℕ) (writing : Option
     → writing ≡ Some (writing_at token text written)
 is_writing token text written writing is = grind arith
 
-module _ {S : Type 0} {g : Ghosts S} {trusted : Bool} {old : BufferSet S g} {w : Terms}
+module _ {S : Type 0} {g : Ghosts S} {trusted : Trust} {old : BufferSet S g} {w : Terms}
     {begun : ℕ → Course} {kept : List Kept} {openings : ℕ → Option Opening} {failures : ℕ → ℕ}
     (keeps : KeepsTexts trusted old w begun kept openings failures) {h : ℕ} where
   module _ {one : Opening} (is : openings h ≡ Some one) {i : ℕ}
@@ -132,13 +135,15 @@ module _ {S : Type 0} {g : Ghosts S} {trusted : Bool} {old : BufferSet S g} {w :
           → token_view (buffers.token_of write) ≡ token_in one
           → now.writing ≡ Some writing → IsOpenAs code write writing
       opened_as write {writing} named writes =
-          is_open code write trusted now writing at.agrees writes (ap Some named ∙ sym this.token)
+          is_open code write trusted.honest now writing at.agrees writes
+          (ap Some named ∙ sym this.token)
 
       -- the buffer set after a call on it, which has gone on under its token or has ended
       after_call : {code' : Buffer S g} {kept' : List Kept} {after : Option Opening}
           {failures' : ℕ → ℕ} (history : History) → history.buffer ≡ now.buffer
-          → Agrees trusted code' history
+          → Agrees trusted.honest code' history
           → IsHistoryOf w.groups begun kept' (put_at openings h after) history
+          → (trusted.honest ≡ true → trusted.left ≡ true → MayBeLeft g (store_of code') history)
           → ((next : Opening) → after ≡ Some next
           → (token_in next ≡ token_in one) × HasItsLength next)
           → ((t : Token) → t.buffer ≢ now.buffer.number → text_under kept' t ≡ text_under kept t)
@@ -147,13 +152,14 @@ module _ {S : Type 0} {g : Ghosts S} {trusted : Bool} {old : BufferSet S g} {w :
           → failures' i ≡ g.failures (store_of code') → ((n : ℕ) → n ≢ i → failures' n ≡ failures n)
           → KeepsTexts trusted (with_buffer old i code' old.placed_groups) w begun kept'
           (put_at openings h after) failures'
-      after_call {failures' = failures'} history same agrees said goes_on texts stored failed
+      after_call {failures' = failures'} history same agrees said left goes_on texts stored failed
           unfailed = replaced keeps at (record {
             history = history;
             same = same;
             agrees = agrees;
             said = said;
             failed = ap failures' at.number ∙ failed;
+            left = left;
             others = untouched (record {
               was = λ other e. cc (is, named_here);
               now = λ other e. rw (goes_on other e).0 named_here;
@@ -178,13 +184,20 @@ module _ {S : Type 0} {g : Ghosts S} {trusted : Bool} {old : BufferSet S g} {w :
       pub abandoned : {code' : Buffer S g} (write : Open)
           → token_view (buffers.token_of write) ≡ token_in one
           → (Owns code write → Follows without_write code code') → store_of code' ≡ store_of code
+          → ((each : History) (saved : Token → Bool)
+          → IsLeftOf each saved (g.blocks (store_of code))
+          → IsLeftOf (without_write each) saved (g.blocks (store_of code')))
           → KeepsTexts trusted (with_buffer old i code' old.placed_groups) w begun kept
           (put_at openings h None) failures
-      abandoned write named follows same_store =
+      abandoned write named follows same_store leaves =
           after_call (without_write now) refl
-          (follows (opened_as write named (writing_of one now.writing this.writing).1).owned trusted
+          (follows (opened_as write named (writing_of one now.writing this.writing).1).owned
+          trusted.honest
           now at.agrees)
-          (rewritten at.said (writing_ended openings h refl only)) (λ next e. cc) (λ t apart. refl)
+          (rewritten at.said (writing_ended openings h refl only))
+          (λ sure yes none. leaves now (λ t. false)
+          (at.left sure yes (ap g.failures (sym same_store) ∙ none)))
+          (λ next e. cc) (λ t apart. refl)
           (λ buffer apart. refl) (at.failed ∙ ap g.failures (sym same_store)) (λ n apart. refl)
 
   -- an open write of which no block has failed
@@ -224,16 +237,25 @@ module _ {S : Type 0} {g : Ghosts S} {trusted : Bool} {old : BufferSet S g} {w :
     -- the buffer set after a write of a block
     pub wrote : {code' : Buffer S g} (last : Bool)
         → WritesNext code write text (Ok last) code' → LeavesDevice {X = Bool} code (Ok last) code'
+        → ((each : History) (saved : Token → Bool) → Agrees true code each
+        → IsLeftOf each saved (g.blocks (store_of code))
+        → IsLeftOf each saved (g.blocks (store_of code')))
         → WrittenAs trusted w h token text written begun kept openings failures (Ok last)
         (with_buffer old i code' old.placed_groups)
-    wrote last does device = (
+    wrote {code'} last does device leaves = (
       cc (does.last, does.count, open_as.blocks, open_as.octets, whole_length),
       after_call is number there (with_block text h_now) refl
-          (does.written trusted h_now
+          (does.written trusted.honest h_now
           (subst (ContinuesIn text) (sym writes) (front_of_text (chunk_size * written) text))
           (at is number there).agrees)
           (still_said (IsOpen token text (written + 1))
           (rw writes (rw writes at (this is number there).token)) (rw writes refl))
+          (λ sure yes none.
+          left_writing h_now (λ t. false) (g.blocks (store_of code'))
+          (changed (with_next_block text) h_now.writing)
+          (leaves h_now (λ t. false)
+          (subst (λ b. Agrees b code h_now) sure (at is number there).agrees)
+          ((at is number there).left sure yes (sym device.no_failure ∙ none))))
           (λ next e. rw (← same_Some (IsOpen token text (written + 1)) next e) (refl, whole_length))
           (λ t apart. refl) (λ buffer apart. refl)
           ((at is number there).failed ∙ sym device.no_failure) (λ n apart. refl),
@@ -245,15 +267,16 @@ module _ {S : Type 0} {g : Ghosts S} {trusted : Bool} {old : BufferSet S g} {w :
         → WrittenAs trusted w h token text written begun kept openings failures
         (Err (errors.Failed e)) (with_buffer old i code' old.placed_groups)
     wrote_none {code'} e does device = (
-      does.fault trusted h_now (at is number there).agrees
+      does.fault trusted.honest h_now (at is number there).agrees
           ∙ rw (← named_here is number there, ← named),
       (
         put_at failures token.buffer (g.failures (store_of code')),
         failed_once failures (ap failures (sym number) ∙ (at is number there).failed) device.failed,
         after_call is number there (with_failure h_now) refl
-            (does.broken trusted h_now (at is number there).agrees)
+            (does.broken trusted.honest h_now (at is number there).agrees)
             (still_said (IsBroken token) (rw writes (rw writes at (this is number there).token))
             (rw writes refl))
+            (λ sure yes none. absurd (omega (arith, device.failed, none)))
             (λ next e. rw (← same_Some (IsBroken token) next e) (refl, tt)) (λ t apart. refl)
             (λ buffer apart. refl)
             (put_at_here failures token.buffer (g.failures (store_of code')) i number)
@@ -271,22 +294,38 @@ module _ {S : Type 0} {g : Ghosts S} {trusted : Bool} {old : BufferSet S g} {w :
     -- the buffer set after a finish, where all is written
     pub finish : {code' : Buffer S g} (id : List ℕ) → written ≡ size_of (length text)
         → Follows with_finish code code' → store_of code' ≡ store_of code
+        → ((each : History) (saved later : Token → Bool) → Agrees true code each
+        → IsLeftOf each saved (g.blocks (store_of code))
+        → ((t : Token) → later t ≡ true
+        → (saved t ≡ true) ⊎ (t ≡ token_view (buffers.token_of write)))
+        → IsLeftOf (with_finish each) later (g.blocks (store_of code')))
         → KeepsTexts trusted (with_buffer old i code' old.placed_groups) w begun
         (kept ++ record { token = token; id = id; text = text } ∷ []) (put_at openings h None)
         failures
-    finish {code'} id all follows same_store =
+    finish {code'} id all follows same_store leaves =
         after_call is number there (record h_now {
           begins = finished newest.fresh
               (size_of token.length) article ∷ newest.earlier;
           writing = None;
         }) refl
-        (subst (λ begins. Agrees trusted code' (record h_now { begins = begins; writing = None }))
+        (subst (λ begins. Agrees trusted.honest code'
+        (record h_now { begins = begins; writing = None }))
         ends
-        (follows trusted h_now (at is number there).agrees))
+        (follows trusted.honest h_now (at is number there).agrees))
         (finished_said h_now newest.earlier newest.fresh (size_of token.length) article added
         named_as whole
         (at is number there).said newest.newest (is_at is number there)
-        (writing_ended openings h refl (only is number there))) (λ next e. cc)
+        (writing_ended openings h refl (only is number there)))
+        (λ sure yes none.
+        subst
+        (λ begins. IsLeftOf (record h_now { begins = begins; writing = None }) (λ t. false)
+        (g.blocks (store_of code')))
+        ends
+        (leaves h_now (λ t. false) (λ t. false)
+        (subst (λ b. Agrees b code h_now) sure (at is number there).agrees)
+        ((at is number there).left sure yes (ap g.failures (sym same_store) ∙ none))
+        (λ t never. absurd (false≢true never))))
+        (λ next e. cc)
         (λ t away. other_buffer kept added t (λ e. away (sym e ∙ named_here is number there)))
         (λ buffer away. kept_elsewhere buffer kept added
         (λ e. away (sym e ∙ named_here is number there)))
@@ -345,16 +384,16 @@ module _ {S : Type 0} {g : Ghosts S} (old : BufferSet S g) (one : Begun) {i : �
       ∙ slice_get_past old.buffers.items i (ltb-false i (length old.buffers.items) (sym missing)))
       holds
 
-module _ {S : Type 0} {g : Ghosts S} {trusted : Bool} {old : BufferSet S g} {w : Terms}
+module _ {S : Type 0} {g : Ghosts S} {trusted : Trust} {old : BufferSet S g} {w : Terms}
     {begun : ℕ → Course} {kept : List Kept} {openings : ℕ → Option Opening} {failures : ℕ → ℕ}
     (keeps : KeepsTexts trusted old w begun kept openings failures) (one : Begun) {h : ℕ}
     {text : List ℕ} {written : ℕ}
     (is : openings h ≡ Some (IsOpen (calls.token_of one) text written)) where
   -- the buffer that it is in
-  has_code : HasBuffer trusted old.buffers.items w.groups begun kept openings failures
+  has_code : HasBuffer trusted.honest old.buffers.items w.groups begun kept openings failures
       (calls.token_of one).buffer
       (keeps.opened h (IsOpen (calls.token_of one) text written) is).buffer
-  has_code = keeps.buffers (calls.token_of one).buffer _ (place keeps is refl)
+  has_code = (keeps.buffers (calls.token_of one).buffer _ (place keeps is refl)).has
 
   -- its next block can be written
   pub writes_there : written < size_of (length text) → calls.CanWrite old one text

@@ -1,21 +1,28 @@
 -- The heads of a started buffer set's buffers are opened, buffer after buffer.
 use Rattle.std.proofs.Common.{◌≡◌, ◌∙◌, ℕ, ◌<◌, true, arith, refl, sym, List, [], ◌∷◌, ◌++◌, length}
-use Rattle.std.proofs.Common.{map, None}
+use Rattle.std.proofs.Common.{map, None, Bool, false, Some, slice_get, subst, ap}
 use Rattle.std.proofs.lemmas.List.{length-append, length-map}
 use Rattle.std.proofs.lemmas.Option.{none-some, slice_get_within}
+use Rattle.std.proofs.lemmas.Bool.{false≢true}
 use Rattle.cyc_block.specs.declared.store.BlockStore.{Ghosts}
-use Rattle.cyc_buffer.specs.Agreement.{store_of}
+use Rattle.cyc_buffer.specs.Agreement.{store_of, Agrees}
 use Rattle.cyc_buffer.specs.Head.{inside}
 use Rattle.cyc_buffer.specs.declared.buffer.Buffer.{Buffer}
 use Rattle.cyc_buffer.specs.declared.unopened.Unopened.{Unopened}
+use Rattle.news_terms.specs.Places as places
 use Rattle.news_terms.proofs.ListPlaces.{mapped_at}
 use Rattle.block_shelf.proofs.EachLemmas.{each_mapped, one_more_each}
+use Rattle.block_shelf.proofs.Shelving.{leaves_stay, stays_left}
 use Rattle.block_shelf.specs.Each.{AreEach}
-use Rattle.block_shelf.specs.Heads.{IsLeftUnopened, IsOpenedFrom, KeepsOpened}
-use Rattle.block_shelf.specs.Keeping.{KeepsBuffer}
-use Rattle.block_shelf.specs.Starting.{PlacedGroupsKeep}
+use Rattle.block_shelf.specs.Heads.{IsLeftUnopened, IsOpenedFrom, IsOpenedOf, KeepsOpened}
+use Rattle.block_shelf.specs.Keeping.{AreLeft, KeepsAt}
+use Rattle.block_shelf.specs.Leaving.{MayBeLeft, honestly}
+use Rattle.block_shelf.specs.Starting.{BuffersKeep, PlacedGroupsKeep, buffers_inside}
 use Rattle.block_shelf.specs.declared.opening.UnopenedBufferSet.{UnopenedBufferSet}
 use Rattle.block_shelf.specs.declared.buffer_set.BufferSet.{BufferSet}
+use Rattle.relay_model.specs.Terms.{Terms}
+use Rattle.relay_model.specs.State.{Kept}
+use Rattle.news_terms.specs.Courses.{Course}
 
 module _ {S : Type 0} {g : Ghosts S} (before : List (Unopened S g)) (unopened : Unopened S g) where
   -- a buffer behind one whose device failed gives its store
@@ -72,12 +79,60 @@ module _ {S : Type 0} {g : Ghosts S} (before : List (Unopened S g)) (unopened : 
         })),
   )
 
+-- what a started buffer set keeps of a buffer, and whether a crash may leave its store
+at_start : {S : Type 0} {g : Ghosts S} {codes : List (Buffer S g)} {w : Terms}
+    {begun : ℕ → Course} {kept : List Kept} {failures : ℕ → ℕ}
+    → BuffersKeep codes w begun kept failures → (left : Bool)
+    → (left ≡ true → AreLeft codes w begun kept failures) → (b : ℕ) (buffer : places.Buffer)
+    → slice_get w.buffers b ≡ Some buffer
+    → KeepsAt (honestly left) codes w.groups begun kept (λ h. None) failures b buffer
+at_start keeps true left b buffer at = left refl b buffer at
+at_start keeps false left b buffer at =
+    record { has = keeps.buffers b buffer at; left = λ sure never. absurd (false≢true never) }
+
+-- once its head is open, the same
+opened_at : {S : Type 0} {g : Ghosts S} {unopened : List (Unopened S g)}
+    {buffers : List (Buffer S g)} → AreEach IsOpenedOf unopened buffers → {left : Bool}
+    {groups : List places.Group} {begun : ℕ → Course} {kept : List Kept} {failures : ℕ → ℕ}
+    {buffer : places.Buffer} (b : ℕ)
+    → KeepsAt (honestly left) (buffers_inside unopened) groups begun kept (λ h. None) failures b
+    buffer
+    → KeepsAt (honestly left) buffers groups begun kept (λ h. None) failures b buffer
+opened_at {S} {g} {unopened} are b all =
+    let had = all.has in
+    let one = mapped_at inside unopened b had.code had.there in
+    let now = are.each b one.0 one.1 in
+    let same : had.code ≡ inside one.0 = sym one.2 in
+    let was = had.keeps in
+    let agrees : Agrees true (inside one.0) was.history =
+    subst (λ each. Agrees true each was.history) same was.agrees in
+    record {
+      has = record {
+        code = now.item;
+        there = now.there;
+        keeps = record {
+          history = was.history;
+          is_of_buffer = was.is_of_buffer;
+          agrees = now.belongs.is_from.same true was.history agrees;
+          is_said = was.is_said;
+          failed = was.failed ∙ ap (λ (each : Buffer S g). g.failures (store_of each)) same
+              ∙ sym now.belongs.is_from.no_failure;
+        };
+      };
+      left = λ sure yes.
+          stays_left
+          (leaves_stay now.belongs.blocks (omega (arith, now.belongs.is_from.no_failure)))
+          (agrees.honest refl)
+          (subst (λ (each : Buffer S g). MayBeLeft g (store_of each) was.history) same
+          (all.left sure yes));
+    }
+
 -- an opened buffer set keeps what the started one was to keep
 pub keeps_opened : {S : Type 0} {g : Ghosts S} {unopened : UnopenedBufferSet S g}
     {buffer_set : BufferSet S g}
-    → AreEach IsOpenedFrom unopened.buffers.items buffer_set.buffers.items
+    → AreEach IsOpenedOf unopened.buffers.items buffer_set.buffers.items
     → buffer_set.placed_groups ≡ unopened.placed_groups → KeepsOpened unopened buffer_set
-keeps_opened {unopened = unopened} {buffer_set} are same w begun kept failures keeps =
+keeps_opened {unopened = unopened} {buffer_set} are same left w begun kept failures keeps =
     let groups : PlacedGroupsKeep buffer_set.placed_groups.items w begun =
     rw same keeps.placed_groups in
     record {
@@ -88,23 +143,8 @@ keeps_opened {unopened = unopened} {buffer_set} are same w begun kept failures k
       opened = λ h one is. absurd (none-some one is);
       count = are.count ∙ sym (length-map unopened.buffers.items inside) ∙ keeps.texts.count;
       buffers = λ b buffer at.
-          let had = keeps.texts.buffers b buffer at in
-          let one = mapped_at inside unopened.buffers.items b had.code had.there in
-          let now = are.each b one.0 one.1 in
-          let was
-          : KeepsBuffer true (inside one.0) w.groups begun kept (λ h. None) failures buffer =
-          rw one.2 had.keeps in
-          record {
-            code = now.item;
-            there = now.there;
-            keeps = record {
-              history = was.history;
-              is_of_buffer = was.is_of_buffer;
-              agrees = now.belongs.same true was.history was.agrees;
-              is_said = was.is_said;
-              failed = was.failed ∙ sym now.belongs.no_failure;
-            };
-          };
+          opened_at are b
+          (at_start keeps.texts left keeps.left b buffer at);
       placed_group_count = groups.count;
       placed_groups = groups.each;
     }

@@ -30,6 +30,7 @@ use Rattle.relay_model.specs.Terms.{Terms}
 use Rattle.block_shelf.proofs.Shelving.{AreKept, kept_at}
 use Rattle.block_shelf.specs.Histories.{HasBegins, IsHistoryOf}
 use Rattle.block_shelf.specs.Openings.{Opening}
+use Rattle.block_shelf.specs.Leaving.{Trust}
 
 -- THE TALLIES
 
@@ -309,7 +310,7 @@ abbrev pub Tells : {S : Type 0} {g : Ghosts S} → buffers.Buffer S g → ℕ �
 Tells code value of = (t : Bool) (h : History) → Agrees t code h → value ≡ of h
 
 -- the figures that a buffer of this place says
-pub figures_are : {S : Type 0} {g : Ghosts S} {trusted : Bool} {codes : List (buffers.Buffer S g)}
+pub figures_are : {S : Type 0} {g : Ghosts S} {trusted : Trust} {codes : List (buffers.Buffer S g)}
     {w : Terms} (σ : State) {openings : ℕ → Option Opening} {failures : ℕ → ℕ}
     → AreKept trusted codes w σ.begun σ.kept openings failures → (i : ℕ) {code : buffers.Buffer S g}
     → slice_get codes i ≡ Some code → {cycle front begun stored : ℕ} → Tells code cycle cycle_of
@@ -322,6 +323,7 @@ figures_are {trusted = trusted} {w = w} σ {openings} are i is says_cycle says_f
     let at = kept_at are is in
     rw at.there
     (ap Some
-    (same_figures (says_cycle trusted at.now at.agrees) (says_front trusted at.now at.agrees)
-    (says_begun trusted at.now at.agrees) (says_stored trusted at.now at.agrees)
+    (same_figures (says_cycle trusted.honest at.now at.agrees)
+    (says_front trusted.honest at.now at.agrees)
+    (says_begun trusted.honest at.now at.agrees) (says_stored trusted.honest at.now at.agrees)
     ∙ figures_agree w σ openings are.sound are.laid are.numbered i at.now at.there at.said))

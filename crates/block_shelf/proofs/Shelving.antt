@@ -1,9 +1,9 @@
 -- What the buffer set keeps once one of its buffers, or one of its groups, is another, and how
 -- often the devices were called.
-use Rattle.std.proofs.Common.{◌≡◌, ◌≢◌, ◌∙◌, inl, inr, ℕ, zero, suc, ◌+◌, ◌<◌, ◌≤◌, nat_lt, Bool}
-use Rattle.std.proofs.Common.{true, false, refl, sym, ap, arith, List, [], ◌∷◌, length, Option}
+use Rattle.std.proofs.Common.{◌≡◌, ◌≢◌, ◌∙◌, inl, inr, ℕ, zero, suc, ◌+◌, ◌<◌, ◌≤◌, nat_lt, true}
+use Rattle.std.proofs.Common.{false, refl, sym, ap, subst, arith, List, [], ◌∷◌, length, Option}
 use Rattle.std.proofs.Common.{None, Some, All, slice_get, slice_set, slice_index_or, length-set}
-use Rattle.std.proofs.lemmas.Bool.{cases_eq, ltb-false, ltb-true}
+use Rattle.std.proofs.lemmas.Bool.{cases_eq, ltb-false, ltb-true, false≢true}
 use Rattle.std.proofs.lemmas.Bool.Decides.{nat_tests}
 use Rattle.std.proofs.lemmas.Option.{none-some, same_Some, slice_get_past, slice_get_read}
 use Rattle.std.proofs.lemmas.Option.{slice_get_within}
@@ -12,7 +12,10 @@ use Rattle.std.specs.Prelude.{unwrap_or}
 use Rattle.std.specs.Vec.{with_item}
 use Rattle.cyc_block.specs.declared.store.BlockStore.{Ghosts}
 use Rattle.cyc_buffer.specs.Agreement.{Agrees, Follows, store_of}
+use Rattle.cyc_buffer.specs.Crash.{IsLeftOf}
+use Rattle.cyc_buffer.specs.Head.{LeavesBlocks}
 use Rattle.cyc_buffer.specs.History.{History}
+use Rattle.cyc_buffer.specs.Reads.{StaysHeld}
 use Rattle.cyc_buffer.specs.declared.buffer.Buffer.{Buffer}
 use Rattle.news_terms.specs.Courses.{Course, IsLaid}
 use Rattle.news_terms.specs.Fronts.{FitsGroup}
@@ -27,7 +30,8 @@ use Rattle.relay_model.specs.World.{HasFailedAt, Rises}
 use Rattle.block_shelf.proofs.Writings.{IsOnly}
 use Rattle.block_shelf.specs.Devices.{calls_of, calls_at, CallsNone}
 use Rattle.block_shelf.specs.Histories.{IsHistoryOf}
-use Rattle.block_shelf.specs.Keeping.{KeepsTexts, KeepsBuffer, HasBuffer, IsOpenIn}
+use Rattle.block_shelf.specs.Keeping.{AreLeft, KeepsAt, KeepsTexts, KeepsBuffer, IsOpenIn}
+use Rattle.block_shelf.specs.Leaving.{MayBeLeft, Trust, honestly}
 use Rattle.block_shelf.specs.Openings.{Opening}
 use Rattle.block_shelf.specs.Starting.{BuffersKeep, PlacedGroupsKeep}
 use Rattle.block_shelf.specs.declared.buffer_set.PlacedGroup.{PlacedGroup}
@@ -88,7 +92,7 @@ none_there xs i past =
 -- THE BUFFERS
 
 -- These buffers keep what is said, with or without open writes.
-pub record AreKept {S : Type 0} {g : Ghosts S} (trusted : Bool) (codes : List (Buffer S g))
+pub record AreKept {S : Type 0} {g : Ghosts S} (trusted : Trust) (codes : List (Buffer S g))
     (w : Terms) (begun : ℕ → Course) (kept : List Kept) (openings : ℕ → Option Opening)
     (failures : ℕ → ℕ)
     : Type 0 where
@@ -101,10 +105,10 @@ pub record AreKept {S : Type 0} {g : Ghosts S} (trusted : Bool) (codes : List (B
       → IsLaid group (begun h)
   pub count : length codes ≡ length w.buffers
   pub buffers : (b : ℕ) (buffer : places.Buffer) → slice_get w.buffers b ≡ Some buffer
-      → HasBuffer trusted codes w.groups begun kept openings failures b buffer
+      → KeepsAt trusted codes w.groups begun kept openings failures b buffer
 
 -- so those of a buffer set do
-pub buffers_kept : {S : Type 0} {g : Ghosts S} {trusted : Bool} {old : BufferSet S g} {w : Terms}
+pub buffers_kept : {S : Type 0} {g : Ghosts S} {trusted : Trust} {old : BufferSet S g} {w : Terms}
     {begun : ℕ → Course} {kept : List Kept} {openings : ℕ → Option Opening} {failures : ℕ → ℕ}
     → KeepsTexts trusted old w begun kept openings failures
     → AreKept trusted old.buffers.items w begun kept openings failures
@@ -114,22 +118,47 @@ buffers_kept keeps = assumption
 pub started_kept : {S : Type 0} {g : Ghosts S} {codes : List (Buffer S g)} {w : Terms}
     {begun : ℕ → Course} {kept : List Kept} {failures : ℕ → ℕ}
     → BuffersKeep codes w begun kept failures
-    → AreKept true codes w begun kept (λ h. None) failures
-started_kept keeps = assumption
+    → AreKept (honestly false) codes w begun kept (λ h. None) failures
+started_kept keeps = record {
+  sound = keeps.sound;
+  numbered = keeps.numbered;
+  fit = keeps.fit;
+  laid = keeps.laid;
+  count = keeps.count;
+  buffers = λ b buffer at. record {
+    has = keeps.buffers b buffer at;
+    left = λ sure never. absurd (false≢true never);
+  };
+}
+
+-- of which a crash may leave the stores
+pub left_kept : {S : Type 0} {g : Ghosts S} {codes : List (Buffer S g)} {w : Terms}
+    {begun : ℕ → Course} {kept : List Kept} {failures : ℕ → ℕ}
+    → BuffersKeep codes w begun kept failures → AreLeft codes w begun kept failures
+    → AreKept (honestly true) codes w begun kept (λ h. None) failures
+left_kept keeps left = record {
+  sound = keeps.sound;
+  numbered = keeps.numbered;
+  fit = keeps.fit;
+  laid = keeps.laid;
+  count = keeps.count;
+  buffers = left;
+}
 
 -- the history of the code's buffer at a place
-pub record KeptAt {S : Type 0} {g : Ghosts S} (trusted : Bool) (w : Terms) (begun : ℕ → Course)
+pub record KeptAt {S : Type 0} {g : Ghosts S} (trusted : Trust) (w : Terms) (begun : ℕ → Course)
     (kept : List Kept) (openings : ℕ → Option Opening) (failures : ℕ → ℕ) (b : ℕ)
     (code : Buffer S g)
     : Type 0 where
   pub now : History
   pub there : slice_get w.buffers b ≡ Some now.buffer
   pub number : now.buffer.number ≡ b
-  pub agrees : Agrees trusted code now
+  pub agrees : Agrees trusted.honest code now
   pub said : IsHistoryOf w.groups begun kept openings now
   pub failed : failures b ≡ g.failures (store_of code)
+  pub left : trusted.honest ≡ true → trusted.left ≡ true → MayBeLeft g (store_of code) now
 
-module _ {S : Type 0} {g : Ghosts S} {trusted : Bool} {codes : List (Buffer S g)} {w : Terms}
+module _ {S : Type 0} {g : Ghosts S} {trusted : Trust} {codes : List (Buffer S g)} {w : Terms}
     {begun : ℕ → Course} {kept : List Kept} {openings : ℕ → Option Opening} {failures : ℕ → ℕ}
     (are : AreKept trusted codes w begun kept openings failures) where
   -- what is kept of the buffer at a place
@@ -138,17 +167,22 @@ module _ {S : Type 0} {g : Ghosts S} {trusted : Bool} {codes : List (Buffer S g)
   kept_at {b} {code} is =
       let one = there_within w.buffers b
       (omega (arith, slice_get_within codes b code is, are.count)) in
-      let had = are.buffers b one.0 one.1 in
+      let all = are.buffers b one.0 one.1 in
+      let had = all.has in
       let number : one.0.number ≡ b = are.numbered b one.0 one.1 in
-      let has : KeepsBuffer trusted code w.groups begun kept openings failures one.0 =
-      rw (same_Some had.code code (sym had.there ∙ is)) at had.keeps in
+      let same : had.code ≡ code = same_Some had.code code (sym had.there ∙ is) in
+      let has = had.keeps in
       record {
         now = has.history;
         there = one.1 ∙ ap Some (sym has.is_of_buffer);
         number = ap (λ (b : places.Buffer). b.number) has.is_of_buffer ∙ number;
-        agrees = has.agrees;
+        agrees = subst (λ each. Agrees trusted.honest each has.history) same has.agrees;
         said = has.is_said;
-        failed = ap failures (sym number) ∙ has.failed;
+        failed = ap failures (sym number) ∙ has.failed
+            ∙ ap (λ (each : Buffer S g). g.failures (store_of each)) same;
+        left = λ sure yes.
+            subst (λ (each : Buffer S g). MayBeLeft g (store_of each) has.history) same
+            (all.left sure yes);
       }
 
   -- a buffer of a group stands at its number
@@ -163,6 +197,37 @@ module _ {S : Type 0} {g : Ghosts S} {trusted : Bool} {codes : List (Buffer S g)
   past_last i missing =
       slice_get_past w.buffers i (omega (arith, are.count, ltb-false i _ (sym missing)))
 
+-- WHAT IS LEFT
+
+-- an honest store has the blocks that it had, and its device has failed no less often
+pub record StaysAsLeft {S : Type 0} (g : Ghosts S) (old new : S) : Type 0 where
+  pub blocks : g.honest old → g.blocks new ≡ g.blocks old
+  pub more : g.failures old ≤ g.failures new
+
+-- so a crash may leave what it may have left
+pub stays_left : {S : Type 0} {g : Ghosts S} {old new : S} {h : History} → StaysAsLeft g old new
+    → g.honest old → MayBeLeft g old h → MayBeLeft g new h
+stays_left {g = g} {old} {new} {h} stays sure left none =
+    subst (λ blocks. IsLeftOf h (λ t. false) blocks) (sym (stays.blocks sure))
+    (left (omega (arith, none, stays.more)))
+
+-- a store that wasn't called has its blocks
+pub same_stays : {S : Type 0} {g : Ghosts S} {old new : S} → new ≡ old → StaysAsLeft g old new
+same_stays {g = g} same = record {
+  blocks = λ sure. ap g.blocks same;
+  more = omega (arith, ap g.failures same);
+}
+
+-- so has one whose head blocks were written
+pub leaves_stay : {S : Type 0} {g : Ghosts S} {old new : S} → LeavesBlocks g old new
+    → g.failures old ≤ g.failures new → StaysAsLeft g old new
+leaves_stay leaves more = record { blocks = leaves.blocks; more = more }
+
+-- and one that was read
+pub held_stays : {S : Type 0} {g : Ghosts S} {old new : S} → StaysHeld g old new
+    → g.failures old ≤ g.failures new → StaysAsLeft g old new
+held_stays held more = record { blocks = held.blocks; more = more }
+
 -- THE BUFFER SET WITH ANOTHER BUFFER
 
 -- a buffer set with another buffer at a place, and these groups
@@ -173,15 +238,16 @@ with_buffer old b code placed_groups =
 
 -- What is said once the buffer of this number is another: its own history, those of the others, the
 -- open writes and the groups.
-pub record IsAfter {S : Type 0} {g : Ghosts S} (trusted : Bool) (w : Terms) (now : History)
+pub record IsAfter {S : Type 0} {g : Ghosts S} (trusted : Trust) (w : Terms) (now : History)
     (begun begun' : ℕ → Course) (kept kept' : List Kept) (openings openings' : ℕ → Option Opening)
     (failures failures' : ℕ → ℕ) (code : Buffer S g) (placed_groups : Vec PlacedGroup)
     : Type 0 where
   pub history : History
   pub same : history.buffer ≡ now.buffer
-  pub agrees : Agrees trusted code history
+  pub agrees : Agrees trusted.honest code history
   pub said : IsHistoryOf w.groups begun' kept' openings' history
   pub failed : failures' now.buffer.number ≡ g.failures (store_of code)
+  pub left : trusted.honest ≡ true → trusted.left ≡ true → MayBeLeft g (store_of code) history
   pub others : (one : History) → one.buffer.number ≢ now.buffer.number
       → IsHistoryOf w.groups begun kept openings one
       → IsHistoryOf w.groups begun' kept' openings' one
@@ -193,7 +259,7 @@ pub record IsAfter {S : Type 0} {g : Ghosts S} (trusted : Bool) (w : Terms) (now
   pub opened : (h : ℕ) (one : Opening) → openings' h ≡ Some one → IsOpenIn w.groups h one
   pub groups : PlacedGroupsKeep placed_groups.items w begun'
 
-module _ {S : Type 0} {g : Ghosts S} {trusted : Bool} {old : BufferSet S g} {w : Terms}
+module _ {S : Type 0} {g : Ghosts S} {trusted : Trust} {old : BufferSet S g} {w : Terms}
     {begun : ℕ → Course} {kept : List Kept} {openings : ℕ → Option Opening} {failures : ℕ → ℕ}
     (keeps : KeepsTexts trusted old w begun kept openings failures) where
   -- no other group's open write is in this buffer of a group
@@ -230,48 +296,61 @@ module _ {S : Type 0} {g : Ghosts S} {trusted : Bool} {old : BufferSet S g} {w :
       opened = is.opened;
       count = length-set old.buffers.items b code' ∙ keeps.count;
       buffers = λ j buffer there.
-          let had = keeps.buffers j buffer there in
+          let all = keeps.buffers j buffer there in
+          let had = all.has in
           let number : buffer.number ≡ j = keeps.numbered j buffer there in
           let now = put_both
-          (λ each. KeepsBuffer trusted each w.groups begun' kept' openings' failures' buffer)
+          (λ each. (one : KeepsBuffer trusted.honest each w.groups begun' kept' openings' failures'
+          buffer)
+          × (trusted.honest ≡ true → trusted.left ≡ true
+          → MayBeLeft g (store_of each) one.history))
           old.buffers.items b j code' had.there
           (λ here.
-          let same : at.now.buffer ≡ buffer = grind (arith, nat_tests) in
-          record {
-            history = is.history;
-            is_of_buffer = is.same ∙ same;
-            agrees = is.agrees;
-            is_said = is.said;
-            failed = ap failures' (number ∙ here ∙ sym at.number) ∙ is.failed;
-          })
+          let same : at.now.buffer ≡ buffer = grind (arith, nat_tests) in (
+            record {
+              history = is.history;
+              is_of_buffer = is.same ∙ same;
+              agrees = is.agrees;
+              is_said = is.said;
+              failed = ap failures' (number ∙ here ∙ sym at.number) ∙ is.failed;
+            },
+            is.left,
+          ))
           (λ apart.
           let of : had.keeps.history.buffer.number ≡ j =
-          ap (λ (b : places.Buffer). b.number) had.keeps.is_of_buffer ∙ number in
+          ap (λ (b : places.Buffer). b.number) had.keeps.is_of_buffer ∙ number in (
+            record {
+              history = had.keeps.history;
+              is_of_buffer = had.keeps.is_of_buffer;
+              agrees = had.keeps.agrees;
+              is_said = is.others had.keeps.history (λ e. apart (sym of ∙ e ∙ at.number))
+                  had.keeps.is_said;
+              failed = is.unfailed buffer.number (λ e. apart (sym number ∙ e ∙ at.number))
+                  ∙ had.keeps.failed;
+            },
+            all.left,
+          )) in
           record {
-            history = had.keeps.history;
-            is_of_buffer = had.keeps.is_of_buffer;
-            agrees = had.keeps.agrees;
-            is_said = is.others had.keeps.history (λ e. apart (sym of ∙ e ∙ at.number))
-                had.keeps.is_said;
-            failed = is.unfailed buffer.number (λ e. apart (sym number ∙ e ∙ at.number))
-                ∙ had.keeps.failed;
-          }) in
-          record { code = now.0; there = now.1; keeps = now.2 };
+            has = record { code = now.0; there = now.1; keeps = now.2.0 };
+            left = now.2.1;
+          };
       placed_group_count = is.groups.count;
       placed_groups = is.groups.each;
     }
 
     -- where it agrees with the same histories, all that is kept stays, but its device's failures
     pub still : {failures' : ℕ → ℕ} → Follows (λ h. h) code code'
+        → StaysAsLeft g (store_of code) (store_of code')
         → failures' b ≡ g.failures (store_of code') → ((n : ℕ) → n ≢ b → failures' n ≡ failures n)
         → PlacedGroupsKeep placed_groups.items w begun
         → KeepsTexts trusted (with_buffer old b code' placed_groups) w begun kept openings failures'
-    still {failures'} follows here others groups = replaced (record {
+    still {failures'} follows stays here others groups = replaced (record {
       history = at.now;
       same = refl;
-      agrees = follows trusted at.now at.agrees;
+      agrees = follows trusted.honest at.now at.agrees;
       said = at.said;
       failed = ap failures' at.number ∙ here;
+      left = λ sure yes. stays_left stays (at.agrees.honest sure) (at.left sure yes);
       others = λ one apart said. said;
       unfailed = λ n apart. others n (λ e. apart (e ∙ sym at.number));
       fit = keeps.fit;

@@ -1,7 +1,7 @@
 -- A buffer set is started, buffer after buffer.
 use Rattle.std.proofs.Common.{◌≡◌, ◌≢◌, ◌∙◌, ℕ, ◌<◌, ◌≤◌, inl, inr, arith, refl, sym, ap, subst}
 use Rattle.std.proofs.Common.{List, [], ◌∷◌, ◌++◌, length, map, Option, None, Some, slice_get}
-use Rattle.std.proofs.Common.{option_map, Result, Ok, Err, IfErr, IfOk}
+use Rattle.std.proofs.Common.{option_map, Result, Ok, Err, IfErr, IfOk, true}
 use Rattle.std.proofs.lemmas.Bool.{cases_eq, eq-eqb, ne_eqb}
 use Rattle.std.proofs.lemmas.List.{length-map}
 use Rattle.std.proofs.lemmas.Option.{none-some, same_Some, slice_get-map, slice_get_within}
@@ -16,6 +16,7 @@ use Rattle.cyc_buffer.specs.declared.answers.StartError.{StartError}
 use Rattle.cyc_buffer.specs.declared.answers.StartError.TheVariants as errors
 use Rattle.cyc_buffer.specs.declared.unopened.Unopened.{Unopened}
 use Rattle.news_terms.specs.Courses.{Course}
+use Rattle.news_terms.specs.Places as places
 use Rattle.news_terms.proofs.ListPlaces.{at_pushed, there_within}
 use Rattle.relay_conf.specs.declared.cycbuff.BufferConf.{BufferConf}
 use Rattle.relay_conf.specs.declared.settings.Buffers.{Buffers}
@@ -24,14 +25,16 @@ use Rattle.relay_model.specs.Terms.{Terms}
 use Rattle.block_shelf.proofs.EachLemmas.{comes_from, each_mapped, one_more_each}
 pub use Rattle.block_shelf.proofs.NewBufferSet.{buffer_is}
 use Rattle.block_shelf.proofs.NewBufferSet.{pushed_before, pushed_last}
+use Rattle.block_shelf.proofs.Shelving.{held_stays, stays_left}
 use Rattle.block_shelf.specs.Each.{AreEach}
-use Rattle.block_shelf.specs.Starting.{BuffersKeep, EarlierStart, IsFirstOther}
-use Rattle.block_shelf.specs.Starting.{IsFromOutside, IsHeldBy, IsRefusedAt, IsStartedOver}
-use Rattle.block_shelf.specs.Starting.{IsTriedRefusal, IsUnstartedBy, IsUnwritten, buffer_over}
-use Rattle.block_shelf.specs.Starting.{buffers_inside, failed_at, fault_of_start, number_told}
-use Rattle.block_shelf.specs.Starting.{other_after}
+use Rattle.block_shelf.specs.Starting.{BuffersKeep, EarlierStart, IsFirstOther, IsFromOutside}
+use Rattle.block_shelf.specs.Starting.{IsHeldBy, IsRefusedAt, IsStartedOver, IsTriedRefusal}
+use Rattle.block_shelf.specs.Starting.{IsUnstartedBy, IsUnwritten, buffer_over, buffers_inside}
+use Rattle.block_shelf.specs.Starting.{failed_at, fault_of_start, number_told, other_after}
 use Rattle.block_shelf.specs.declared.starting.StopFault.{StopFault}
 use Rattle.block_shelf.specs.declared.starting.StopFault.TheVariants as faults
+use Rattle.block_shelf.specs.Stopping.{HoldsLeft, HoldsBuffer}
+use Rattle.block_shelf.specs.Keeping.{AreLeft, HasBuffer}
 
 -- a store that wasn't called is unwritten
 pub untouched_store : {S : Type 0} (g : Ghosts S) (failed : Option ℕ) (b : ℕ) (store : S)
@@ -228,6 +231,28 @@ module _ {S : Type 0} {g : Ghosts S} (settings : Buffers) {stores : List S}
       let at = held_at place from.item from.there in
       had.0.2 (from.belongs.stop at.honest stop at.history at.holds)
 
+  -- the buffer that was started over what a store holds
+  abbrev started_over : (buffers : List (Unopened S g)) (are : AreEach IsStartedOver stores buffers)
+      (b : ℕ) (buffer : places.Buffer) → slice_get w.buffers b ≡ Some buffer
+      → HoldsBuffer g stores stop w.groups begun kept failures b buffer
+      → HasBuffer true (buffers_inside buffers) w.groups begun kept (λ h. None) failures b buffer
+  started_over buffers are b buffer at had =
+      let was = are.each b had.store had.there in
+      record {
+        code = inside was.item;
+        there = slice_get-map inside buffers b ∙ ap (option_map inside) was.there;
+        keeps = record {
+          history = had.history;
+          is_of_buffer = had.is_of_buffer;
+          agrees = was.belongs.agrees had.honest stop had.history had.held
+              (had.is_of_buffer
+              ∙ buffer_is g settings stores sized b buffer had.store
+              (ap (λ bs. slice_get bs b) (sym held.0) ∙ at) had.there);
+          is_said = had.is_said;
+          failed = had.failed ∙ sym was.belongs.no_failure;
+        };
+      }
+
   -- the buffers keep what was held
   pub buffers_keep : {buffers : List (Unopened S g)} → AreEach IsStartedOver stores buffers
       → BuffersKeep (buffers_inside buffers) w begun kept failures
@@ -237,24 +262,22 @@ module _ {S : Type 0} {g : Ghosts S} (settings : Buffers) {stores : List S}
     fit = held.2.fit;
     laid = held.2.laid;
     count = length-map buffers inside ∙ are.count ∙ held.2.count;
-    buffers = λ b buffer at.
-        let had = held.2.buffers b buffer at in
-        let was = are.each b had.store had.there in
-        record {
-          code = inside was.item;
-          there = slice_get-map inside buffers b ∙ ap (option_map inside) was.there;
-          keeps = record {
-            history = had.history;
-            is_of_buffer = had.is_of_buffer;
-            agrees = was.belongs.agrees had.honest stop had.history had.held
-                (had.is_of_buffer
-                ∙ buffer_is g settings stores sized b buffer had.store
-                (ap (λ bs. slice_get bs b) (sym held.0) ∙ at) had.there);
-            is_said = had.is_said;
-            failed = had.failed ∙ sym was.belongs.no_failure;
-          };
-        };
+    buffers = λ b buffer at. started_over buffers are b buffer at (held.2.buffers b buffer at);
   }
+
+  -- a crash may leave their stores, where it may have left those
+  pub buffers_left : {buffers : List (Unopened S g)} → AreEach IsStartedOver stores buffers
+      → HoldsLeft g stores stop w begun kept failures
+      → AreLeft (buffers_inside buffers) w begun kept failures
+  buffers_left {buffers} are left b buffer at =
+      let had = left b buffer at in
+      let was = are.each b had.holds.store had.holds.there in
+      record {
+        has = started_over buffers are b buffer at had.holds;
+        left = λ sure yes.
+            stays_left (held_stays was.belongs.held (omega (arith, was.belongs.no_failure)))
+            had.holds.honest had.left;
+      }
 
 -- a start that was mixed
 pub mixed_buffer_set : {S : Type 0} {g : Ghosts S} {stores : List S} (stop : ℕ)

@@ -24,6 +24,7 @@ use Rattle.relay_model.specs.World.{HasFailedAt}
 use Rattle.relay_model.specs.Writers.{begun_in}
 use Rattle.block_shelf.specs.Devices.{calls_at}
 use Rattle.block_shelf.specs.Keeping.{KeepsTexts}
+use Rattle.block_shelf.specs.Leaving.{Trust}
 use Rattle.block_shelf.specs.Openings.{Opening, IsOpen, IsBroken, token_in}
 use Rattle.block_shelf.specs.declared.buffer_set.Begun.{Begun}
 use Rattle.block_shelf.specs.declared.buffer_set.BufferSet.{BufferSet}
@@ -61,7 +62,7 @@ token_at class octets place =
 
 -- a begin at this place: where a token has room for its cycle the article is begun, else nothing
 -- that is kept changes
-abbrev pub BegunAs : {S : Type 0} {g : Ghosts S} → (trusted : Bool) → Terms → (h class octets : ℕ)
+abbrev pub BegunAs : {S : Type 0} {g : Ghosts S} → (trusted : Trust) → Terms → (h class octets : ℕ)
     → (ℕ → Course) → List Kept → (ℕ → Option Opening) → (ℕ → ℕ) → Place → Option Begun
     → (new : BufferSet S g) → Type 0
 BegunAs trusted w h class octets begun kept openings failures place None new =
@@ -76,7 +77,7 @@ BegunAs trusted w h class octets begun kept openings failures place (Some one) n
 -- all that the buffer set keeps, with whatever state, it still keeps
 abbrev pub KeepsAll : {S : Type 0} {g : Ghosts S} → (old new : BufferSet S g) → Type 0
 KeepsAll old new =
-    (trusted : Bool) (w : Terms) (begun : ℕ → Course) (kept : List Kept)
+    (trusted : Trust) (w : Terms) (begun : ℕ → Course) (kept : List Kept)
     (openings : ℕ → Option Opening) (failures : ℕ → ℕ)
     → KeepsTexts trusted old w begun kept openings failures
     → KeepsTexts trusted new w begun kept openings failures
@@ -85,7 +86,7 @@ KeepsAll old new =
 abbrev pub BeginsOn : {S : Type 0} {g : Ghosts S} → (h class octets : ℕ) → (old : BufferSet S g)
     → Option Begun → (new : BufferSet S g) → Type 0
 BeginsOn h class octets old result new =
-    (trusted : Bool) (w : Terms) (begun : ℕ → Course) (kept : List Kept)
+    (trusted : Trust) (w : Terms) (begun : ℕ → Course) (kept : List Kept)
     (openings : ℕ → Option Opening) (failures : ℕ → ℕ)
     → KeepsTexts trusted old w begun kept openings failures
     → CanBegin w h (size_of octets) openings
@@ -99,7 +100,7 @@ IsFaultAt kind token e =
 
 -- a write of a block of group h's open write: one more is written, and whether it was the last is
 -- said; or the device failed
-abbrev pub WrittenAs : {S : Type 0} {g : Ghosts S} → (trusted : Bool) → Terms → (h : ℕ) → Token
+abbrev pub WrittenAs : {S : Type 0} {g : Ghosts S} → (trusted : Trust) → Terms → (h : ℕ) → Token
     → (text : List ℕ) → (written : ℕ) → (ℕ → Course) → List Kept → (ℕ → Option Opening) → (ℕ → ℕ)
     → Result Bool WriteError → (new : BufferSet S g) → Type 0
 WrittenAs trusted w h token text written begun kept openings failures (Ok last) new =
@@ -117,7 +118,7 @@ WrittenAs trusted w h token text written begun kept openings failures (Err (erro
 abbrev pub WritesOn : {S : Type 0} {g : Ghosts S} → Token → (text : List ℕ) → (old : BufferSet S g)
     → Result Bool WriteError → (new : BufferSet S g) → Type 0
 WritesOn token text old result new =
-    (trusted : Bool) (w : Terms) (begun : ℕ → Course) (kept : List Kept)
+    (trusted : Trust) (w : Terms) (begun : ℕ → Course) (kept : List Kept)
     (openings : ℕ → Option Opening) (failures : ℕ → ℕ)
     → KeepsTexts trusted old w begun kept openings failures
     → (h written : ℕ) → openings h ≡ Some (IsOpen token text written)
@@ -152,7 +153,7 @@ WritesWhereItCan begun text old (Err (errors.Failed e)) new =
 abbrev pub FinishesOn : {S : Type 0} {g : Ghosts S} → Token → (old : BufferSet S g)
     → Result codes.Token Begun → (new : BufferSet S g) → Type 0
 FinishesOn token old result new =
-    (trusted : Bool) (w : Terms) (begun : ℕ → Course) (kept : List Kept)
+    (trusted : Trust) (w : Terms) (begun : ℕ → Course) (kept : List Kept)
     (openings : ℕ → Option Opening) (failures : ℕ → ℕ)
     → KeepsTexts trusted old w begun kept openings failures
     → (h : ℕ) (text id : List ℕ)
@@ -178,7 +179,7 @@ FinishesWhereItCan begun old (Err back) new =
 -- the open write under this token is given up
 abbrev pub AbandonsOn : {S : Type 0} {g : Ghosts S} → Token → (old new : BufferSet S g) → Type 0
 AbandonsOn token old new =
-    (trusted : Bool) (w : Terms) (begun : ℕ → Course) (kept : List Kept)
+    (trusted : Trust) (w : Terms) (begun : ℕ → Course) (kept : List Kept)
     (openings : ℕ → Option Opening) (failures : ℕ → ℕ)
     → KeepsTexts trusted old w begun kept openings failures
     → (h : ℕ) (one : Opening) → openings h ≡ Some one → token_in one ≡ token

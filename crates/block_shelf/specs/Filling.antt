@@ -1,8 +1,7 @@
 -- A buffer set before anything is begun, over stores of which the i-th is that of buffer i
 -- (docs/PROTOCOL.md, Store).
 use Rattle.std.specs.Prelude.{◌≡◌, ◌<◌, ◌+◌, ℕ, Bool, true, List, [], length, None, Some, slice_get}
-use Rattle.std.specs.Prelude.{All}
-use Rattle.std.specs.Prelude.{option_map, unwrap_or, map, filter_map}
+use Rattle.std.specs.Prelude.{All, option_map, unwrap_or, map, filter_map}
 use Rattle.buffer_group.specs.Groups.{blocks_in}
 use Rattle.cyc_block.specs.declared.store.BlockStore.{Ghosts}
 use Rattle.cyc_buffer.specs.Agreement.{Agrees, store_of}
@@ -17,6 +16,7 @@ use Rattle.relay_conf.specs.Settings.{places_of_buffers, places_of_groups}
 use Rattle.relay_conf.specs.declared.settings.Buffers.{Buffers}
 use Rattle.relay_model.specs.Terms.{Terms}
 use Rattle.block_shelf.specs.Keeping.{KeepsTexts, HasPlacedGroup}
+use Rattle.block_shelf.specs.Leaving.{IsFresh, Trust}
 use Rattle.block_shelf.specs.declared.filling.BufferSetError.{BufferSetError}
 use Rattle.block_shelf.specs.declared.filling.BufferSetError.TheVariants as errors
 use Rattle.block_shelf.specs.declared.buffer_set.PlacedGroup.{PlacedGroup}
@@ -28,11 +28,13 @@ use Rattle.block_shelf.specs.declared.buffer_set.BufferSet.{BufferSet}
 abbrev pub failures_in : {S : Type 0} (g : Ghosts S) → List S → ℕ → ℕ
 failures_in g stores b = unwrap_or (option_map g.failures (slice_get stores b)) 0
 
--- nothing was begun in any buffer of the settings, and the buffer set keeps that
+-- nothing was begun in any buffer of the settings, and the buffer set keeps that; a crash may leave
+-- its stores where they were fresh
 abbrev pub KeepsNothing : {S : Type 0} {g : Ghosts S} → Buffers → (stores : List S) → BufferSet S g
     → Type 0
 KeepsNothing {g = g} settings stores buffer_set =
-    (trusted : Bool) → (trusted ≡ true → All g.honest stores) → (w : Terms)
+    (trusted : Trust) → (trusted.honest ≡ true → All g.honest stores)
+    → (trusted.left ≡ true → All (IsFresh g) stores) → (w : Terms)
     → w.buffers ≡ places_of_buffers settings → w.groups ≡ places_of_groups settings
     → KeepsTexts trusted buffer_set w (λ h. first_course) [] (λ h. None) (failures_in g stores)
 

@@ -1,10 +1,10 @@
 -- The heads of a started buffer set's buffers are opened (docs/PROTOCOL.md, Clean stop and start).
-use Rattle.std.specs.Prelude.{◌≡◌, ℕ, ◌+◌, ◌<◌, true, List, [], ◌∷◌, ◌++◌, length, min}
+use Rattle.std.specs.Prelude.{◌≡◌, ℕ, ◌+◌, ◌<◌, Bool, true, List, [], ◌∷◌, ◌++◌, length, min}
 use Rattle.std.specs.Prelude.{None, Some, vec_len, vec_capacity}
 use Rattle.cyc_block.specs.Store.{block_at}
 use Rattle.cyc_block.specs.declared.store.BlockStore.{Ghosts}
 use Rattle.cyc_buffer.specs.Agreement.{Agrees, Follows, store_of}
-use Rattle.cyc_buffer.specs.Head.{has_open_head, inside, stop_of}
+use Rattle.cyc_buffer.specs.Head.{LeavesBlocks, has_open_head, inside, stop_of}
 use Rattle.cyc_buffer.specs.History.{History}
 use Rattle.cyc_buffer.specs.Stopped.{numbers_of}
 use Rattle.cyc_buffer.specs.declared.buffer.Buffer.{Buffer}
@@ -15,6 +15,7 @@ use Rattle.relay_model.specs.State.{Kept}
 use Rattle.relay_model.specs.Terms.{Terms}
 use Rattle.block_shelf.specs.Each.{AreEach}
 use Rattle.block_shelf.specs.Keeping.{KeepsTexts}
+use Rattle.block_shelf.specs.Leaving.{honestly}
 use Rattle.block_shelf.specs.Starting.{WillKeep}
 use Rattle.block_shelf.specs.declared.opening.Opening.{Opening}
 use Rattle.block_shelf.specs.declared.opening.Opening.TheVariants as states
@@ -27,9 +28,9 @@ use Rattle.block_shelf.specs.declared.starting.Unstarted.{Unstarted}
 abbrev pub KeepsOpened : {S : Type 0} {g : Ghosts S} → UnopenedBufferSet S g
     → BufferSet S g → Type 0
 KeepsOpened unopened buffer_set =
-    (w : Terms) (begun : ℕ → Course) (kept : List Kept) (failures : ℕ → ℕ)
-    → WillKeep unopened w begun kept failures
-    → KeepsTexts true buffer_set w begun kept (λ h. None) failures
+    (left : Bool) (w : Terms) (begun : ℕ → Course) (kept : List Kept) (failures : ℕ → ℕ)
+    → WillKeep left unopened w begun kept failures
+    → KeepsTexts (honestly left) buffer_set w begun kept (λ h. None) failures
 
 -- the buffer is the started one, whose device says, by one call that hasn't failed, that it may
 -- change
@@ -80,11 +81,18 @@ pub record IsUnopened {S : Type 0} {g : Ghosts S} (buffer_set : UnopenedBufferSe
 
 -- STEP BY STEP
 
+-- the buffer is the started one with its head open, and has its blocks
+pub record IsOpenedOf {S : Type 0} {g : Ghosts S} (b : ℕ) (unopened : Unopened S g)
+    (code : Buffer S g)
+    : Type 0 where
+  pub is_from : IsOpenedFrom b unopened code
+  pub blocks : LeavesBlocks g (store_of (inside unopened)) (store_of code)
+
 -- how an opening stands after these buffers: each is open, or the one at a place has failed
 abbrev pub HasOpened : {S : Type 0} {g : Ghosts S} → (before : List (Unopened S g)) → Opening S g
     → Type 0
 HasOpened before (states.Opened buffers room) =
-    AreEach IsOpenedFrom before buffers.items × (room.items ≡ [])
+    AreEach IsOpenedOf before buffers.items × (room.items ≡ [])
 HasOpened before (states.Failed stores place) =
     (place < length before) × AreEach (IsLeftUnopened place) before stores.items
 

@@ -8,6 +8,8 @@ pub mod Filling
 pub mod Heads
 pub mod Histories
 pub mod Keeping
+pub mod Killing
+pub mod Leaving
 pub mod Openings
 pub mod Picking
 pub mod Reading

@@ -1,5 +1,5 @@
 -- What a read of a block finds, in the words of the relay's fetches (docs/PROTOCOL.md, Reading).
-use Rattle.std.specs.Prelude.{◌≡◌, ℕ, ◌<◌, max, Bool, true, List, length, take, None, Some}
+use Rattle.std.specs.Prelude.{◌≡◌, ℕ, ◌<◌, max, true, List, length, take, None, Some}
 use Rattle.std.specs.Prelude.{Option, Result, Ok, Err}
 use Rattle.cyc_block.specs.declared.store.BlockStore.{Ghosts}
 use Rattle.cyc_buffer.specs.declared.answers.BufError.{BufError}
@@ -17,6 +17,7 @@ use Rattle.relay_model.specs.Terms.{Terms}
 use Rattle.relay_model.specs.World.{HasFailedAt}
 use Rattle.block_shelf.specs.Calls.{IsFaultAt}
 use Rattle.block_shelf.specs.Keeping.{KeepsTexts}
+use Rattle.block_shelf.specs.Leaving.{Trust}
 use Rattle.block_shelf.specs.Openings.{Opening}
 use Rattle.block_shelf.specs.declared.buffer_set.BufferSet.{BufferSet}
 
@@ -43,7 +44,7 @@ IsNowhere kept token =
     (class octets : ℕ) → text_under kept (record token { class = class; length = octets }) ≡ None
 
 -- what a read of block k does: it finds what a fetch finds, or the device failed
-pub data BlockRead {S : Type 0} {g : Ghosts S} (trusted : Bool) (w : Terms) (σ : State)
+pub data BlockRead {S : Type 0} {g : Ghosts S} (trusted : Trust) (w : Terms) (σ : State)
     (openings : ℕ → Option Opening) (failures : ℕ → ℕ) (token : Token) (k : ℕ)
     (result : Result Found BufError) (after : List ℕ) (new : BufferSet S g)
     : Type 0 where
@@ -51,7 +52,7 @@ pub data BlockRead {S : Type 0} {g : Ghosts S} (trusted : Bool) (w : Terms) (σ 
   -- or nothing whole begins there.
   HasFound : (one : Found) → result ≡ Ok one
       → KeepsTexts trusted new w σ.begun σ.kept openings failures
-      → (trusted ≡ true → IsFoundOf w σ token k one after (fetched w σ token))
+      → (trusted.honest ≡ true → IsFoundOf w σ token k one after (fetched w σ token))
       → ((what : Fetched) → decided w σ token ≡ Some what → IsFoundOf w σ token k one after what)
       → (IsNowhere σ.kept token → IsFoundOf w σ token k one after (fetched w σ token))
       → BlockRead trusted w σ openings failures token k result after new
@@ -67,7 +68,7 @@ pub data BlockRead {S : Type 0} {g : Ghosts S} (trusted : Bool) (w : Terms) (σ 
 abbrev pub ReadsOn : {S : Type 0} {g : Ghosts S} → Token → (k : ℕ) → (old : BufferSet S g)
     → Result Found BufError → (after : List ℕ) → (new : BufferSet S g) → Type 0
 ReadsOn token k old result after new =
-    (trusted : Bool) (w : Terms) (σ : State) (openings : ℕ → Option Opening) (failures : ℕ → ℕ)
+    (trusted : Trust) (w : Terms) (σ : State) (openings : ℕ → Option Opening) (failures : ℕ → ℕ)
     → KeepsTexts trusted old w σ.begun σ.kept openings failures
     → k < max 1 (size_of token.length)
     → BlockRead trusted w σ openings failures token k result after new

@@ -1,5 +1,5 @@
 -- A buffer set that is stopped and started again in place (docs/PROTOCOL.md, Restart).
-use Rattle.std.specs.Prelude.{◌≡◌, ◌≢◌, ℕ, ◌+◌, ◌^◌, ◌<◌, ◌≤◌, Bool, true, List, None, Some}
+use Rattle.std.specs.Prelude.{◌≡◌, ◌≢◌, ℕ, ◌+◌, ◌^◌, ◌<◌, ◌≤◌, true, List, None, Some}
 use Rattle.std.specs.Prelude.{length, slice_get, Result, Ok, Err}
 use Rattle.cyc_block.specs.Store.{block_at}
 use Rattle.cyc_block.specs.declared.store.BlockStore.{Ghosts}
@@ -20,6 +20,7 @@ use Rattle.relay_model.specs.Terms.{Terms}
 use Rattle.relay_model.specs.World as world
 use Rattle.block_shelf.specs.Each.{AreEach, HasAt}
 use Rattle.block_shelf.specs.Keeping.{KeepsTexts}
+use Rattle.block_shelf.specs.Leaving.{Trust}
 use Rattle.block_shelf.specs.Stopping.{IsBusyBufferSet}
 use Rattle.block_shelf.specs.declared.restarting.RestartFault.{RestartFault}
 use Rattle.block_shelf.specs.declared.restarting.RestartFault.TheVariants as faults
@@ -34,7 +35,7 @@ pub record FailedAt (w : Terms) (number : ℕ) (before after : ℕ → ℕ) : Ty
 -- What came of a restart. Done or not, over honest stores and over others, the buffer set keeps
 -- what it kept. Where it is done no device has failed; it is refused for memory, and over honest
 -- stores else for a device that failed alone.
-pub record StaysKept {S : Type 0} {g : Ghosts S} (trusted : Bool) (w : Terms)
+pub record StaysKept {S : Type 0} {g : Ghosts S} (trusted : Trust) (w : Terms)
     (begun : ℕ → Course) (kept : List Kept) (failures : ℕ → ℕ)
     (result : Result (Unit {0}) RestartFault) (new : BufferSet S g)
     : Type 0 where
@@ -43,14 +44,14 @@ pub record StaysKept {S : Type 0} {g : Ghosts S} (trusted : Bool) (w : Terms)
   pub keeps : KeepsTexts trusted new w begun kept (λ h. None) later
   pub unfailed : result ≡ Ok tt → (n : ℕ) → later n ≡ failures n
   pub free : result ≢ Err faults.Busy
-  pub failed : (number : ℕ) → result ≡ Err (faults.Failed number) → trusted ≡ true
+  pub failed : (number : ℕ) → result ≡ Err (faults.Failed number) → trusted.honest ≡ true
       → FailedAt w number failures later
 
 -- a buffer set in which no write is open stays kept
 abbrev pub KeepsOn : {S : Type 0} {g : Ghosts S} → (old : BufferSet S g)
     → Result (Unit {0}) RestartFault → (new : BufferSet S g) → Type 0
 KeepsOn old result new =
-    (trusted : Bool) (w : Terms) (begun : ℕ → Course) (kept : List Kept) (failures : ℕ → ℕ)
+    (trusted : Trust) (w : Terms) (begun : ℕ → Course) (kept : List Kept) (failures : ℕ → ℕ)
     → KeepsTexts trusted old w begun kept (λ h. None) failures
     → StaysKept trusted w begun kept failures result new
 

@@ -1,9 +1,7 @@
 -- A buffer set that is started from what was left on its stores (docs/PROTOCOL.md, Clean stop and
 -- start).
-use Rattle.std.specs.Prelude.{◌≡◌, ◌≢◌, ℕ, ◌+◌, ◌<◌, true, false, List, [], ◌∷◌, ◌++◌, map}
-use Rattle.std.specs.Prelude.{◌==◌}
-use Rattle.std.specs.Prelude.{if◌then◌else◌}
-use Rattle.std.specs.Prelude.{length, min, All, Option, None, Some, slice_get}
+use Rattle.std.specs.Prelude.{◌≡◌, ◌≢◌, ℕ, ◌+◌, ◌<◌, Bool, true, false, List, [], ◌∷◌, ◌++◌, map}
+use Rattle.std.specs.Prelude.{◌==◌, if◌then◌else◌, length, min, All, Option, None, Some, slice_get}
 use Rattle.std.specs.Prelude.{vec_len, vec_capacity}
 use Rattle.cyc_block.specs.declared.store.BlockStore.{Ghosts}
 use Rattle.cyc_buffer.specs.Agreement.{Agrees, store_of}
@@ -28,8 +26,8 @@ use Rattle.relay_conf.specs.declared.settings.Buffers.{Buffers}
 use Rattle.relay_model.specs.State.{Kept}
 use Rattle.relay_model.specs.Terms.{Terms}
 use Rattle.block_shelf.specs.Each.{AreEach}
-use Rattle.block_shelf.specs.Keeping.{HasBuffer, HasPlacedGroup}
-use Rattle.block_shelf.specs.Stopping.{ArePositions, HoldsTexts}
+use Rattle.block_shelf.specs.Keeping.{AreLeft, HasBuffer, HasPlacedGroup}
+use Rattle.block_shelf.specs.Stopping.{ArePositions, HoldsLeft, HoldsTexts}
 use Rattle.block_shelf.specs.declared.buffer_set.PlacedGroup.{PlacedGroup}
 use Rattle.block_shelf.specs.declared.starting.StopFault.{StopFault}
 use Rattle.block_shelf.specs.declared.starting.StopFault.TheVariants as faults
@@ -73,11 +71,15 @@ pub record PlacedGroupsKeep (placed_groups : List PlacedGroup) (w : Terms) (begu
   pub each : (h : ℕ) (group : Group) → slice_get w.groups h ≡ Some group
       → HasPlacedGroup placed_groups (begun h) h group
 
--- the started buffer set keeps, over honest stores, what it will keep once its heads are open
-pub record WillKeep {S : Type 0} {g : Ghosts S} (buffer_set : UnopenedBufferSet S g) (w : Terms)
-    (begun : ℕ → Course) (kept : List Kept) (failures : ℕ → ℕ)
+-- the started buffer set keeps, over honest stores, or also such as a crash may leave, what it will
+-- keep once its heads are open
+pub record WillKeep {S : Type 0} {g : Ghosts S} (may_be_left : Bool)
+    (buffer_set : UnopenedBufferSet S g) (w : Terms) (begun : ℕ → Course) (kept : List Kept)
+    (failures : ℕ → ℕ)
     : Type 0 where
   pub texts : HoldsStarted buffer_set w begun kept failures
+  pub left : may_be_left ≡ true
+      → AreLeft (buffers_inside buffer_set.buffers.items) w begun kept failures
   pub placed_groups : PlacedGroupsKeep buffer_set.placed_groups.items w begun
 
 -- what stores hold as stopped under this number, with the buffers and groups of the settings
@@ -99,9 +101,11 @@ KeepsHeld {g = g} settings stores stop buffer_set =
 abbrev pub WillKeepHeld : {S : Type 0} {g : Ghosts S} → Buffers → (stores : List S) → (stop : ℕ)
     → (positions : List ℕ) → UnopenedBufferSet S g → Type 0
 WillKeepHeld {g = g} settings stores stop positions buffer_set =
-    (w : Terms) (begun : ℕ → Course) (kept : List Kept) (failures : ℕ → ℕ)
+    (may_be_left : Bool) (w : Terms) (begun : ℕ → Course) (kept : List Kept) (failures : ℕ → ℕ)
     → IsHeldBy g settings stores stop w begun kept failures
-    → ArePositions w.groups begun positions → WillKeep buffer_set w begun kept failures
+    → (may_be_left ≡ true → HoldsLeft g stores stop w begun kept failures)
+    → ArePositions w.groups begun positions
+    → WillKeep may_be_left buffer_set w begun kept failures
 
 -- the stores of a started buffer set
 abbrev pub stores_inside : {S : Type 0} {g : Ghosts S} → UnopenedBufferSet S g → List S

@@ -1,12 +1,11 @@
 -- What a stop leaves of a buffer set on its stores, and the positions of its groups
 -- (docs/PROTOCOL.md, Clean stop and start).
-use Rattle.std.specs.Prelude.{◌≡◌, ◌≢◌, ℕ, ◌+◌, ◌^◌, ◌<◌, ◌≤◌, Bool, true, false, List, [], ◌∷◌}
-use Rattle.std.specs.Prelude.{◌++◌}
+use Rattle.std.specs.Prelude.{◌≡◌, ◌≢◌, ℕ, ◌+◌, ◌^◌, ◌<◌, ◌≤◌, true, false, List, [], ◌∷◌, ◌++◌}
 use Rattle.std.specs.Prelude.{length, All, Option, None, Some, slice_get, Result, Ok, Err}
 use Rattle.std.specs.Global.{Vec}
 use Rattle.cyc_block.specs.declared.store.BlockStore.{Ghosts}
 use Rattle.cyc_buffer.specs.Agreement.{Agrees, store_of}
-use Rattle.cyc_buffer.specs.Head.{is_busy}
+use Rattle.cyc_buffer.specs.Head.{LeavesBlocks, is_busy}
 use Rattle.cyc_buffer.specs.History.{History}
 use Rattle.cyc_buffer.specs.Stopped.{HoldsStopped}
 use Rattle.cyc_buffer.specs.declared.buffer.Buffer.{Buffer}
@@ -21,6 +20,7 @@ use Rattle.relay_model.specs.Terms.{Terms}
 use Rattle.block_shelf.specs.Each.{AreEach}
 use Rattle.block_shelf.specs.Histories.{IsHistoryOf}
 use Rattle.block_shelf.specs.Keeping.{KeepsPlacedGroup, KeepsTexts}
+use Rattle.block_shelf.specs.Leaving.{MayBeLeft, Trust, honestly}
 use Rattle.block_shelf.specs.Openings.{Opening}
 use Rattle.block_shelf.specs.declared.buffer_set.PlacedGroup.{PlacedGroup}
 use Rattle.block_shelf.specs.declared.buffer_set.BufferSet.{BufferSet}
@@ -46,7 +46,7 @@ TellsPosition b placed_group position =
 -- these are the positions of the buffer set's groups
 abbrev pub TellsPositions : {S : Type 0} {g : Ghosts S} → BufferSet S g → List ℕ → Type 0
 TellsPositions buffer_set positions =
-    (trusted : Bool) (w : Terms) (begun : ℕ → Course) (kept : List Kept)
+    (trusted : Trust) (w : Terms) (begun : ℕ → Course) (kept : List Kept)
     (openings : ℕ → Option Opening) (failures : ℕ → ℕ)
     → KeepsTexts trusted buffer_set w begun kept openings failures
     → ArePositions w.groups begun positions
@@ -68,6 +68,14 @@ pub record HoldsBuffer {S : Type 0} (g : Ghosts S) (stores : List S) (stop : ℕ
   pub is_said : IsHistoryOf groups begun kept (λ h. None) history
   pub failed : failures buffer.number ≡ g.failures store
 
+-- so it does, and a crash may leave the store
+pub record HoldsLeftAt {S : Type 0} (g : Ghosts S) (stores : List S) (stop : ℕ)
+    (groups : List Group) (begun : ℕ → Course) (kept : List Kept) (failures : ℕ → ℕ) (b : ℕ)
+    (buffer : places.Buffer)
+    : Type 0 where
+  pub holds : HoldsBuffer g stores stop groups begun kept failures b buffer
+  pub left : MayBeLeft g holds.store holds.history
+
 -- The stores hold, as stopped under this number, with these buffers and groups, these courses,
 -- texts and counts of failures. No write is open. It is said of honest stores alone.
 pub record HoldsTexts {S : Type 0} (g : Ghosts S) (stores : List S) (stop : ℕ) (w : Terms)
@@ -84,12 +92,27 @@ pub record HoldsTexts {S : Type 0} (g : Ghosts S) (stores : List S) (stop : ℕ)
   pub buffers : (b : ℕ) (buffer : places.Buffer) → slice_get w.buffers b ≡ Some buffer
       → HoldsBuffer g stores stop w.groups begun kept failures b buffer
 
+-- a crash may leave the stores, as what was stopped on them is
+abbrev pub HoldsLeft : {S : Type 0} → Ghosts S → (stores : List S) → (stop : ℕ) → Terms
+    → (ℕ → Course) → List Kept → (ℕ → ℕ) → Type 0
+HoldsLeft g stores stop w begun kept failures =
+    (b : ℕ) (buffer : places.Buffer) → slice_get w.buffers b ≡ Some buffer
+    → HoldsLeftAt g stores stop w.groups begun kept failures b buffer
+
 -- the stores hold all that the buffer set kept over honest stores, where no write was open
 abbrev pub HoldsKept : {S : Type 0} {g : Ghosts S} → (stop : ℕ) → BufferSet S g → List S → Type 0
 HoldsKept {g = g} stop buffer_set stores =
     (w : Terms) (begun : ℕ → Course) (kept : List Kept) (failures : ℕ → ℕ)
-    → KeepsTexts true buffer_set w begun kept (λ h. None) failures
+    → KeepsTexts (honestly false) buffer_set w begun kept (λ h. None) failures
     → HoldsTexts g stores stop w begun kept failures
+
+-- a crash may leave them, where it may have left those of the buffer set
+abbrev pub HoldsKeptLeft : {S : Type 0} {g : Ghosts S} → (stop : ℕ) → BufferSet S g → List S
+    → Type 0
+HoldsKeptLeft {g = g} stop buffer_set stores =
+    (w : Terms) (begun : ℕ → Course) (kept : List Kept) (failures : ℕ → ℕ)
+    → KeepsTexts (honestly true) buffer_set w begun kept (λ h. None) failures
+    → HoldsLeft g stores stop w begun kept failures
 
 -- a store is what the stop of a buffer leaves
 pub record IsShutOver {S : Type 0} {g : Ghosts S} (stop b : ℕ) (code : Buffer S g) (store : S)
@@ -122,7 +145,7 @@ pub record IsBusyBufferSet {S : Type 0} {g : Ghosts S} (buffer_set : BufferSet S
   pub code : Buffer S g
   pub there : slice_get buffer_set.buffers.items at ≡ Some code
   pub busy : is_busy code ≡ true
-  pub writing : (trusted : Bool) (w : Terms) (begun : ℕ → Course) (kept : List Kept)
+  pub writing : (trusted : Trust) (w : Terms) (begun : ℕ → Course) (kept : List Kept)
       (failures : ℕ → ℕ) → KeepsTexts trusted buffer_set w begun kept (λ h. None) failures → ⊥
 
 -- the store of a buffer, where the stop of the buffer at this place was refused: it stays honest
@@ -171,6 +194,16 @@ abbrev pub IsStopped : {S : Type 0} {g : Ghosts S} → (stop : ℕ) → (before 
 IsStopped stop before None stores = AreEach (IsShutOver stop) before stores
 IsStopped stop before (Some place) stores =
     (place < length before) × AreEach (IsLeftOver place) before stores
+
+-- the store is that of the buffer but for what its head blocks hold
+abbrev pub IsStoreOf : {S : Type 0} {g : Ghosts S} → (b : ℕ) → Buffer S g → (store : S) → Type 0
+IsStoreOf {g = g} b code store = LeavesBlocks g (store_of code) store
+
+-- one store more
+abbrev pub LeavesNext : {S : Type 0} {g : Ghosts S} → Buffer S g → (old new : List S) → Type 0
+LeavesNext {S} {g} code old new =
+    (before : List (Buffer S g)) → AreEach IsStoreOf before old
+    → AreEach IsStoreOf (before ++ code ∷ []) new
 
 -- one buffer more, in which no write is open
 abbrev pub StopsNext : {S : Type 0} {g : Ghosts S} → (stop : ℕ) → Buffer S g

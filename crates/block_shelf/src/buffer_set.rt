@@ -57,6 +57,7 @@ impl<S: BlockStore> BufferSet<S> {
     ghost use Rattle.block_shelf.specs.Calls.{WritesWhereItCan};
     ghost use Rattle.block_shelf.specs.Devices.{CallsNone, CallsOneAtMost, calls_at};
     ghost use Rattle.block_shelf.specs.Keeping.{KeepsTexts};
+    ghost use Rattle.block_shelf.specs.Leaving.{Trust};
     ghost use Rattle.block_shelf.specs.Openings.{Opening};
     ghost use Rattle.block_shelf.specs.Reading.{ReadsOn, IsFrontAt};
     ghost use Rattle.cyc_buffer.specs.Calls.{LeavesRest};
@@ -183,7 +184,7 @@ impl<S: BlockStore> BufferSet<S> {
 
     /// The front of a buffer, where there is one of this number.
     pub fn front(&self, number: u8) -> Option<Front>
-        ensures { (trusted : Bool) (w : Terms) (σ : State) (openings : ℕ → Option Opening)
+        ensures { (trusted : Trust) (w : Terms) (σ : State) (openings : ℕ → Option Opening)
             (failures : ℕ → ℕ) → KeepsTexts trusted self.now w σ.begun σ.kept openings failures
             → IsFrontAt w σ (slice_get w.buffers number) result }
     {

@@ -1,8 +1,9 @@
 //! What the report says of a buffer.
-ghost use Rattle.std.specs.Prelude.{◌≡◌, Bool, ℕ, Option, option_map, slice_get};
+ghost use Rattle.std.specs.Prelude.{◌≡◌, ℕ, Option, option_map, slice_get};
 ghost use Rattle.block_shelf.specs.Figures.{figures_view};
 ghost use Rattle.block_shelf.specs.Keeping.{KeepsTexts};
 ghost use Rattle.block_shelf.specs.Openings.{Opening};
+ghost use Rattle.block_shelf.specs.Leaving.{Trust};
 ghost use Rattle.relay_model.specs.Figures.{buffer_figures};
 ghost use Rattle.relay_model.specs.State.{State};
 ghost use Rattle.relay_model.specs.Terms.{Terms};
@@ -26,7 +27,7 @@ pub struct BufferFigures {
 impl<S: BlockStore> BufferSet<S> {
     /// The figures of the buffer of this number, where there is one. Takes no memory.
     pub fn figures(&self, number: u8) -> Option<BufferFigures>
-        ensures { (trusted : Bool) (w : Terms) (σ : State) (openings : ℕ → Option Opening)
+        ensures { (trusted : Trust) (w : Terms) (σ : State) (openings : ℕ → Option Opening)
             (failures : ℕ → ℕ) → KeepsTexts trusted self.now w σ.begun σ.kept openings failures
             → option_map figures_view result
             ≡ option_map (buffer_figures w σ) (slice_get w.buffers number) }

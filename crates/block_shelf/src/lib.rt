@@ -9,6 +9,7 @@ mod buffer_set;
 mod figures;
 mod filling;
 mod giving;
+mod killing;
 mod opening;
 mod picking;
 mod restarting;

@@ -1,7 +1,8 @@
 //! How a buffer set is stopped: each of its buffers says on its store what it keeps.
 ghost use Rattle.std.specs.Prelude.{◌≡◌, ◌<◌, ◌+◌, ◌^◌, true, false, IfErr, IfOk};
 ghost use Rattle.std.specs.Prelude.{vec_len, vec_capacity};
-ghost use Rattle.block_shelf.specs.Stopping.{AreIdle, AreShut, HoldsKept, IsBusyAnswer};
+ghost use Rattle.block_shelf.specs.Stopping.{AreIdle, AreShut, HoldsKept, HoldsKeptLeft};
+ghost use Rattle.block_shelf.specs.Stopping.{IsBusyAnswer, LeavesNext};
 ghost use Rattle.block_shelf.specs.Stopping.{TellsPositions};
 ghost use Rattle.block_shelf.specs.Stopping.{IsBusyBufferSet, IsUnshut, StopsNext, TellsPosition};
 
@@ -63,6 +64,8 @@ impl<S: BlockStore> BufferSet<S> {
         // What was kept over honest stores is held by them, where no write was open.
         ensures held { IfOk result (λ stores. HoldsKept stop self stores.items) }
         ensures shut { IfOk result (λ stores. AreShut stop self stores.items) }
+        // A crash may leave them, where it may have left those that the buffer set had.
+        ensures left { IfOk result (λ stores. HoldsKeptLeft stop self stores.items) }
         ensures refusal { IfErr result (IsUnshut self) }
         // A buffer set with an open write is refused as Busy.
         ensures busy { IsBusyBufferSet self → IsBusyAnswer result }
@@ -95,6 +98,8 @@ fn shut_next<S: BlockStore>(
 ) -> Option<usize>
     requires { vec_len stores.old < vec_capacity stores.old }
     ensures stops { StopsNext stop buffer failed stores.old.items result stores.new.items }
+    // Whether it is stopped or not, its store is as it was but for its head blocks.
+    ensures leaves { LeavesNext buffer stores.old.items stores.new.items }
     ensures count { vec_len stores.new ≡ vec_len stores.old + 1 }
     ensures room { vec_capacity stores.new ≡ vec_capacity stores.old }
 {

@@ -1,6 +1,8 @@
 pub mod AllTexts
 pub mod Changed
+pub mod KeepsLeft
 pub mod KeptOn
+pub mod KeptRead
 pub mod LeftBefore
 pub mod LeftBegins
 pub mod LeftCourses

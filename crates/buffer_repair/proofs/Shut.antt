@@ -1,15 +1,14 @@
 -- Buffers that were found again are shut, one after the other.
-use Rattle.std.proofs.Common.{◌≡◌, ◌∙◌, ℕ, ◌<◌, true, false, true≢false, refl, sym}
-use Rattle.std.proofs.Common.{ap, subst, arith, List, [], ◌∷◌, ◌++◌, length, Option, None, Some}
-use Rattle.std.proofs.Common.{is_some}
+use Rattle.std.proofs.Common.{◌≡◌, ◌∙◌, ℕ, ◌<◌, true, false, true≢false, refl, sym, ap, subst}
+use Rattle.std.proofs.Common.{arith, List, [], ◌∷◌, ◌++◌, length, Option, None, Some, is_some}
 use Rattle.std.proofs.lemmas.List.{length-append, length-map}
 use Rattle.std.proofs.lemmas.Option.{same_Some, slice_get_within}
 use Rattle.block_shelf.proofs.EachLemmas.{each_so, one_more_each}
+use Rattle.block_shelf.proofs.Shelving.{leaves_stay, stays_left}
 use Rattle.block_shelf.specs.Each.{AreEach}
 use Rattle.cyc_block.specs.declared.store.BlockStore.{Ghosts}
 use Rattle.cyc_buffer.specs.Agreement.{store_of}
-use Rattle.cyc_buffer.specs.Head.{IsInOrder, IsStopRefusal, LeavesBuffer, inside}
-use Rattle.cyc_buffer.specs.Head.{is_busy}
+use Rattle.cyc_buffer.specs.Head.{IsInOrder, IsStopRefusal, LeavesBuffer, inside, is_busy}
 use Rattle.cyc_buffer.specs.declared.answers.BufError.{BufError}
 use Rattle.cyc_buffer.specs.declared.answers.BufError.TheVariants as stops
 use Rattle.cyc_buffer.specs.declared.starting.Started.{Started}
@@ -17,9 +16,40 @@ use Rattle.cyc_buffer.specs.declared.unopened.Unopened.{Unopened}
 use Rattle.news_terms.proofs.ListPlaces.{there_within}
 use Rattle.buffer_repair.proofs.KeptOn.{found_kept}
 use Rattle.buffer_repair.specs.Parts.{buffer_in, store_in}
-use Rattle.buffer_repair.specs.Shutting.{AreShutFound, AreShutTo, HoldsFound, IsLeftFound}
-use Rattle.buffer_repair.specs.Shutting.{IsShutFound, StaysLeft}
+use Rattle.buffer_repair.specs.Shutting.{AreShutFound, AreShutTo, HoldsFound, HoldsFoundLeft}
+use Rattle.buffer_repair.specs.Shutting.{IsLeftFound, IsShutFound, StaysLeft}
 use Rattle.buffer_repair.specs.declared.found_set.FoundBufferSet.{FoundBufferSet}
+
+-- a crash may leave what the buffers were shut to
+pub holds_left : {S : Type 0} {g : Ghosts S} (stop : ℕ) (found_set : FoundBufferSet S g)
+    (stores : List S) → AreShutFound stop found_set stores → HoldsFoundLeft stop found_set stores
+holds_left {S} {g} stop found_set stores shut w begun kept failures keeps b buffer at =
+    let one = there_within found_set.found.items b
+    (omega (
+      arith,
+      slice_get_within w.buffers b buffer at,
+      keeps.texts.count,
+      length-map found_set.found.items (λ (x : Started S g). buffer_in x),
+    )) in
+    let was = found_kept found_set keeps.texts keeps.left one.1 in
+    let left = shut.each b one.0 one.1 in
+    let same : was.now.buffer ≡ buffer = same_Some was.now.buffer buffer (sym was.there ∙ at) in
+    record {
+      holds = record {
+        store = left.item;
+        there = left.there;
+        honest = left.belongs.rest.honest (was.agrees.honest refl);
+        history = was.now;
+        is_of_buffer = same;
+        held = left.belongs.held was.now was.agrees;
+        is_said = was.said;
+        failed = ap failures (keeps.texts.numbered b buffer at) ∙ was.failed
+            ∙ sym left.belongs.no_failure;
+      };
+      left = stays_left
+          (leaves_stay left.belongs.rest (omega (arith, left.belongs.no_failure)))
+          (was.agrees.honest refl) (was.left refl refl);
+    }
 
 -- the stores hold what the buffers kept
 pub holds_found : {S : Type 0} {g : Ghosts S} (stop : ℕ) (found_set : FoundBufferSet S g)
@@ -31,28 +61,8 @@ holds_found {S} {g} stop found_set stores shut w begun kept failures keeps = rec
   laid = keeps.texts.laid;
   count = shut.count ∙ sym (length-map found_set.found.items (λ (one : Started S g). buffer_in one))
       ∙ keeps.texts.count;
-  buffers = λ b buffer at.
-      let one = there_within found_set.found.items b
-      (omega (
-        arith,
-        slice_get_within w.buffers b buffer at,
-        keeps.texts.count,
-        length-map found_set.found.items (λ (x : Started S g). buffer_in x),
-      )) in
-      let was = found_kept found_set keeps.texts one.1 in
-      let left = shut.each b one.0 one.1 in
-      let same : was.now.buffer ≡ buffer = same_Some was.now.buffer buffer (sym was.there ∙ at) in
-      record {
-        store = left.item;
-        there = left.there;
-        honest = left.belongs.rest.honest (was.agrees.honest refl);
-        history = was.now;
-        is_of_buffer = same;
-        held = left.belongs.held was.now was.agrees;
-        is_said = was.said;
-        failed = ap failures (keeps.texts.numbered b buffer at) ∙ was.failed
-            ∙ sym left.belongs.no_failure;
-      };
+  buffers = λ b buffer at. (holds_left stop found_set stores shut w begun kept failures keeps b
+      buffer at).holds;
 }
 
 -- a buffer that isn't busy isn't shut where its device failed

@@ -1,13 +1,10 @@
 -- What buffers that were found again keep, in the relay's own words, before they are shut
 -- (docs/PROTOCOL.md, Crashes).
 use Rattle.std.specs.Prelude.{◌≡◌, ◌≢◌, ℕ, ◌+◌, ◌<◌, ◌≤◌, not, Bool, true, List, filter, length}
-use Rattle.std.specs.Prelude.{◌==◌, ◌&&◌, take}
-use Rattle.std.specs.Prelude.{All}
-use Rattle.std.specs.Prelude.{count_by, Option, None, Some, slice_get, Result, Ok, Err}
+use Rattle.std.specs.Prelude.{take, All, count_by, Option, None, Some, slice_get, Result, Ok, Err}
 use Rattle.cyc_block.specs.declared.store.BlockStore.{Ghosts}
 use Rattle.cyc_buffer.specs.Agreement.{Agrees, buffer_state_of}
 use Rattle.cyc_buffer.specs.Calls.{ReadsBlock}
-use Rattle.cyc_buffer.specs.Crash.{IsLeftOf}
 use Rattle.cyc_buffer.specs.Head.{has_open_head, is_busy}
 use Rattle.cyc_buffer.specs.History.{History}
 use Rattle.cyc_buffer.specs.Reads.{StaysHeld}
@@ -20,8 +17,7 @@ use Rattle.cyc_buffer.specs.declared.starting.Started.{Started}
 use Rattle.cyc_token.specs.Token.{token_view}
 use Rattle.cyc_token.specs.declared.Token as code
 use Rattle.news_terms.specs.BlockImage.{chunk}
-use Rattle.news_terms.specs.Courses.{Course, IsLaid}
-use Rattle.news_terms.specs.Fronts.{FitsGroup}
+use Rattle.news_terms.specs.Courses.{Course}
 use Rattle.news_terms.specs.Places as places
 use Rattle.news_terms.specs.Places.{Extent, Group, front_after, on_line, size_of}
 use Rattle.news_terms.specs.Token.{Token}
@@ -35,7 +31,8 @@ use Rattle.relay_model.specs.Terms.{Terms}
 use Rattle.relay_model.specs.World.{HasFailedAt}
 use Rattle.block_shelf.specs.Calls.{IsFaultAt}
 use Rattle.block_shelf.specs.Filling.{failures_in}
-use Rattle.block_shelf.specs.Histories.{IsHistoryOf}
+use Rattle.block_shelf.specs.Keeping.{AreLeft}
+use Rattle.block_shelf.specs.Leaving.{AreLeftOf}
 use Rattle.block_shelf.specs.Openings.{Opening}
 use Rattle.block_shelf.specs.Starting.{BuffersKeep}
 use Rattle.buffer_repair.specs.Finding.{buffers_in, remains_in}
@@ -53,14 +50,15 @@ pub record IsLiveText (w : Terms) (begun : ℕ → Course) (one : Kept) : Type 0
       ≤ on_line buffer.blocks one.token.cycle one.token.first + buffer.blocks
 
 -- The buffers that were found again keep, with these buffers and groups, these courses, texts and
--- counts of failures: each text is live, and at a place lies one at most. It is said of honest
--- stores alone.
+-- counts of failures: each text is live, and at a place lies one at most; a crash may leave their
+-- stores. It is said of honest stores alone.
 pub record KeepsFound {S : Type 0} {g : Ghosts S} (found_set : FoundBufferSet S g) (w : Terms)
     (begun : ℕ → Course) (kept : List Kept) (failures : ℕ → ℕ)
     : Type 0 where
   pub texts : BuffersKeep (buffers_in found_set) w begun kept failures
   pub live : All (IsLiveText w begun) kept
   pub places : (buffer cycle first : ℕ) → count_by (is_at buffer cycle first) kept ≤ 1
+  pub left : AreLeft (buffers_in found_set) w begun kept failures
 
 -- Where what is left is a relay's with the groups of these settings, the buffers keep the courses
 -- that the groups are found on, whosever turn it is, and the texts that are found, for whatever
@@ -94,37 +92,8 @@ LeavesRecord settings found_set =
     → AreOnRecord w (courses_left w.groups turns (remains_in found_set))
     (all_texts_left ids (remains_in found_set))
 
--- the tokens of one buffer, of those that were saved
-abbrev pub saved_in : (saved : Token → Bool) → places.Buffer → Token → Bool
-saved_in saved buffer t = t.buffer == buffer.number && saved t
-
--- the store at this place may be what a crash has left of a buffer whose history was what the
--- relay's state says of it
-pub record HasLeft {S : Type 0} (g : Ghosts S) (stores : List S) (groups : List Group)
-    (begun : ℕ → Course) (kept : List Kept) (openings : ℕ → Option Opening)
-    (saved : Token → Bool) (b : ℕ) (buffer : places.Buffer)
-    : Type 0 where
-  pub store : S
-  pub there : slice_get stores b ≡ Some store
-  pub history : History
-  pub is_of_buffer : history.buffer ≡ buffer
-  pub is_said : IsHistoryOf groups begun kept openings history
-  pub left : IsLeftOf history (saved_in saved buffer) (g.blocks store)
-
--- The stores may be what a crash has left of a relay with these buffers and groups, that was on
--- these courses and kept these texts; those that were saved had to be left.
-pub record AreLeftOf {S : Type 0} (g : Ghosts S) (stores : List S) (w : Terms)
-    (begun : ℕ → Course) (kept : List Kept) (openings : ℕ → Option Opening)
-    (saved : Token → Bool)
-    : Type 0 where
-  pub fit : (h : ℕ) (group : Group) → slice_get w.groups h ≡ Some group
-      → All (λ (one : Extent). FitsGroup group one.size) (begun h).articles
-  pub laid : (h : ℕ) (group : Group) → slice_get w.groups h ≡ Some group
-      → IsLaid group (begun h)
-  pub buffers : (b : ℕ) (buffer : places.Buffer) → slice_get w.buffers b ≡ Some buffer
-      → HasLeft g stores w.groups begun kept openings saved b buffer
-
--- what is found of such stores is a relay's with these groups
+-- what is found of stores that a crash has left of a relay with these groups is one's with these
+-- groups
 abbrev pub AreLeftOfGroups : {S : Type 0} (g : Ghosts S) → Buffers → (stores : List S)
     → FoundBufferSet S g → Type 0
 AreLeftOfGroups g settings stores found_set =

@@ -15,7 +15,7 @@ use Rattle.news_terms.specs.Token.{Token}
 use Rattle.relay_model.specs.State.{Kept}
 use Rattle.relay_model.specs.Terms.{Terms}
 use Rattle.block_shelf.specs.Each.{AreEach}
-use Rattle.block_shelf.specs.Stopping.{HoldsTexts}
+use Rattle.block_shelf.specs.Stopping.{HoldsLeft, HoldsTexts}
 use Rattle.block_shelf.specs.declared.starting.StopFault.TheVariants as faults
 use Rattle.block_shelf.specs.declared.starting.Unstarted.{Unstarted}
 use Rattle.buffer_repair.specs.Parts.{buffer_in, store_in}
@@ -29,6 +29,14 @@ HoldsFound {g = g} stop found_set stores =
     (w : Terms) (begun : ℕ → Course) (kept : List Kept) (failures : ℕ → ℕ)
     → KeepsFound found_set w begun kept failures
     → HoldsTexts g stores stop w begun kept failures
+
+-- and a crash may leave them
+abbrev pub HoldsFoundLeft : {S : Type 0} {g : Ghosts S} → (stop : ℕ) → FoundBufferSet S g → List S
+    → Type 0
+HoldsFoundLeft {g = g} stop found_set stores =
+    (w : Terms) (begun : ℕ → Course) (kept : List Kept) (failures : ℕ → ℕ)
+    → KeepsFound found_set w begun kept failures
+    → HoldsLeft g stores stop w begun kept failures
 
 -- what a crash may have left of a store before, it may leave of it now
 abbrev pub StaysLeft : {S : Type 0} (g : Ghosts S) → (old new : S) → Type 0

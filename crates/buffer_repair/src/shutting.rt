@@ -2,7 +2,8 @@
 ghost use Rattle.std.specs.Prelude.{◌≡◌, ◌<◌, ◌+◌, false, IfErr, IfOk, vec_len, vec_capacity};
 ghost use Rattle.cyc_buffer.specs.Head.{is_busy};
 ghost use Rattle.buffer_repair.specs.Parts.{buffer_in};
-ghost use Rattle.buffer_repair.specs.Shutting.{AreShutFound, HoldsFound, IsUnshutFound, ShutsNext};
+ghost use Rattle.buffer_repair.specs.Shutting.{AreShutFound, HoldsFound, HoldsFoundLeft};
+ghost use Rattle.buffer_repair.specs.Shutting.{IsUnshutFound, ShutsNext};
 
 use crate::found_set::FoundBufferSet;
 use block_shelf::{StopFault, Unstarted, number_of};
@@ -15,6 +16,8 @@ impl<S: BlockStore + Drop> FoundBufferSet<S> {
     pub fn shut(self, stop: u64) -> Result<Vec<S>, Unstarted<S>>
         // What was kept over honest stores is held by them.
         ensures held { IfOk result (λ stores. HoldsFound stop self stores.items) }
+        // A crash may leave it.
+        ensures left { IfOk result (λ stores. HoldsFoundLeft stop self stores.items) }
         ensures shut { IfOk result (λ stores. AreShutFound stop self stores.items) }
         // Refused where a device failed; the stores come back, and what a crash may have left
         // before is left.

@@ -37,7 +37,8 @@ module _ (line : Line) (scanned : List Token) (run : Option Token) (n : ℕ)
   pub all_some : (ys : List Token) → ys ≡ tokens → (k : ℕ) (d : Token) → k < length ys
       → 1 ≤ size_of (get_or ys k d).length
   all_some ys same k d inside = live_some (get_or ys k d)
-      (subst (λ (zs : List Token). Contains zs (get_or ys k d)) same (Contains-get_or ys k d inside))
+      (subst (λ (zs : List Token). Contains zs (get_or ys k d)) same
+      (Contains-get_or ys k d inside))
 
   -- and there are no more blocks of them than the front has passed
   pub live_few : (ys : List Token) → ys ≡ tokens → blocks_in ys ≤ passed_on line

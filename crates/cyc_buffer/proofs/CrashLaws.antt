@@ -8,7 +8,8 @@ use Rattle.std.proofs.lemmas.Bool.{cond-false, cond-true}
 use Rattle.news_terms.specs.Places.{Buffer, size_of, on_line}
 use Rattle.news_terms.specs.Token.{Token}
 use Rattle.cyc_buffer.specs.BufferState.{IsSized}
-use Rattle.cyc_buffer.specs.Crash.{IsCrashOf, IsFoundAgain, IsFrontOn, IsLeftOf, IsOfHistory, IsPiece}
+use Rattle.cyc_buffer.specs.Crash.{IsCrashOf, IsFoundAgain, IsFrontOn, IsLeftOf, IsOfHistory}
+use Rattle.cyc_buffer.specs.Crash.{IsPiece}
 use Rattle.cyc_buffer.specs.Crash.{CanBeFound, IsThere, Tells}
 use Rattle.cyc_buffer.specs.History.{Article, Begin, History, begun_at, cycle_of, finished_at}
 use Rattle.cyc_buffer.specs.History.{front_of, head_of, is_at}

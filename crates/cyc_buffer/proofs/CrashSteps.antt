@@ -12,7 +12,8 @@ use Rattle.cyc_block.specs.Store.{block_at}
 use Rattle.cyc_buffer.specs.BufferState.{IsSized}
 use Rattle.cyc_buffer.specs.Crash.{CanBeFound, IsLeftOf, IsOfHistory, IsPiece, IsPieceIn, IsThere}
 use Rattle.cyc_buffer.specs.Crash.{end_on_line}
-use Rattle.cyc_buffer.specs.History.{Article, Begin, History, begun_at, finished_at, front_of, is_at}
+use Rattle.cyc_buffer.specs.History.{Article, Begin, History, begun_at, finished_at, front_of}
+use Rattle.cyc_buffer.specs.History.{is_at}
 use Rattle.cyc_buffer.specs.History.{Writing, new_history, with_begin}
 use Rattle.cyc_buffer.specs.Stopped.{IsLiveToken, block_under}
 use Rattle.cyc_buffer.proofs.CrashLaws.{begun_before, front_in, front_rises, place_past}

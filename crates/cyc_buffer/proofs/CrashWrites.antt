@@ -1,5 +1,6 @@
 -- What a write of a block of the open write leaves, where a crash comes behind it.
-use Rattle.std.proofs.Common.{◌≡◌, ◌≢◌, ◌⊎◌, ◌∙◌, ℕ, ◌+◌, ◌-◌, ◌*◌, ◌^◌, ◌<◌, ◌≤◌, inl, inr, Bool, true}
+use Rattle.std.proofs.Common.{◌≡◌, ◌≢◌, ◌⊎◌, ◌∙◌, ℕ, ◌+◌, ◌-◌, ◌*◌, ◌^◌, ◌<◌, ◌≤◌, inl, inr, Bool}
+use Rattle.std.proofs.Common.{true}
 use Rattle.std.proofs.Common.{refl, sym, ap, subst, arith, List, ◌∷◌, length, min, Option}
 use Rattle.std.proofs.Common.{None, Some}
 use Rattle.std.proofs.Common.{take, drop, get_or}
@@ -18,7 +19,8 @@ use Rattle.cyc_token.specs.declared.Token.{Token}
 use Rattle.cyc_buffer.specs.BufferState.{IsSized, Writes}
 use Rattle.cyc_buffer.specs.Agreement.{HoldsOpen}
 use Rattle.cyc_buffer.specs.Crash.{IsLeftOf, IsPiece, IsPieceIn, IsThere, end_on_line}
-use Rattle.cyc_buffer.specs.History.{Begin, History, Writing, begun_at, finished_at, front_of, head_of}
+use Rattle.cyc_buffer.specs.History.{Begin, History, Writing, begun_at, finished_at, front_of}
+use Rattle.cyc_buffer.specs.History.{head_of}
 use Rattle.cyc_buffer.specs.History.{Article, finish_begins, is_at, with_finish}
 use Rattle.cyc_buffer.specs.Progress.{IsTheOpen, stamp_of, written_of}
 use Rattle.cyc_buffer.specs.declared.buffer_state.Open.{Open}

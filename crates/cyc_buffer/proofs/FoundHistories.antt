@@ -19,7 +19,8 @@ use Rattle.cyc_block.specs.Store.{block_at}
 use Rattle.cyc_token.specs.Token.{token_view}
 use Rattle.cyc_token.specs.declared.Token.{Token}
 use Rattle.cyc_buffer.specs.BufferState.{IsSized}
-use Rattle.cyc_buffer.specs.Crash.{AreOnLine, CountsFound, IsFoundAgain, IsFrontOn, ListsFound, Tells}
+use Rattle.cyc_buffer.specs.Crash.{AreOnLine, CountsFound, IsFoundAgain, IsFrontOn, ListsFound}
+use Rattle.cyc_buffer.specs.Crash.{Tells}
 use Rattle.cyc_buffer.specs.FoundHistory.{article_in, begins_on, blocks_before, found_begin}
 use Rattle.cyc_buffer.specs.FoundHistory.{found_history, lost, with_lost}
 use Rattle.cyc_buffer.specs.History.{Article, Begin, History, cycle_of, finished_at, head_of, is_at}
@@ -118,7 +119,8 @@ record IsMade (buffer : Buffer) (blocks : List (List ℕ)) (begins : List Begin)
   sizes : AllByRecursion (IsSized buffer.blocks) begins
   finds : (t : Token) → Contains done t
       → finished_at buffer begins t.cycle t.first ≡ Some (article_in blocks t)
-  only : (cycle first : ℕ) (article : Article) → finished_at buffer begins cycle first ≡ Some article
+  only : (cycle first : ℕ) (article : Article) → finished_at buffer begins cycle first ≡ Some
+      article
       → (t : Token) × Contains done t × (t.cycle ≡ cycle) × (t.first ≡ first)
       × (article ≡ article_in blocks t)
   begun : (t : Token) → Contains done t → buffer.first_cycle ≤ t.cycle
@@ -331,7 +333,8 @@ module _ (buffer : Buffer) (blocks : List (List ℕ)) (cycle used : ℕ) (tokens
   made : IsMade buffer blocks h.begins (blocks_before buffer cycle used) tokens
   made = made_all buffer blocks some cycle used (blocks_before buffer cycle used) tokens
       (λ t c. (lists.all t).0 c) [] 0 [] (made_none buffer blocks)
-      (subst (λ n. AreOnLine buffer.blocks (0 + on_line buffer.blocks buffer.first_cycle 0) n tokens)
+      (subst (λ n. AreOnLine buffer.blocks (0 + on_line buffer.blocks buffer.first_cycle 0) n
+      tokens)
       (sym (line_of buffer blocks cycle used first_cycle))
       (subst (λ n. AreOnLine buffer.blocks n (on_line buffer.blocks cycle used) tokens)
       (omega arith) lists.order))
@@ -342,7 +345,8 @@ module _ (buffer : Buffer) (blocks : List (List ℕ)) (cycle used : ℕ) (tokens
   front_is : (cycle_of h ≡ cycle) × (used_of h ≡ used)
   front_is = elim front.reached [
     | inl r ↦
-        let one = line_one buffer.blocks last_head.run last_head.used (cycle - buffer.first_cycle) used
+        let one = line_one buffer.blocks last_head.run last_head.used (cycle - buffer.first_cycle)
+        used
         (elim made.tight.some [
           | inl s ↦ s
           | inr s ↦ omega (
@@ -361,7 +365,11 @@ module _ (buffer : Buffer) (blocks : List (List ℕ)) (cycle used : ℕ) (tokens
         omega (arith, r.used_is, ap (λ n. n * buffer.blocks) (none_over r.cycle_is)) in
         elim made.tight.some [
           | inl s ↦ absurd (omega (arith, s, made.tight.head, zero_at))
-          | inr s ↦ (omega (arith, s, r.cycle_is), omega (arith, made.tight.head, zero_at, r.used_is))
+          | inr s ↦ (
+            omega (arith, s, r.cycle_is),
+            omega
+                (arith, made.tight.head, zero_at, r.used_is),
+          )
         ]
   ]
     where
@@ -401,7 +409,8 @@ module _ (buffer : Buffer) (blocks : List (List ℕ)) (cycle used : ℕ) (tokens
   article_blocks : (since first k : ℕ) (article : Article)
       → finished_at buffer h.begins since first ≡ Some article
       → k < size_of (length article.text)
-      → block_at blocks (first + k) ≡ block_image (block_of since first article.class article.text k)
+      → block_at blocks (first + k) ≡ block_image
+      (block_of since first article.class article.text k)
   article_blocks since first k article e inside =
       let o = made.only since first article e in
       let t = o.0 in

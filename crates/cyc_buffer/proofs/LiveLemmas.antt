@@ -278,7 +278,8 @@ cycle_end blocks (suc n) some = omega (arith, ap (λ m. m * blocks) (before_suc 
     before_suc n = omega arith
 
 -- the front of a cycle isn't before that of an earlier one
-pub cycle_rises : (blocks one other : ℕ) → one ≤ other → on_line blocks one 0 ≤ on_line blocks other 0
+pub cycle_rises : (blocks one other : ℕ) → one ≤ other → on_line blocks one 0 ≤ on_line blocks
+    other 0
 cycle_rises blocks one other h = omega (arith, mul_le blocks one other h)
   where
     mul_le : (blocks one other : ℕ) → one ≤ other → one * blocks ≤ other * blocks

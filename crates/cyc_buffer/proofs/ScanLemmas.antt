@@ -171,7 +171,8 @@ module _ (buffer : Buffer) (cycle used : ℕ) (tokens : List Token) (run : Optio
           listed = has.listed;
           all = λ t there ends. elim (ends_by (t.first + size_of t.length) ends) [
             | inl l ↦ has.all t there l
-            | inr e ↦ let p = last_piece (token_view t) there e in absurd (none (token_view t) p.0 p.1 p.2)
+            | inr e ↦ let p = last_piece (token_view t) there e in absurd
+                (none (token_view t) p.0 p.1 p.2)
           ];
           under_way = tt;
           only = λ t before behind up.
@@ -246,7 +247,8 @@ module _ (buffer : Buffer) (cycle used : ℕ) (tokens : List Token) (run : Optio
             | inl l ↦ has.all t there l
             | inr e ↦
                 let same = this_ends t there e in
-                let there_too = subst (λ (v : Token). IsThere buffer blocks (token_view v)) same there in
+                let there_too = subst (λ (v : Token). IsThere buffer blocks (token_view v)) same
+                there in
                 absurd (not_up (λ k before inside. there_too.pieces k inside)
                 (omega (arith, e, ap (λ (v : Token). v.first + size_of v.length) same)))
           ];
@@ -373,7 +375,8 @@ module _ (buffer : Buffer) (cycle used : ℕ) (tokens : List Token) (run : Optio
   module _ (on : (u.first ≡ n) ⊎ (run ≡ Some u)) where
     pub take_on_sound : n + 1 < u.first + size_of u.length
         → IsScan buffer cycle' used' tokens (Some u) (n + 1)
-    take_on_sound left = sound_on buffer cycle used tokens run n was cycle' used' u rises first_cycle
+    take_on_sound left = sound_on buffer cycle used tokens run n was cycle' used' u rises
+        first_cycle
         on within left
 
     pub take_on : n + 1 < u.first + size_of u.length → (blocks : List (List ℕ))

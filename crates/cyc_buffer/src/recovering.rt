@@ -105,11 +105,12 @@ impl<S: BlockStore> Buffer<S> {
           blocks = length (S.blocks store);
           first_cycle = first_cycle;
         }) started.stop) }
-        ensures reason { S.honest store → IfErr result (λ refused. IsUnfound (S.heads store) (record {
-          number = number;
-          blocks = length (S.blocks store);
-          first_cycle = first_cycle;
-        }) refused.error) }
+        ensures reason { S.honest store → IfErr result
+            (λ refused. IsUnfound (S.heads store) (record {
+              number = number;
+              blocks = length (S.blocks store);
+              first_cycle = first_cycle;
+            }) refused.error) }
         // The buffer is idle, has not opened its head yet, and remembers the stop.
         ensures unopened { IfOk result (λ started. has_open_head (inside started.buffer) ≡ false) }
         ensures idle { IfOk result (λ started. is_busy (inside started.buffer) ≡ false) }

@@ -1,5 +1,6 @@
 //! What the blocks of a device say, read in order, of a buffer that was not stopped.
-ghost use Rattle.std.specs.Prelude.{◌≡◌, ◌⊎◌, ◌+◌, ◌^◌, ◌≤◌, ◌<◌, List, [], ℕ, None, Some, length, true};
+ghost use Rattle.std.specs.Prelude.{◌≡◌, ◌⊎◌, ◌+◌, ◌^◌, ◌≤◌, ◌<◌, List, [], ℕ, None, Some, length};
+ghost use Rattle.std.specs.Prelude.{true};
 ghost use Rattle.std.specs.Prelude.{false, IfErr, IfOk, OnOk};
 ghost use Rattle.news_terms.specs.Places.{on_line, size_of};
 ghost use Rattle.cyc_block.specs.Store.{block_at};

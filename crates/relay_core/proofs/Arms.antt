@@ -1,6 +1,6 @@
 -- The arms of `share` that are one call of the shards, the feeds or the slot.
-use Rattle.std.proofs.Common.{◌≡◌, ◌<◌, ◌≤◌, ◌∙◌, ℕ, true, List, Option, None, Some}
-use Rattle.std.proofs.Common.{arith, refl, sym, ap, subst}
+use Rattle.std.proofs.Common.{◌≡◌, ◌<◌, ◌≤◌, ◌∙◌, ℕ, true, List, Option, None, Some, arith, refl}
+use Rattle.std.proofs.Common.{sym, ap, subst, Bool}
 use Rattle.std.proofs.lemmas.List.{length-map}
 use Rattle.std.specs.Prelude.{IfOk, IfSome, OnErr, Result, Ok, Err, length, map, option_map}
 use Rattle.std.specs.Prelude.{slice_get, slice_index}
@@ -45,6 +45,7 @@ use Rattle.relay_core.proofs.Feeds.{ring_at}
 use Rattle.relay_core.specs.Agreement.{AgreesBut, PeerIs, ring_sizes}
 use Rattle.relay_core.specs.Sharing.{AskFits, Gives, LeavesAll, SharesStep, queue_answer}
 use Rattle.relay_core.specs.declared.system.System.{System}
+use Rattle.block_shelf.specs.Leaving.{honestly}
 
 -- nothing that is shared
 
@@ -97,7 +98,7 @@ module _ {S : Type 0} {g : Ghosts S} (n now : ℕ) (old : System S g) (peer : Pe
   -- nothing is shared
   pub none_shared : (step : Step) → step ≡ steps.Nothing
       → SharesStep n now step old peer answers.Nothing old peer
-  none_shared step e = λ x m d gathered but slot fits planned asked some.
+  none_shared step e = λ leaving x m d gathered but slot fits planned asked some.
       let none = subst (λ (one : Step). IsStepOf one d.ask) e asked in
       let given = none_gives w x n now gathered d.ask none in (
         record {
@@ -112,9 +113,10 @@ module _ {S : Type 0} {g : Ghosts S} (n now : ℕ) (old : System S g) (peer : Pe
       )
 
   -- the claim of one id is changed
-  claim_but : (x : World) (new : Shards) (id : List ℕ) (claim : Claim) → AgreesBut true w n old x
+  claim_but : {leaving : Bool} (x : World) (new : Shards) (id : List ℕ) (claim : Claim)
+      → AgreesBut (honestly leaving) w n old x
       → KeepsAll new (put_id x.state.claim id claim)
-      → AgreesBut true w n (record old { shards = new }) (with_claim x id claim)
+      → AgreesBut (honestly leaving) w n (record old { shards = new }) (with_claim x id claim)
   claim_but x new id claim but keeps =
       record {
         core = record {
@@ -137,9 +139,9 @@ module _ {S : Type 0} {g : Ghosts S} (n now : ℕ) (old : System S g) (peer : Pe
       → (step : Step) → step ≡ steps.Offer id
       → SharesStep n now step old peer (answers.Offer answer) (record old { shards = new }) peer
   offer_shared id answer new is changes step e =
-      λ x m d gathered but slot fits planned asked some.
+      λ leaving x m d gathered but slot fits planned asked some.
       let one = subst (λ (s : Step). IsStepOf s d.ask) e asked in
-      let P : Ask → Type 0 = λ ask. Gives w n now ask gathered x (answers.Offer answer)
+      let P : Ask → Type 0 = λ ask. Gives leaving w n now ask gathered x (answers.Offer answer)
       (record old { shards = new }) peer.slot in (
         subst P (sym one.1) (record {
           told = shares.ToOffer (offer_view answer);
@@ -158,9 +160,9 @@ module _ {S : Type 0} {g : Ghosts S} (n now : ℕ) (old : System S g) (peer : Pe
       (λ claim. option_map token_view answer ≡ claims.look_answer claim)
       → (step : Step) → step ≡ steps.Look id
       → SharesStep n now step old peer (answers.Look answer) old peer
-  look_shared id answer is step e = λ x m d gathered but slot fits planned asked some.
+  look_shared id answer is step e = λ leaving x m d gathered but slot fits planned asked some.
       let one = subst (λ (s : Step). IsStepOf s d.ask) e asked in
-      let P : Ask → Type 0 = λ ask. Gives w n now ask gathered x (answers.Look answer) old
+      let P : Ask → Type 0 = λ ask. Gives leaving w n now ask gathered x (answers.Look answer) old
       peer.slot in (
         subst P (sym one.1) (record {
           told = shares.ToLook (option_map token_view answer);
@@ -178,9 +180,9 @@ module _ {S : Type 0} {g : Ghosts S} (n now : ℕ) (old : System S g) (peer : Pe
       → ChangesClaim (KeepsAll old.shards) (KeepsAll new) id (claims.after_refuse n now)
       → (step : Step) → step ≡ steps.Refuse id
       → SharesStep n now step old peer answers.Nothing (record old { shards = new }) peer
-  refuse_shared id new changes step e = λ x m d gathered but slot fits planned asked some.
+  refuse_shared id new changes step e = λ leaving x m d gathered but slot fits planned asked some.
       let one = subst (λ (s : Step). IsStepOf s d.ask) e asked in
-      let P : Ask → Type 0 = λ ask. Gives w n now ask gathered x answers.Nothing
+      let P : Ask → Type 0 = λ ask. Gives leaving w n now ask gathered x answers.Nothing
       (record old { shards = new }) peer.slot in (
         subst P (sym one.1) (record {
           told = shares.Nothing;
@@ -198,9 +200,9 @@ module _ {S : Type 0} {g : Ghosts S} (n now : ℕ) (old : System S g) (peer : Pe
       → ChangesClaim (KeepsAll old.shards) (KeepsAll new) id (claims.after_release n)
       → (step : Step) → step ≡ steps.Release id
       → SharesStep n now step old peer answers.Nothing (record old { shards = new }) peer
-  release_shared id new changes step e = λ x m d gathered but slot fits planned asked some.
+  release_shared id new changes step e = λ leaving x m d gathered but slot fits planned asked some.
       let one = subst (λ (s : Step). IsStepOf s d.ask) e asked in
-      let P : Ask → Type 0 = λ ask. Gives w n now ask gathered x answers.Nothing
+      let P : Ask → Type 0 = λ ask. Gives leaving w n now ask gathered x answers.Nothing
       (record old { shards = new }) peer.slot in (
         subst P (sym one) (record {
           told = shares.Nothing;
@@ -221,9 +223,9 @@ module _ {S : Type 0} {g : Ghosts S} (n now : ℕ) (old : System S g) (peer : Pe
       → (step : Step) → step ≡ steps.Take id
       → SharesStep n now step old peer (answers.Take answer) (record old { shards = new }) peer
   take_shared id answer new is changes step e =
-      λ x m d gathered but slot fits planned asked some.
+      λ leaving x m d gathered but slot fits planned asked some.
       let one = subst (λ (s : Step). IsStepOf s d.ask) e asked in
-      let P : Ask → Type 0 = λ ask. Gives w n now ask gathered x (answers.Take answer)
+      let P : Ask → Type 0 = λ ask. Gives leaving w n now ask gathered x (answers.Take answer)
       (record old { shards = new }) peer.slot in (
         subst P (sym one.2) (record {
           told = shares.ToTake (take_view answer);
@@ -241,7 +243,7 @@ module _ {S : Type 0} {g : Ghosts S} (n now : ℕ) (old : System S g) (peer : Pe
       → TakesItems old.desk f most new → (step : Step) → step ≡ steps.TakeQueue f most
       → SharesStep n now step old peer (answers.Queue taken) (record old { desk = new }) peer
   items_shared f most taken new gives keeps step e =
-      λ x m d gathered but slot fits planned asked some.
+      λ leaving x m d gathered but slot fits planned asked some.
       let one = subst (λ (s : Step). IsStepOf s d.ask) e asked in
       let there : f < length w.feeds = subst (λ (ask : Ask). AskFits w x ask gathered) one fits in
       let ring : slice_index (ring_sizes w) f ≡ ring_of (slice_get w.feeds f) =
@@ -251,7 +253,7 @@ module _ {S : Type 0} {g : Ghosts S} (n now : ℕ) (old : System S g) (peer : Pe
       let kept = subst (λ (r : ℕ). KeepsFeeds new (ring_sizes w)
       (put_at x.state.feed f (after_take_of r most (x.state.feed f)))) ring
       (keeps (ring_sizes w) x.state.feed but.core.desk) in
-      let P : Ask → Type 0 = λ ask. Gives w n now ask gathered x (answers.Queue taken)
+      let P : Ask → Type 0 = λ ask. Gives leaving w n now ask gathered x (answers.Queue taken)
       (record old { desk = new }) peer.slot in (
         subst P (sym one) (record {
           told = shares.ToTakeQueue taken.missed (map item_view taken.items.items);
@@ -294,13 +296,14 @@ module _ {S : Type 0} {g : Ghosts S} (n now : ℕ) (old : System S g) (peer : Pe
           → SharesStep n now step old peer (queue_answer r) (record old { desk = new }) peer
       by_result (Ok (Some taken)) gives keeps none =
           items_shared f most taken new gives keeps step e
-      by_result (Ok None) gives keeps none = λ x m d gathered but slot fits planned asked some.
+      by_result (Ok None) gives keeps none =
+          λ leaving x m d gathered but slot fits planned asked some.
           let one = subst (λ (s : Step). IsStepOf s d.ask) e asked in
           let there : f < length w.feeds =
           subst (λ (ask : Ask). AskFits w x ask gathered) one fits in
           absurd (no_ring w old.desk x.state.feed f but.core.desk there (none refl))
       by_result (Err error) gives keeps none =
-          λ x m d gathered but slot fits planned asked some. absurd (some refl)
+          λ leaving x m d gathered but slot fits planned asked some. absurd (some refl)
 
   -- want of memory leaves the desk
   pub queue_left : (result : Result (Option Taken) AllocError) (answer : Answer) (new : FeedDesk)
@@ -321,9 +324,10 @@ module _ {S : Type 0} {g : Ghosts S} (n now : ℕ) (old : System S g) (peer : Pe
 
   slot_taken : (step : Step) → step ≡ steps.Slot
       → SharesStep n now step old peer (answers.Slot peer.slot) old (record peer { slot = None })
-  slot_taken step e = λ x m d gathered but slot fits planned asked some.
+  slot_taken step e = λ leaving x m d gathered but slot fits planned asked some.
       let one = subst (λ (s : Step). IsStepOf s d.ask) e asked in
-      let P : Ask → Type 0 = λ ask. Gives w n now ask gathered x (answers.Slot peer.slot) old
+      let P : Ask
+      → Type 0 = λ ask. Gives leaving w n now ask gathered x (answers.Slot peer.slot) old
       None in (
         subst P (sym one.2) (record {
           told = shares.InSlot (option_map outcome_view peer.slot);

@@ -1,12 +1,14 @@
 -- The relay that begins agrees with the empty world.
-use Rattle.std.proofs.Common.{◌≡◌, ℕ, suc, zero, Bool, List, [], ◌∷◌, Option, None}
-use Rattle.std.proofs.Common.{refl, sym, ap, subst, ◌∙◌, arith}
+use Rattle.std.proofs.Common.{◌≡◌, ℕ, suc, zero, Bool, List, [], ◌∷◌, Option, None, refl, sym, ap}
+use Rattle.std.proofs.Common.{subst, ◌∙◌, arith, true, All}
 use Rattle.std.proofs.lemmas.List.{length-map}
+use Rattle.std.proofs.lemmas.Bool.{false≢true}
 use Rattle.std.specs.List.{All}
 use Rattle.std.specs.Prelude.{length, map, slice_get}
 use Rattle.article_verdict.specs.Config.{terms_of}
 use Rattle.block_shelf.specs.Calls.{token_of}
 use Rattle.block_shelf.specs.Filling.{KeepsNothing, failures_in}
+use Rattle.block_shelf.specs.Leaving.{IsFresh, Trust, honestly, plain}
 use Rattle.buffer_group.specs.Jobs.{job_view}
 use Rattle.buffer_group.specs.Writers.{writer_view}
 use Rattle.cyc_block.specs.declared.store.BlockStore.{Ghosts}
@@ -23,12 +25,13 @@ use Rattle.relay_model.specs.World as world
 use Rattle.relay_model.specs.World.{empty_world}
 use Rattle.relay_core.specs.Peers.{NoPeers, peer_at}
 use Rattle.relay_core.specs.declared.peers.Peer.{Peer}
-use Rattle.relay_core.specs.Agreement.{AgreesBy, GroupWriterIs, PeerIs}
+use Rattle.relay_core.specs.Agreement.{AgreesBy, GroupWriterIs, PeerIs, AgreesAs}
 use Rattle.relay_core.specs.Beginning.{AreIdle, BeginsOver, IsIdle}
 use Rattle.relay_core.specs.Expiring.{expirer_view}
 use Rattle.relay_core.specs.Stopping.{stop_of}
 use Rattle.relay_core.specs.declared.system.GroupWriter.{GroupWriter}
 use Rattle.relay_core.specs.declared.system.System.{System}
+use Rattle.relay_core.proofs.Left.{all_honest}
 
 -- idle group writers have no jobs, and neither have groups that aren't there
 pub idle_group_writers : (group_writers : List GroupWriter) → All IsIdle group_writers → (h : ℕ)
@@ -75,24 +78,33 @@ module _ {S : Type 0} {g : Ghosts S} (system : System S g) (config : Config) (st
         record {
           config_is = same;
           agrees = λ trusted honest.
-              let failures = failures_in g stores in
-              let C : Config → Type 0 = λ c. AgreesBy trusted (terms_of c) system
-              (empty_world failures) in
-              subst C (sym same) (record {
-                core = record {
-                  newest = sym newest;
-                  claims = claims;
-                  count = group_writers.count_is ∙ sym (groups_count config);
-                  group_writers = idle_group_writers system.group_writers.items group_writers.each;
-                  desk = subst (λ (sizes : List ℕ). KeepsFeeds system.desk sizes (λ f. no_feed))
-                      (rings_are config.relay.feeds.items) feeds;
-                  expirer = sym expirer;
-                  buffer_set = texts trusted honest w refl refl;
-                };
-                peers = λ s. nobody trusted w (peer_at system.peers s) (peers s);
-                well = empty_well w failures;
-              });
+              begins_as (plain trusted) honest (λ never. absurd (false≢true never));
+          leaves = λ fresh.
+              begins_as (honestly true) (λ yes. all_honest g stores fresh) (λ yes. fresh);
           laned = group_writers.count_is ∙ sym (groups_count config)
               ∙ ap (λ (c : Config). length (terms_of c).groups) (sym same);
           stop_is = stop;
         }
+      where
+        begins_as : (trusted : Trust) → (trusted.honest ≡ true → All g.honest stores)
+            → (trusted.left ≡ true → All (IsFresh g) stores)
+            → AgreesAs trusted system (empty_world (failures_in g stores))
+        begins_as trusted honest fresh =
+            let w : Terms = terms_of config in
+            let failures = failures_in g stores in
+            let C : Config → Type 0 = λ c. AgreesBy trusted (terms_of c) system
+            (empty_world failures) in
+            subst C (sym same) (record {
+              core = record {
+                newest = sym newest;
+                claims = claims;
+                count = group_writers.count_is ∙ sym (groups_count config);
+                group_writers = idle_group_writers system.group_writers.items group_writers.each;
+                desk = subst (λ (sizes : List ℕ). KeepsFeeds system.desk sizes (λ f. no_feed))
+                    (rings_are config.relay.feeds.items) feeds;
+                expirer = sym expirer;
+                buffer_set = texts trusted honest fresh w refl refl;
+              };
+              peers = λ s. nobody trusted.honest w (peer_at system.peers s) (peers s);
+              well = empty_well w failures;
+            })

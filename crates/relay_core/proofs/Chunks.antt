@@ -1,5 +1,5 @@
 -- What was read of a block is what the buffer set found.
-use Rattle.std.proofs.Common.{◌≡◌, ℕ, true, List, Ok, Err, refl, sym, ap, subst, ◌∙◌}
+use Rattle.std.proofs.Common.{◌≡◌, ℕ, List, Ok, Err, refl, sym, ap, subst, ◌∙◌}
 use Rattle.std.specs.Prelude.{Result}
 use Rattle.article_fetch.specs.Chunks.{chunk_view}
 use Rattle.article_fetch.specs.declared.chunk.Chunk.{Chunk}
@@ -7,6 +7,7 @@ use Rattle.article_fetch.specs.declared.chunk.Chunk.TheVariants as chunks
 use Rattle.block_shelf.specs.Reading.{BlockRead, IsFoundOf, ReadsOn}
 use Rattle.block_shelf.specs.Reading as blocks
 use Rattle.block_shelf.specs.declared.buffer_set.BufferSet.{BufferSet}
+use Rattle.block_shelf.specs.Leaving.{honestly}
 use Rattle.cyc_block.specs.declared.store.BlockStore.{Ghosts}
 use Rattle.cyc_buffer.specs.declared.answers.BufError.{BufError}
 use Rattle.cyc_buffer.specs.declared.answers.Fault.{Fault}
@@ -47,11 +48,11 @@ module _ {S : Type 0} {g : Ghosts S} (token : Token) (k : ℕ) (old : BufferSet 
   -- a chunk is what the buffer set's read gave
   pub chunk_read : (read : Chunk) → read ≡ chunk_by result
       → ReadsOn token k old result slice new → ReadsChunk token k old read new
-  chunk_read read shows reads w σ openings failures keeps within =
-      by (reads true w σ openings failures keeps within)
+  chunk_read read shows reads leaving w σ openings failures keeps within =
+      by (reads (honestly leaving) w σ openings failures keeps within)
     where
-      by : BlockRead true w σ openings failures token k result slice new
-          → ChunkRead w σ openings failures token k read new
+      by : BlockRead (honestly leaving) w σ openings failures token k result slice new
+          → ChunkRead leaving w σ openings failures token k read new
       by (blocks.HasFound one said texts trusted decides nowhere) =
           let P : Chunk → Type 0 = λ c. IsChunkOf w σ token k c (fetched w σ token) in
           HasFound texts (subst P (sym (shows ∙ ap chunk_by said))

@@ -10,7 +10,7 @@ use Rattle.relay_model.specs.Run.{is_there}
 use Rattle.relay_model.specs.State.{Phase}
 use Rattle.relay_core.specs.Peers.{TakesPeer, session_at}
 use Rattle.relay_core.specs.Restarting.{RefusedAs}
-use Rattle.relay_core.specs.Steps.{Steps}
+use Rattle.relay_core.specs.Steps.{StepsAs}
 use Rattle.relay_core.specs.Views.{event_view}
 use Rattle.relay_core.specs.declared.event.Event.{Event}
 use Rattle.relay_core.specs.declared.event.Output.{Output}
@@ -22,7 +22,7 @@ module _ {S : Type 0} {g : Ghosts S} (old : System S g) where
   -- the event is stepped, or refused for the right reason
   abbrev pub IsHad : Event → Output → System S g → Type 0
   IsHad event output new =
-      Steps (event_view event) old output new × RefusedAs (event_view event) old output new
+      StepsAs (event_view event) old output new × RefusedAs (event_view event) old output new
 
   -- so is that of an arm
   pub had_as : (event one : Event) (output : Output) (new : System S g) → event ≡ one

@@ -1,40 +1,28 @@
 -- How far buffers are filled, one after the other, and what a configuration asks of a history.
-use Rattle.std.proofs.Common.{◌≡◌, ◌∙◌, ◌<◌, ◌≤◌, ◌+◌, ◌++◌, ℕ, List, [], ◌∷◌, Option, None, Some}
-use Rattle.std.proofs.Common.{refl, sym, ap, arith, length, map, take, get_or, slice_get}
-use Rattle.std.proofs.Common.{append-nil, ◌-◌}
+use Rattle.std.proofs.Common.{◌≡◌, ◌∙◌, ◌<◌, ◌≤◌, ◌+◌, ◌++◌, ℕ, List, [], ◌∷◌, None, Some, refl}
+use Rattle.std.proofs.Common.{sym, ap, arith, length, map, take, get_or, slice_get, append-nil, ◌-◌}
 use Rattle.std.proofs.Common.{Bool, true, false, leb, ltb, not}
 use Rattle.std.proofs.lemmas.Bool.{le-leb, ltb-false, ltb-true}
 use Rattle.std.proofs.lemmas.Bool.Decides.{nat_tests}
-use Rattle.std.proofs.lemmas.List.{length-append, length-map, map_push, take_all, take_more}
-use Rattle.std.proofs.lemmas.List.FromFn.{length-enumerate_from}
+use Rattle.std.proofs.lemmas.List.{length-append, map_push, take_more}
 use Rattle.std.proofs.lemmas.List.Sums.{sum_by-cons}
-use Rattle.std.proofs.lemmas.Simd.{map-map}
-use Rattle.std.proofs.lemmas.Option.{get_or_from_slice_get, none-some, same_Some, slice_get-get_or}
+use Rattle.std.proofs.lemmas.Option.{get_or_from_slice_get}
 use Rattle.std.proofs.lemmas.Option.{slice_get-map, slice_get_past, slice_get_within}
-use Rattle.std.specs.List.{enumerate_from, list_any}
+use Rattle.std.specs.List.{list_any}
 use Rattle.std.specs.Prelude.{option_map}
-use Rattle.block_shelf.proofs.NewBufferSet.{members_more, numbered_view}
+use Rattle.block_shelf.proofs.NewBufferSet.{members_more}
 use Rattle.block_shelf.specs.Filling.{members}
-use Rattle.block_shelf.specs.Figures.{figures_view}
-use Rattle.block_shelf.specs.declared.figures.BufferFigures.{BufferFigures}
-use Rattle.news_terms.specs.Places.{Buffer, Group, on_line}
+use Rattle.news_terms.specs.Places.{Group, on_line}
 use Rattle.news_terms.specs.Token.{Token}
 use Rattle.news_terms.proofs.ListPlaces.{there_within}
 use Rattle.relay_conf.specs.Places.{numbered_buffer}
-use Rattle.relay_conf.specs.Settings.{places_of_buffers}
 use Rattle.relay_conf.specs.declared.cycbuff.BufferConf.{BufferConf}
-use Rattle.relay_conf.specs.declared.settings.Buffers.{Buffers}
 use Rattle.relay_facts.proofs.BufferCount.{buffers_in, few_buffers}
 use Rattle.relay_facts.proofs.Sums.{term_within}
 use Rattle.relay_facts.specs.Sound.{IsSound}
-use Rattle.relay_model.specs.Figures.{buffer_figures}
-use Rattle.relay_model.specs.Figures as model
-use Rattle.relay_model.specs.State.{State}
 use Rattle.relay_model.specs.Terms.{Terms}
-use Rattle.relay_core.proofs.Reporting.{numbered_more}
 use Rattle.cyc_buffer.specs.Filled.{Filled, filled_view}
-use Rattle.relay_core.specs.Ahead.{all_stored, is_past}
-use Rattle.relay_core.specs.Ahead.{is_unbegun}
+use Rattle.relay_core.specs.Ahead.{all_stored, is_past, is_unbegun}
 use Rattle.relay_core.specs.Desks.{members_of}
 use Rattle.cyc_buffer.specs.declared.filled.Filled as code
 

@@ -1,6 +1,6 @@
 -- An Expire reads a front, or forgets.
-use Rattle.std.proofs.Common.{◌≡◌, ◌<◌, ◌≤◌, ◌++◌, ℕ, true, false, List, [], ◌∷◌}
-use Rattle.std.proofs.Common.{Option, None, Some, refl, sym, ap, subst, ◌∙◌, arith}
+use Rattle.std.proofs.Common.{◌≡◌, ◌<◌, ◌≤◌, ◌++◌, ℕ, true, false, List, [], ◌∷◌, Option, None}
+use Rattle.std.proofs.Common.{Some, refl, sym, ap, subst, ◌∙◌, arith, Bool}
 use Rattle.std.proofs.lemmas.Bool.{le-leb, le-ltb, lt-leb, lt-ltb}
 use Rattle.std.proofs.lemmas.List.{length-map, map-append}
 use Rattle.std.proofs.lemmas.List.FromFn.{length-enumerate_from}
@@ -11,6 +11,7 @@ use Rattle.article_verdict.proofs.SoundTerms.{are_sound}
 use Rattle.article_verdict.specs.Config.{terms_of}
 use Rattle.block_shelf.specs.Reading.{IsFrontAt}
 use Rattle.block_shelf.specs.declared.buffer_set.BufferSet.{BufferSet}
+use Rattle.block_shelf.specs.Leaving.{honestly}
 use Rattle.cyc_block.specs.declared.store.BlockStore.{Ghosts}
 use Rattle.cyc_buffer.specs.declared.answers.Front.{Front}
 use Rattle.id_history.specs.Expiry.{passed_view}
@@ -29,16 +30,15 @@ use Rattle.relay_model.specs.Run.{passed_of, reads_front}
 use Rattle.relay_model.specs.Terms.{Terms, last_moment, shard_count}
 use Rattle.relay_model.specs.World as world
 use Rattle.relay_model.specs.World.{World}
-use Rattle.relay_core.specs.Agreement.{Agrees}
-use Rattle.relay_core.specs.Expiring.{Forgets, IsNextFront, expirer_view, fronts_of}
-use Rattle.relay_core.specs.Expiring.{stage_view}
-use Rattle.relay_core.specs.Steps.{Steps}
+use Rattle.relay_core.specs.Expiring.{Forgets, IsNextFront, expirer_view, fronts_of, stage_view}
 use Rattle.relay_core.specs.declared.event.CoreError.TheVariants as faults
 use Rattle.relay_core.specs.declared.event.Output.TheVariants as outputs
 use Rattle.relay_core.specs.declared.expiring.Expirer.{Expirer}
 use Rattle.relay_core.specs.declared.expiring.Stage.{Stage}
 use Rattle.relay_core.specs.declared.expiring.Stage.TheVariants as stages
 use Rattle.relay_core.specs.declared.system.System.{System}
+use Rattle.relay_core.specs.Agreement.{AgreesAs}
+use Rattle.relay_core.specs.Steps.{StepsAs}
 use Rattle.relay_core.proofs.Turning.{refused}
 
 some_none : {A : Type 0} {x : A} → Some x ≡ None → ⊥
@@ -117,24 +117,25 @@ module _ {S : Type 0} {g : Ghosts S} (s : System S g) (shard now : ℕ) where
 
   -- no such shard
   pub no_shard : shard_count ≤ shard
-      → Steps (run.Expire shard now) s (outputs.Refused faults.NoShard) s
+      → StepsAs (run.Expire shard now) s (outputs.Refused faults.NoShard) s
   no_shard past =
-      refused (run.Expire shard now) faults.NoShard s (λ x agrees. is_no_shard shard now past)
+      refused (run.Expire shard now) faults.NoShard s
+      (λ leaving x agrees. is_no_shard shard now past)
 
   -- too late
   pub late_expire : shard < shard_count → last_moment < now
-      → Steps (run.Expire shard now) s (outputs.Refused faults.BadMoment) s
+      → StepsAs (run.Expire shard now) s (outputs.Refused faults.BadMoment) s
   late_expire within late =
-      refused (run.Expire shard now) faults.BadMoment s (λ x agrees.
+      refused (run.Expire shard now) faults.BadMoment s (λ leaving x agrees.
       is_late shard now within late)
 
   -- an Expire is had
   expires : (shards : Shards) (expirer : Expirer) → shard < shard_count → now ≤ last_moment
-      → ((x : World) → Agrees true s x → Expires x shards expirer)
-      → Steps (run.Expire shard now) s outputs.Quiet
+      → ((leaving : Bool) (x : World) → AgreesAs (honestly leaving) s x → Expires x shards expirer)
+      → StepsAs (run.Expire shard now) s outputs.Quiet
       (record s { shards = shards; expirer = expirer })
-  expires shards expirer within early goes = λ x agrees.
-      let one = goes x agrees in
+  expires shards expirer within early goes = λ leaving x agrees.
+      let one = goes leaving x agrees in
       let after = gone_on x one.claim one.to in
       let e : after ≡ expired w x shard now x.work.expirer =
       sym one.world_is
@@ -177,12 +178,12 @@ module _ {S : Type 0} {g : Ghosts S} (s : System S g) (shard now : ℕ) where
       → IsNextFront s.buffer_set s.expirer answer → answer ≡ Some front
       → expirer_view expirer
       ≡ world.Reading (map passed_view (fronts_of s.expirer ++ front ∷ []))
-      → Steps (run.Expire shard now) s outputs.Quiet (record s { expirer = expirer })
+      → StepsAs (run.Expire shard now) s outputs.Quiet (record s { expirer = expirer })
   front_read answer front expirer within early reading next is reads =
-      expires s.shards expirer within early (λ x agrees.
+      expires s.shards expirer within early (λ leaving x agrees.
       let P : Option Buffer → Type 0 = λ o. IsFrontAt w x.state o answer in
       by_buffer x agrees.core.claims next_buffer refl
-      (subst P next_is (next true w x.state _ x.work.failures agrees.core.buffer_set
+      (subst P next_is (next (honestly leaving) w x.state _ x.work.failures agrees.core.buffer_set
       (few_buffers s.config))))
     where
       by_buffer : (x : World) → KeepsAll s.shards x.state.claim → (o : Option Buffer)
@@ -205,8 +206,9 @@ module _ {S : Type 0} {g : Ghosts S} (s : System S g) (shard now : ℕ) where
           }
 
   -- what an Expire that forgets makes of the world
-  forgets : (shards : Shards) (expirer : Expirer) (left : ℕ) (x : World)
-      → Forgets shard now w.remember left s.shards shards s.expirer expirer → Agrees true s x
+  forgets : {leaving : Bool} (shards : Shards) (expirer : Expirer) (left : ℕ) (x : World)
+      → Forgets shard now w.remember left s.shards shards s.expirer expirer
+      → AgreesAs (honestly leaving) s x
       → expired w x shard now (expirer_view s.expirer) ≡ forgotten w x shard now fronts left
       → Expires x shards expirer
   forgets shards expirer left x done agrees e =
@@ -223,13 +225,13 @@ module _ {S : Type 0} {g : Ghosts S} (s : System S g) (shard now : ℕ) where
       → shard < shard_count → now ≤ last_moment → s.expirer.stage ≡ stages.Reading
       → IsNextFront s.buffer_set s.expirer answer → answer ≡ None
       → Forgets shard now w.remember 15 s.shards shards s.expirer expirer
-      → Steps (run.Expire shard now) s outputs.Quiet
+      → StepsAs (run.Expire shard now) s outputs.Quiet
       (record s { shards = shards; expirer = expirer })
   first_forgotten answer shards expirer within early reading next is done =
-      expires shards expirer within early (λ x agrees.
+      expires shards expirer within early (λ leaving x agrees.
       let P : Option Buffer → Type 0 = λ o. IsFrontAt w x.state o answer in
       let none : next_buffer ≡ None = no_buffer w x.state next_buffer answer
-      (subst P next_is (next true w x.state _ x.work.failures agrees.core.buffer_set
+      (subst P next_is (next (honestly leaving) w x.state _ x.work.failures agrees.core.buffer_set
       (few_buffers s.config))) is in
       forgets shards expirer 15 x done agrees
       (ap (λ (stage : Stage). expired w x shard now (stage_view fronts stage)) reading
@@ -239,10 +241,10 @@ module _ {S : Type 0} {g : Ghosts S} (s : System S g) (shard now : ℕ) where
   pub more_forgotten : (left less : ℕ) (shards : Shards) (expirer : Expirer)
       → shard < shard_count → now ≤ last_moment → s.expirer.stage ≡ stages.Forgetting left
       → less ≡ left - 1 → Forgets shard now w.remember less s.shards shards s.expirer expirer
-      → Steps (run.Expire shard now) s outputs.Quiet
+      → StepsAs (run.Expire shard now) s outputs.Quiet
       (record s { shards = shards; expirer = expirer })
   more_forgotten left less shards expirer within early forgetting_on less_is done =
-      expires shards expirer within early (λ x agrees.
+      expires shards expirer within early (λ leaving x agrees.
       forgets shards expirer less x done agrees
       (ap (λ (stage : Stage). expired w x shard now (stage_view fronts stage)) forgetting_on
       ∙ ap (λ (n : ℕ). forgotten w x shard now fronts n) (sym less_is)))

@@ -11,6 +11,8 @@ mod Found
 mod Hearing
 pub mod Idleness
 mod GroupWriters
+mod Killed
+pub mod Left
 mod Marks
 mod PeerLemmas
 mod Pushing

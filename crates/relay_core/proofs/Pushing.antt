@@ -54,7 +54,8 @@ module _ {S : Type 0} {g : Ghosts S} (group : ℕ) (old : System S g) (peer : Pe
         → group_writer ≡ get_or old.group_writers.items group group_writer
         → nat_le 64 (length (jobs_of group_writer.queue)) ≡ true
         → SharesStep n now (steps.Push group) old peer (answers.Pushed false) old peer
-    full_push group_writer inside at full = λ x m d gathered but slot fits planned asked some.
+    full_push group_writer inside at full =
+        λ leaving x m d gathered but slot fits planned asked some.
         let job = asked.0 in
         let here : GroupWriterIs (Some group_writer) (x.work.queue group) (x.work.writer group) =
         group_writer_at old.group_writers.items group group_writer _ _
@@ -64,7 +65,8 @@ module _ {S : Type 0} {g : Ghosts S} (group : ℕ) (old : System S g) (peer : Pe
         ∙ queue_length group_writer (x.work.queue group) here.0 in
         let none : nat_lt (length (x.work.queue job.article.group)) 64 ≡ false =
         le-ltb _ 64 (subst (λ (k : ℕ). 64 ≤ k) (sym size) (leb-true 64 _ full)) in
-        let P : Ask → Type 0 = λ ask. Gives w n now ask gathered x (answers.Pushed false) old
+        let P : Ask
+        → Type 0 = λ ask. Gives leaving w n now ask gathered x (answers.Pushed false) old
         peer.slot in (
           subst P (sym asked.1) (record {
             told = shares.ToPush false;
@@ -83,7 +85,7 @@ module _ {S : Type 0} {g : Ghosts S} (group : ℕ) (old : System S g) (peer : Pe
         → HandsOver peer.session result session
         → SharesStep n now (steps.Push group) old peer (answers.Pushed false) old
         (record peer { session = session })
-    no_job session result none hands = λ x m d gathered but slot fits planned asked some.
+    no_job session result none hands = λ leaving x m d gathered but slot fits planned asked some.
         let over = hands w m d gathered asked.0 planned asked.1 in
         absurd (none-some over.one (sym none ∙ over.result_is))
 
@@ -103,7 +105,7 @@ module _ {S : Type 0} {g : Ghosts S} (group : ℕ) (old : System S g) (peer : Pe
         })
         (record peer { session = session })
     job_pushed group_writer session result job queue inside at room hands is joins =
-        λ x m d gathered but slot fits planned asked some.
+        λ leaving x m d gathered but slot fits planned asked some.
         let one = asked.0 in
         let over = hands w m d gathered one planned asked.1 in
         let same : job_view job ≡ one =
@@ -121,7 +123,7 @@ module _ {S : Type 0} {g : Ghosts S} (group : ℕ) (old : System S g) (peer : Pe
               with_item old.group_writers group
               (record { queue = queue; writer = group_writer.writer });
         } in
-        let P : Ask → Type 0 = λ ask. Gives w n now ask gathered x (answers.Pushed true) new
+        let P : Ask → Type 0 = λ ask. Gives leaving w n now ask gathered x (answers.Pushed true) new
         peer.slot in
         let y = shares.pushed x one in
         let G : ℕ → Type 0 = λ h. y.work.queue h ≡ map job_view (jobs_of queue) in
@@ -164,7 +166,7 @@ module _ {S : Type 0} {g : Ghosts S} (group : ℕ) (old : System S g) (peer : Pe
     -- a group that has no group writer: no job goes there
     pub past_push : length old.group_writers.items ≤ group
         → SharesStep n now (steps.Push group) old peer (answers.Pushed false) old peer
-    past_push past = λ x m d gathered but slot fits planned asked some.
+    past_push past = λ leaving x m d gathered but slot fits planned asked some.
         let inside : asked.0.article.group < length w.groups =
         subst (λ (ask : Ask). AskFits w x ask gathered) asked.1 fits in
         let count : length old.group_writers.items ≡ length w.groups = but.core.count in

@@ -1,6 +1,6 @@
 -- A pop, an answer, and the writer out of its group writer and back.
-use Rattle.std.proofs.Common.{◌≡◌, ◌<◌, ◌≤◌, ℕ, true, false, List, Option, None}
-use Rattle.std.proofs.Common.{Some, Vec, refl, sym, ap, subst, ◌∙◌}
+use Rattle.std.proofs.Common.{◌≡◌, ◌<◌, ◌≤◌, ℕ, true, false, List, Option, None, Some, Vec, refl}
+use Rattle.std.proofs.Common.{sym, ap, subst, ◌∙◌, Bool}
 use Rattle.std.proofs.Math.ListN.{length-set, set}
 use Rattle.std.proofs.lemmas.Bool.{le-leb, le-ltb, lt-leb, lt-ltb}
 use Rattle.std.proofs.lemmas.Option.{slice_get-get_or}
@@ -13,6 +13,7 @@ use Rattle.block_shelf.specs.Calls.{token_of}
 use Rattle.block_shelf.specs.Keeping.{KeepsTexts}
 use Rattle.block_shelf.specs.Openings.{Opening}
 use Rattle.block_shelf.specs.declared.buffer_set.Begun.{Begun}
+use Rattle.block_shelf.specs.Leaving.{honestly}
 use Rattle.buffer_group.specs.Jobs.{job_view}
 use Rattle.buffer_group.specs.Writers.{writer_view}
 use Rattle.buffer_group.specs.declared.job.Job.{Job}
@@ -44,13 +45,13 @@ use Rattle.relay_core.specs.Agreement.{AgreesBy, GroupWriterIs, PeerIs}
 use Rattle.relay_core.specs.Openings.{opening_of}
 use Rattle.relay_core.specs.Queues.{IsPopped, jobs_of}
 use Rattle.relay_core.specs.Sharing.{KeepsFrame}
-use Rattle.relay_core.specs.Steps.{Steps}
 use Rattle.relay_core.specs.Writing.{Advances, WriterOut, writer_of}
 use Rattle.relay_core.specs.declared.event.CoreError.TheVariants as faults
 use Rattle.relay_core.specs.declared.event.Output.TheVariants as outputs
 use Rattle.relay_core.specs.declared.queue.Queue.{Queue}
 use Rattle.relay_core.specs.declared.system.GroupWriter.{GroupWriter}
 use Rattle.relay_core.specs.declared.system.System.{System}
+use Rattle.relay_core.specs.Steps.{StepsAs}
 
 some_is : {A : Type 0} → (a b : A) → Some a ≡ Some b → a ≡ b
 some_is a b e = cc
@@ -90,13 +91,14 @@ module _ {S : Type 0} {g : Ghosts S} (h now : ℕ) (old : System S g) where
         group_writers =
             with_item old.group_writers h (record { queue = queue; writer = group_writer.writer });
       })
-  popped_one group_writer job queue inside at pops = λ x out well.
+  popped_one group_writer job queue inside at pops = λ leaving x out well.
       let there : slice_get old.group_writers.items h ≡ Some group_writer =
       slice_get-get_or old.group_writers.items h group_writer inside ∙ ap Some (sym at) in
       let rest : List model.Job = map job_view (jobs_of queue) in
       let one : GroupWriter = record { queue = queue; writer = group_writer.writer } in
       let u : world.Writer = world.Popped (job_view job) in
-      let T : (ℕ → Option Opening) → Type 0 = λ o. KeepsTexts true old.buffer_set w x.state.begun
+      let T : (ℕ → Option Opening)
+      → Type 0 = λ o. KeepsTexts (honestly leaving) old.buffer_set w x.state.begun
       x.state.kept o x.work.failures in
       record {
         after = popped x h (job_view job) rest;
@@ -138,7 +140,7 @@ module _ {S : Type 0} {g : Ghosts S} (h now : ℕ) (old : System S g) where
         group_writers =
             with_item old.group_writers h (record { queue = queue; writer = group_writer.writer });
       })
-  none_popped group_writer queue inside at pops = λ x out well.
+  none_popped group_writer queue inside at pops = λ leaving x out well.
       let there : slice_get old.group_writers.items h ≡ Some group_writer =
       slice_get-get_or old.group_writers.items h group_writer inside ∙ ap Some (sym at) in
       let one : GroupWriter = record { queue = queue; writer = group_writer.writer } in
@@ -192,13 +194,15 @@ module _ {S : Type 0} {g : Ghosts S} (h now : ℕ) (old : System S g) where
       by_job None none = none_popped group_writer queue inside at none
       by_job (Some one) some = popped_one group_writer one queue inside at some
 
-  told_out : (s : ℕ) (outcome : Outcome) (v : Writer Begun) (x : World) (peers : Peers)
+  told_out : {leaving : Bool} (s : ℕ) (outcome : Outcome) (v : Writer Begun) (x : World)
+      (peers : Peers)
       → TellsPeer s outcome old.peers peers → opening_of (writer_view token_of v) ≡ None
-      → WriterOut w h v old x
-      → WriterOut w h code.Idle (record old { peers = peers })
+      → WriterOut leaving w h v old x
+      → WriterOut leaving w h code.Idle (record old { peers = peers })
       (answered x h s (outcome_view outcome))
-  told_out s outcome v x peers tells none out =
-      let T : (ℕ → Option Opening) → Type 0 = λ o. KeepsTexts true old.buffer_set w x.state.begun
+  told_out {leaving} s outcome v x peers tells none out =
+      let T : (ℕ → Option Opening)
+      → Type 0 = λ o. KeepsTexts (honestly leaving) old.buffer_set w x.state.begun
       x.state.kept o x.work.failures in
       let told = put_at x.work.slot s (Some (outcome_view outcome)) in
       record {
@@ -237,7 +241,7 @@ module _ {S : Type 0} {g : Ghosts S} (h now : ℕ) (old : System S g) where
   -- the session is told that its article is kept
   pub told_kept : (s : ℕ) (peers : Peers) → TellsPeer s outcomes.Kept old.peers peers
       → Advances h now (code.Settled s) old code.Idle (record old { peers = peers })
-  told_kept s peers tells = λ x out well.
+  told_kept s peers tells = λ leaving x out well.
       record {
         after = answered x h s world.IsKept;
         writes = writers.TellsKept s out.writer_is refl;
@@ -247,7 +251,7 @@ module _ {S : Type 0} {g : Ghosts S} (h now : ℕ) (old : System S g) where
   -- and that it isn't
   pub told_failed : (s : ℕ) (peers : Peers) → TellsPeer s outcomes.Failed old.peers peers
       → Advances h now (code.Forgotten s) old code.Idle (record old { peers = peers })
-  told_failed s peers tells = λ x out well.
+  told_failed s peers tells = λ leaving x out well.
       record {
         after = answered x h s world.HasFailed;
         writes = writers.TellsFailed s out.writer_is refl;
@@ -263,11 +267,12 @@ module _ {S : Type 0} {g : Ghosts S} where
       subst P (sym e) advances
 
   -- the writer is taken out of its group writer
-  taken_out : (w : Terms) (h : ℕ) (old : System S g) (x : World) (group_writer idle : GroupWriter)
+  taken_out : {leaving : Bool} (w : Terms) (h : ℕ) (old : System S g) (x : World)
+      (group_writer idle : GroupWriter)
       → h < length old.group_writers.items
       → group_writer ≡ get_or old.group_writers.items h group_writer
-      → idle.queue ≡ group_writer.queue → AgreesBy true w old x
-      → WriterOut w h group_writer.writer
+      → idle.queue ≡ group_writer.queue → AgreesBy (honestly leaving) w old x
+      → WriterOut leaving w h group_writer.writer
       (record old { group_writers = with_item old.group_writers h idle }) x
   taken_out w h old x group_writer idle inside at same agrees =
       let here : GroupWriterIs (Some group_writer) (x.work.queue h) (x.work.writer h) =
@@ -305,13 +310,13 @@ module _ {S : Type 0} {g : Ghosts S} where
       → KeepsFrame (record old { group_writers = with_item old.group_writers h idle }) advanced
       → last ≡ get_or advanced.group_writers.items h last → done.queue ≡ last.queue
       → done.writer ≡ writer
-      → Steps (run.Write h now) old outputs.Quiet
+      → StepsAs (run.Write h now) old outputs.Quiet
       (record advanced { group_writers = with_item advanced.group_writers h done })
   written h now old group_writer idle advanced writer last done inside in_time at same
       advances frame at'
-      same' is = λ x agrees.
+      same' is = λ leaving x agrees.
       let w : Terms = terms_of old.config in
-      let a = advances x
+      let a = advances leaving x
       (taken_out w h old x group_writer idle inside at same agrees) agrees.well in
       let out = a.out in
       let count : length advanced.group_writers.items ≡ length old.group_writers.items =
@@ -329,7 +334,7 @@ module _ {S : Type 0} {g : Ghosts S} where
       run.IsDone open_one (refl, a.writes) in
       let new : System S g =
       record advanced { group_writers = with_item advanced.group_writers h done } in
-      let C : Config → Type 0 = λ c. AgreesBy true (terms_of c) new a.after in
+      let C : Config → Type 0 = λ c. AgreesBy (honestly leaving) (terms_of c) new a.after in
       let P : ℕ → Type 0 =
       λ k. GroupWriterIs (slice_get (set advanced.group_writers.items h done) k)
       (a.after.work.queue k) (a.after.work.writer k) in
@@ -367,8 +372,8 @@ module _ {S : Type 0} {g : Ghosts S} where
 
   -- there is no such group
   pub no_group : (s : System S g) (h now : ℕ) → length s.group_writers.items ≤ h
-      → Steps (run.Write h now) s (outputs.Refused faults.NoGroup) s
-  no_group s h now past = refused (run.Write h now) faults.NoGroup s (λ x agrees.
+      → StepsAs (run.Write h now) s (outputs.Refused faults.NoGroup) s
+  no_group s h now past = refused (run.Write h now) faults.NoGroup s (λ leaving x agrees.
       let none : nat_lt h (length (terms_of s.config).groups) ≡ false =
       le-ltb h _ (subst (λ (k : ℕ). k ≤ h) agrees.core.count past) in
       ap (λ b. first_of_two b world.NoGroup (nat_le now last_moment) world.BadMoment) none)
@@ -376,8 +381,8 @@ module _ {S : Type 0} {g : Ghosts S} where
   -- it is too late
   pub late_write : (s : System S g) (h now : ℕ) → h < length s.group_writers.items
       → last_moment < now
-      → Steps (run.Write h now) s (outputs.Refused faults.BadMoment) s
-  late_write s h now within late = refused (run.Write h now) faults.BadMoment s (λ x agrees.
+      → StepsAs (run.Write h now) s (outputs.Refused faults.BadMoment) s
+  late_write s h now within late = refused (run.Write h now) faults.BadMoment s (λ leaving x agrees.
       let one : nat_lt h (length (terms_of s.config).groups) ≡ true =
       lt-ltb h _ (subst (λ (k : ℕ). h < k) agrees.core.count within) in
       let past : nat_le now last_moment ≡ false = lt-leb now last_moment late in

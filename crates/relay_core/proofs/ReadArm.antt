@@ -1,6 +1,6 @@
 -- The arm of `share` that reads a block.
-use Rattle.std.proofs.Common.{◌≡◌, ◌<◌, ◌*◌, ℕ, true, List, All}
-use Rattle.std.proofs.Common.{Some, refl, sym, ap, subst, ◌∙◌, arith, le_refl}
+use Rattle.std.proofs.Common.{◌≡◌, ◌<◌, ◌*◌, ℕ, true, List, All, Some, refl, sym, ap, subst, ◌∙◌}
+use Rattle.std.proofs.Common.{arith, le_refl, Bool}
 use Rattle.std.specs.Prelude.{max, take}
 use Rattle.article_fetch.specs.Fetch.{Fetch, FoundAs}
 use Rattle.article_fetch.specs.declared.chunk.Chunk.{Chunk}
@@ -8,6 +8,7 @@ use Rattle.article_fetch.specs.declared.chunk.Chunk.TheVariants as chunks
 use Rattle.article_verdict.specs.Config.{terms_of}
 use Rattle.block_shelf.specs.Keeping.{KeepsTexts}
 use Rattle.block_shelf.specs.declared.buffer_set.BufferSet.{BufferSet}
+use Rattle.block_shelf.specs.Leaving.{honestly}
 use Rattle.cyc_block.specs.declared.store.BlockStore.{Ghosts}
 use Rattle.cyc_token.specs.Token.{token_view}
 use Rattle.cyc_token.specs.declared.Token.{Token}
@@ -100,9 +101,11 @@ module _ {S : Type 0} {g : Ghosts S} (n now : ℕ) (old : System S g) (peer : Pe
   w = terms_of old.config
 
   -- all agrees after a read, which leaves the buffer set with these counts of failures
-  read_but : (x : World) (new : BufferSet S g) (later : ℕ → ℕ) → AgreesBut true w n old x
-      → KeepsTexts true new w x.state.begun x.state.kept (openings x.work.writer) later
-      → AgreesBut true w n (record old { buffer_set = new }) (with_failures x later)
+  read_but : {leaving : Bool} (x : World) (new : BufferSet S g) (later : ℕ → ℕ)
+      → AgreesBut (honestly leaving) w n old x
+      → KeepsTexts (honestly leaving) new w x.state.begun x.state.kept (openings x.work.writer)
+      later
+      → AgreesBut (honestly leaving) w n (record old { buffer_set = new }) (with_failures x later)
   read_but x new later but keeps =
       record {
         core = record {
@@ -118,12 +121,13 @@ module _ {S : Type 0} {g : Ghosts S} (n now : ℕ) (old : System S g) (peer : Pe
       }
 
   -- what a read gives, whatever came of it
-  read_gives : (asked : model.Asked) (token : terms.Token) (k : ℕ) (gathered : List ℕ) (x : World)
-      (read : Chunk) (new : BufferSet S g) → AgreesBut true w n old x
+  read_gives : {leaving : Bool} (asked : model.Asked) (token : terms.Token) (k : ℕ)
+      (gathered : List ℕ) (x : World)
+      (read : Chunk) (new : BufferSet S g) → AgreesBut (honestly leaving) w n old x
       → SlotIs peer.slot (x.work.slot n)
       → All IsKeptRight x.state.kept → IsFront x.state.kept token k gathered
-      → ChunkRead w x.state (openings x.work.writer) x.work.failures token k read new
-      → Gives w n now (asks.Reads asked token k) gathered x (answers.Chunk read)
+      → ChunkRead leaving w x.state (openings x.work.writer) x.work.failures token k read new
+      → Gives leaving w n now (asks.Reads asked token k) gathered x (answers.Chunk read)
       (record old { buffer_set = new }) peer.slot
   read_gives asked token k gathered x read new but slot right front (HasFound keeps is) =
       record {
@@ -170,13 +174,13 @@ module _ {S : Type 0} {g : Ghosts S} (n now : ℕ) (old : System S g) (peer : Pe
       → (step : Step) → step ≡ steps.Read token k
       → SharesStep n now step old peer (answers.Chunk read) (record old { buffer_set = new }) peer
   read_shared token k read new reads step e =
-      λ x m d gathered but slot fits planned asked some.
+      λ leaving x m d gathered but slot fits planned asked some.
       let one = subst (λ (s : Step). IsStepOf s d.ask) e asked in
       let fit = subst (λ (ask : Ask). AskFits w x ask gathered) one.1 fits in
-      let P : Ask → Type 0 = λ ask. Gives w n now ask gathered x (answers.Chunk read)
+      let P : Ask → Type 0 = λ ask. Gives leaving w n now ask gathered x (answers.Chunk read)
       (record old { buffer_set = new }) peer.slot in (
         subst P (sym one.1) (read_gives one.0 (token_view token) k gathered x read new but slot
-            fit.1 fit.0 (reads w x.state (openings x.work.writer) x.work.failures
+            fit.1 fit.0 (reads leaving w x.state (openings x.work.writer) x.work.failures
             but.core.buffer_set
             (block_left x.state.kept (token_view token) k gathered fit.0))),
         planned,

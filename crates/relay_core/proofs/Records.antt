@@ -3,7 +3,6 @@
 use Rattle.std.proofs.Common.{◌≡◌, ◌∙◌, ◌<◌, ◌≤◌, ◌-◌, ◌+◌, ◌==◌, ◌||◌, ℕ, suc, Bool}
 use Rattle.std.proofs.Common.{false, List, [], ◌∷◌, Option, None, Some, All, refl, sym, ap}
 use Rattle.std.proofs.Common.{subst, length, map, drop, min, arith, slice_get, not, sum_by}
-use Rattle.std.proofs.Math.Nat.{mod-lt}
 use Rattle.std.proofs.lemmas.Bool.{le-ltb, lt-ltb}
 use Rattle.std.proofs.lemmas.Grind.{common_steps}
 use Rattle.std.proofs.lemmas.List.{length-map}
@@ -24,7 +23,7 @@ use Rattle.feed_queue.proofs.LeftLaws.{left_holds}
 use Rattle.id_history.specs.History.{FeedHolds, Holds, IdHolds, IsThere, KeptFeed, KeptId}
 use Rattle.id_history.specs.History as texts
 use Rattle.id_history.specs.Lasting.{AreLasting, claim_of_kept, claim_since, lasting}
-use Rattle.news_terms.specs.Places.{Buffer, Group, Interleave, Sequential, Mode}
+use Rattle.news_terms.specs.Places.{Buffer, Group}
 use Rattle.news_terms.specs.Courses.{Course, IsLaid, position_in}
 use Rattle.news_terms.specs.Ring.{ring}
 use Rattle.news_terms.specs.Ring as rings

@@ -11,7 +11,6 @@ use Rattle.relay_model.specs.Run.{refusal, takes_memory}
 use Rattle.relay_model.specs.Terms.{last_moment}
 use Rattle.relay_model.specs.World as world
 use Rattle.relay_model.specs.World.{Fault, World}
-use Rattle.relay_core.specs.Agreement.{Agrees}
 use Rattle.relay_core.specs.Refusals.{IsInOrder, HasGroupWriters, RefusesRightly, seen}
 use Rattle.relay_core.specs.Peers.{session_at}
 use Rattle.relay_core.specs.Turns.{IsMemoryAlone}
@@ -21,6 +20,8 @@ use Rattle.relay_core.specs.declared.event.CoreError.TheVariants as faults
 use Rattle.relay_core.specs.declared.event.Output.{Output}
 use Rattle.relay_core.specs.declared.event.Output.TheVariants as outputs
 use Rattle.relay_core.specs.declared.system.System.{System}
+use Rattle.relay_core.specs.Agreement.{AgreesAs}
+use Rattle.block_shelf.specs.Leaving.{Trust}
 
 memory_is : (output : Output) (fault : Fault) → output ≡ outputs.Refused faults.Memory
     → output_view output ≡ world.Refuses fault → fault ≡ world.Memory
@@ -66,8 +67,8 @@ module _ {S : Type 0} {g : Ghosts S} (s : System S g) where
   pub refused_last : (event : Event) (output : Output) (new : System S g)
       → (HasGroupWriters s → reason event ≡ None) → IsMemoryAlone output
       → (output ≡ outputs.Refused faults.Memory → takes_memory event ≡ true)
-      → (output ≡ outputs.Refused faults.Memory → (trusted : Bool) (x : World)
-      → Agrees trusted s x → Agrees trusted new x)
+      → (output ≡ outputs.Refused faults.Memory → (trusted : Trust) (x : World)
+      → AgreesAs trusted s x → AgreesAs trusted new x)
       → RefusesRightly event s output new
   refused_last event output new none alone takes same =
       record {
@@ -97,7 +98,7 @@ module _ {S : Type 0} {g : Ghosts S} (s : System S g) where
   -- memory was wanted
   pub memory_wanted : (event : Event) (new : System S g) → (HasGroupWriters s → reason event ≡ None)
       → takes_memory event ≡ true
-      → ((trusted : Bool) (x : World) → Agrees trusted s x → Agrees trusted new x)
+      → ((trusted : Trust) (x : World) → AgreesAs trusted s x → AgreesAs trusted new x)
       → RefusesRightly event s (outputs.Refused faults.Memory) new
   memory_wanted event new none takes same =
       refused_last event (outputs.Refused faults.Memory) new none (λ fault is. refl)

@@ -1,5 +1,5 @@
 -- A Restart: what it is answered, and what that leaves.
-use Rattle.std.proofs.Common.{◌≡◌, ◌∙◌, ℕ, Bool, true, false, List, Option, refl}
+use Rattle.std.proofs.Common.{◌≡◌, ◌∙◌, ℕ, true, false, List, Option, refl}
 use Rattle.std.proofs.Common.{sym, ap, subst, le_refl, true≢false, length}
 use Rattle.std.specs.Prelude.{Result, Err}
 use Rattle.article_verdict.proofs.SoundTerms.{are_sound}
@@ -29,12 +29,11 @@ use Rattle.relay_core.proofs.Records.{record_holds}
 use Rattle.relay_core.proofs.Refusing.{never_refuses}
 use Rattle.relay_core.proofs.Starts.{nobody}
 use Rattle.relay_core.proofs.Stops.{closed_texts, nothing_open}
-use Rattle.relay_core.specs.Agreement.{Agrees, ring_sizes}
+use Rattle.relay_core.specs.Agreement.{ring_sizes, AgreesAs}
 use Rattle.relay_core.specs.Desks.{AreOf, Reads}
 use Rattle.relay_core.specs.Idle.{TellsIdle}
 use Rattle.relay_core.specs.Restarting.{AgreesLater, BeginsAgain, IsOfRestart, IsReread, IsUnread}
 use Rattle.relay_core.specs.Restarting.{RestartsRightly, refused_as}
-use Rattle.relay_core.specs.Steps.{Steps}
 use Rattle.relay_core.specs.Stopping.{Tells, TellsHistory, next_stop, stop_of}
 use Rattle.block_shelf.specs.Restarting.{KeepsOn, StaysKept}
 use Rattle.relay_core.specs.Views.{fault_view}
@@ -44,7 +43,9 @@ use Rattle.relay_core.specs.declared.event.CoreError.TheVariants as faults
 use Rattle.relay_core.specs.declared.event.Output.TheVariants as outputs
 use Rattle.block_shelf.specs.declared.restarting.RestartFault.{RestartFault}
 use Rattle.block_shelf.specs.declared.restarting.RestartFault.TheVariants as restarts
+use Rattle.block_shelf.specs.Leaving.{Trust, honestly}
 use Rattle.relay_core.specs.declared.system.System.{System}
+use Rattle.relay_core.specs.Steps.{StepsAs}
 
 -- a refusal of the buffer set isn't that an id is being stored
 pub not_idle : (fault : RestartFault) → refused_as fault ≡ faults.NotIdle → ⊥
@@ -70,7 +71,7 @@ module _ {S : Type 0} {g : Ghosts S} (s : System S g) where
   -- WHAT IS READ BACK
 
   -- the text of a relay is that of a history of its configuration
-  tells_reads : (stop : ℕ) (text : List ℕ) (trusted : Bool) (x : World) → Agrees trusted s x
+  tells_reads : (stop : ℕ) (text : List ℕ) (trusted : Trust) (x : World) → AgreesAs trusted s x
       → (told : Tells w stop x.state text) → Reads s.config text told.kept
   tells_reads stop text trusted x agrees told =
       record {
@@ -85,7 +86,7 @@ module _ {S : Type 0} {g : Ghosts S} (s : System S g) where
   -- so it can be read
   pub is_read : (stop : ℕ) (text : List ℕ) → TellsHistory s stop text
       → ((kept : texts.Kept) → Reads s.config text kept → ⊥)
-      → (trusted : Bool) (x : World) → Agrees trusted s x → ⊥
+      → (trusted : Trust) (x : World) → AgreesAs trusted s x → ⊥
   is_read stop text tells none trusted x agrees =
       none (tells trusted x agrees).kept
       (tells_reads stop text trusted x agrees (tells trusted x agrees))
@@ -134,8 +135,8 @@ module _ {S : Type 0} {g : Ghosts S} (s : System S g) where
 
   -- an id is being stored
   pub busy : TellsIdle s.shards false
-      → Steps run.Restart s (outputs.Refused faults.NotIdle) s
-  busy tells = λ x agrees.
+      → StepsAs run.Restart s (outputs.Refused faults.NotIdle) s
+  busy tells = λ leaving x agrees.
       let one = tells x.state.claim agrees.core.claims in
       record {
         after = x;
@@ -144,8 +145,8 @@ module _ {S : Type 0} {g : Ghosts S} (s : System S g) where
       }
 
   -- memory was refused before a device was called
-  pub no_room : Steps run.Restart s (outputs.Refused faults.Memory) s
-  no_room = λ x agrees.
+  pub no_room : StepsAs run.Restart s (outputs.Refused faults.Memory) s
+  no_room = λ leaving x agrees.
       record {
         after = x;
         agrees = agrees;
@@ -153,13 +154,13 @@ module _ {S : Type 0} {g : Ghosts S} (s : System S g) where
       }
 
   -- what is refused in no world that the relay agrees with
-  pub never : ((trusted : Bool) (x : World) → Agrees trusted s x → ⊥)
-      → Steps run.Restart s (outputs.Refused faults.NotRestarted) s
-  never none = λ x agrees. absurd (none true x agrees)
+  pub never : ((trusted : Trust) (x : World) → AgreesAs trusted s x → ⊥)
+      → StepsAs run.Restart s (outputs.Refused faults.NotRestarted) s
+  never none = λ leaving x agrees. absurd (none (honestly leaving) x agrees)
 
   -- what a restart of the buffer set leaves, done or not
-  leaves : (trusted : Bool) (x : World) (result : Result (Unit {0}) RestartFault)
-      (buffer_set : BufferSet S g) → Agrees trusted s x → TellsIdle s.shards true
+  leaves : (trusted : Trust) (x : World) (result : Result (Unit {0}) RestartFault)
+      (buffer_set : BufferSet S g) → AgreesAs trusted s x → TellsIdle s.shards true
       → KeepsOn s.buffer_set result buffer_set
       → StaysKept trusted w x.state.begun x.state.kept x.work.failures result buffer_set
   leaves trusted x result buffer_set agrees idle keeps =
@@ -167,10 +168,10 @@ module _ {S : Type 0} {g : Ghosts S} (s : System S g) where
       (closed_texts s trusted x agrees (idle x.state.claim agrees.core.claims))
 
   -- the relay agrees with the world with these failures
-  agrees_later : (trusted : Bool) (x : World) (result : Result (Unit {0}) RestartFault)
-      (buffer_set : BufferSet S g) → Agrees trusted s x → TellsIdle s.shards true
+  agrees_later : (trusted : Trust) (x : World) (result : Result (Unit {0}) RestartFault)
+      (buffer_set : BufferSet S g) → AgreesAs trusted s x → TellsIdle s.shards true
       → (stays : StaysKept trusted w x.state.begun x.state.kept x.work.failures result buffer_set)
-      → Agrees trusted (record s { buffer_set = buffer_set }) (with_failures x stays.later)
+      → AgreesAs trusted (record s { buffer_set = buffer_set }) (with_failures x stays.later)
   agrees_later trusted x result buffer_set agrees idle stays =
       let T : (ℕ → Option Opening) → Type 0 = λ all. KeepsTexts trusted buffer_set w x.state.begun
       x.state.kept all stays.later in
@@ -196,23 +197,23 @@ module _ {S : Type 0} {g : Ghosts S} (s : System S g) where
       (buffer_set : BufferSet S g) → TellsIdle s.shards true
       → KeepsOn s.buffer_set result buffer_set
       → result ≡ Err fault
-      → Steps run.Restart s (outputs.Refused (refused_as fault))
+      → StepsAs run.Restart s (outputs.Refused (refused_as fault))
       (record s { buffer_set = buffer_set })
-  refused_there result restarts.Memory buffer_set idle keeps is = λ x agrees.
-      let stays = leaves true x result buffer_set agrees idle keeps in
+  refused_there result restarts.Memory buffer_set idle keeps is = λ leaving x agrees.
+      let stays = leaves (honestly leaving) x result buffer_set agrees idle keeps in
       record {
         after = with_failures x stays.later;
-        agrees = agrees_later true x result buffer_set agrees idle stays;
+        agrees = agrees_later (honestly leaving) x result buffer_set agrees idle stays;
         is_step = run.IsDone refl (run.HasNoRoom stays.later stays.rises refl refl);
       }
-  refused_there result restarts.Busy buffer_set idle keeps is = λ x agrees.
-      absurd ((leaves true x result buffer_set agrees idle keeps).free is)
-  refused_there result (restarts.Failed number) buffer_set idle keeps is = λ x agrees.
-      let stays = leaves true x result buffer_set agrees idle keeps in
+  refused_there result restarts.Busy buffer_set idle keeps is = λ leaving x agrees.
+      absurd ((leaves (honestly leaving) x result buffer_set agrees idle keeps).free is)
+  refused_there result (restarts.Failed number) buffer_set idle keeps is = λ leaving x agrees.
+      let stays = leaves (honestly leaving) x result buffer_set agrees idle keeps in
       let at = stays.failed number is refl in
       record {
         after = with_failures x stays.later;
-        agrees = agrees_later true x result buffer_set agrees idle stays;
+        agrees = agrees_later (honestly leaving) x result buffer_set agrees idle stays;
         is_step = run.IsDone refl (run.HasNot number at.buffer stays.later at.there
             (idle x.state.claim agrees.core.claims) at.failed refl refl);
       }
@@ -222,13 +223,13 @@ module _ {S : Type 0} {g : Ghosts S} (s : System S g) where
       (stop : ℕ) (new : System S g) → TellsIdle s.shards true
       → KeepsOn s.buffer_set result buffer_set
       → IsReread s desks → BeginsAgain desks stop (record s { buffer_set = buffer_set }) new
-      → Steps run.Restart s outputs.Quiet new
+      → StepsAs run.Restart s outputs.Quiet new
   done result buffer_set desks stop new idle keeps is again =
-      subst (λ (t : System S g). Steps run.Restart s outputs.Quiet t) (sym again.rest)
+      subst (λ (t : System S g). StepsAs run.Restart s outputs.Quiet t) (sym again.rest)
       (goes new.peers again.nobody)
     where
       goes : (peers : Peers) → NoPeers peers
-          → Steps run.Restart s outputs.Quiet (record s {
+          → StepsAs run.Restart s outputs.Quiet (record s {
             buffer_set = buffer_set;
             peers = peers;
             shards = desks.shards;
@@ -237,8 +238,8 @@ module _ {S : Type 0} {g : Ghosts S} (s : System S g) where
             expirer = desks.expirer;
             stop = stop;
           })
-      goes peers none = λ x agrees.
-          let stays = leaves true x result buffer_set agrees idle keeps in
+      goes peers none = λ leaving x agrees.
+          let stays = leaves (honestly leaving) x result buffer_set agrees idle keeps in
           let idles = idle x.state.claim agrees.core.claims in
           let step : run.Step w x run.Restart world.Quiet (restarted x stays.later) =
           run.IsDone refl (run.IsDone stays.later idles stays.rises refl refl) in
@@ -247,10 +248,10 @@ module _ {S : Type 0} {g : Ghosts S} (s : System S g) where
             agrees = record {
               core = record {
                 newest = agrees.core.newest;
-                claims = is.claims true x agrees idles;
+                claims = is.claims (honestly leaving) x agrees idles;
                 count = is.group_writers.count_is ∙ agrees.core.count;
                 group_writers = idle_group_writers desks.group_writers.items is.group_writers.each;
-                desk = is.desk true x agrees;
+                desk = is.desk (honestly leaving) x agrees;
                 buffer_set = stays.keeps;
                 expirer = sym is.expirer;
               };
@@ -288,7 +289,7 @@ module _ {S : Type 0} {g : Ghosts S} (s : System S g) where
   pub rightly_refused : (error : CoreError) (new : System S g) → TellsIdle s.shards true
       → IsOfRestart (fault_view error) → (error ≡ faults.NotIdle → ⊥)
       → stop_of new ≡ stop_of s
-      → ((trusted : Bool) (x : World) → Agrees trusted s x → AgreesLater trusted new x)
+      → ((trusted : Trust) (x : World) → AgreesAs trusted s x → AgreesLater trusted new x)
       → RestartsRightly s (outputs.Refused error) new
   rightly_refused error new idle of other same later =
       record {
@@ -305,8 +306,8 @@ module _ {S : Type 0} {g : Ghosts S} (s : System S g) where
   -- the buffer set that is left keeps all
   pub later_of : (result : Result (Unit {0}) RestartFault) (buffer_set : BufferSet S g)
       → TellsIdle s.shards true → KeepsOn s.buffer_set result buffer_set
-      → (trusted : Bool) (x : World)
-      → Agrees trusted s x → AgreesLater trusted (record s { buffer_set = buffer_set }) x
+      → (trusted : Trust) (x : World)
+      → AgreesAs trusted s x → AgreesLater trusted (record s { buffer_set = buffer_set }) x
   later_of result buffer_set idle keeps trusted x agrees =
       let stays = leaves trusted x result buffer_set agrees idle keeps in
       record {
@@ -333,7 +334,7 @@ module _ {S : Type 0} {g : Ghosts S} (s : System S g) where
       (not_idle fault) refl (later_of result buffer_set idle keeps)
 
   -- nothing has failed
-  pub later_none : (trusted : Bool) (x : World) → Agrees trusted s x → AgreesLater trusted s x
+  pub later_none : (trusted : Trust) (x : World) → AgreesAs trusted s x → AgreesLater trusted s x
   later_none trusted x agrees =
       record {
         later = x.work.failures;

@@ -210,13 +210,14 @@ module _ {S : Type 0} {g : Ghosts S} (n now : ℕ) (old : System S g) (peer : Pe
       → HeardAs n peer'.session answer output heard
       → HearsMemory peer'.session answer output heard
       → Serves n now old peer output new (record peer' { session = heard })
-  served due shared hears told = λ x m but there stands well other.
+  served due shared hears told = λ leaving x m but there stands well other.
       let w : Terms = terms_of old.config in
       let some : answer ≢ answers.Memory = λ e. other (told.told e) in
       let p = due m stands.gathered stands.stands in
       let fits = ask_fits w x n m stands.gathered well there (stands.fronts refl) p.due.ask
       p.asks_of in
-      let s = shared x m p.due stands.gathered but stands.slot_is fits p.planned p.is_step some in
+      let s = shared leaving x m p.due stands.gathered but stands.slot_is fits p.planned p.is_step
+      some in
       let gives = s.0 in
       let v = hears w m p.due stands.gathered gives.told some s.1 gives.answers in
       record {

@@ -21,20 +21,20 @@ use Rattle.relay_model.specs.State.{in_phase, with_unread}
 use Rattle.relay_model.specs.Terms.{Terms}
 use Rattle.relay_model.specs.World as world
 use Rattle.relay_model.specs.World.{World, with_session}
-use Rattle.relay_core.specs.Peers.{GivesPeer, SamePeers, TakesPeer, peer_at}
+use Rattle.relay_core.specs.Peers.{GivesPeer, SamePeers, TakesPeer, peer_at, session_at}
 use Rattle.relay_core.specs.declared.peers.Peer.{Peer}
 use Rattle.relay_core.specs.declared.peers.Peers.{Peers}
 use Rattle.relay_core.proofs.Turning.{but_one, core_with_peers, is_there_as, lent_is, peers_after}
 use Rattle.relay_core.proofs.Turning.{peers_again, refused, runs_as}
-use Rattle.relay_core.specs.Agreement.{Agrees, PeerIs, PeerStands}
-use Rattle.relay_core.specs.Peers.{session_at}
-use Rattle.relay_core.specs.Steps.{Steps}
+use Rattle.relay_core.specs.Agreement.{PeerIs, PeerStands, AgreesAs}
 use Rattle.relay_core.specs.Turns.{IsBack}
 use Rattle.relay_core.specs.Views.{output_view}
 use Rattle.relay_core.specs.declared.event.CoreError.TheVariants as faults
 use Rattle.relay_core.specs.declared.event.Output.{Output}
 use Rattle.relay_core.specs.declared.event.Output.TheVariants as outputs
 use Rattle.relay_core.specs.declared.system.System.{System}
+use Rattle.relay_core.specs.Steps.{StepsAs}
+use Rattle.block_shelf.specs.Leaving.{Trust, honestly}
 
 -- there are as many peers as the configuration has
 pub peers_count : (config : Config)
@@ -59,15 +59,17 @@ module _ {S : Type 0} {g : Ghosts S} (s : System S g) (n : ℕ) where
   session_steps : (event : run.Event) (output : Output) (peer : Peer) (result : Option Peer)
       (lent : Peers) (peer' : Peer) (back : Peers) → TakesPeer n s.peers result lent
       → result ≡ Some peer → GivesPeer n peer' lent back
-      → ((x : World) (m : model.Session) → Agrees true s x → x.state.session n ≡ Some m
+      → ((leaving : Bool) (x : World) (m : model.Session) → AgreesAs (honestly leaving) s x
+      → x.state.session n ≡ Some m
       → PeerStands true w x.state.kept peer m (x.work.slot n) → is_running m.phase ≡ true
       → Changes event output peer' x m)
-      → Steps event s output (record s { peers = back })
-  session_steps event output peer result lent peer' back takes is gives changes = λ x agrees.
-      let here = lent_is true w n s x peer result lent agrees takes is in
-      let c = changes x here.0 agrees here.1 here.2 here.3 in
+      → StepsAs event s output (record s { peers = back })
+  session_steps event output peer result lent peer' back takes is gives changes =
+      λ leaving x agrees.
+      let here = lent_is (honestly leaving) w n s x peer result lent agrees takes is in
+      let c = changes leaving x here.0 agrees here.1 here.2 here.3 in
       let still = runs_as w peer' c.next c.stands.gathered c.stands.stands c.runs in
-      let but = but_one true w n s x result lent agrees takes in
+      let but = but_one (honestly leaving) w n s x result lent agrees takes in
       record {
         after = with_session x n c.next;
         agrees = record {
@@ -89,11 +91,12 @@ module _ {S : Type 0} {g : Ghosts S} (s : System S g) (n : ℕ) where
       }
 
   -- whether a session reads, by the peers that are there
-  pub reads : (answer : Bool) (x : World) (trusted : Bool)
-      → answer ≡ is_there is_reading (session_at s.peers n) → Agrees trusted s x
+  pub reads : (answer : Bool) (x : World) (trusted : Trust)
+      → answer ≡ is_there is_reading (session_at s.peers n) → AgreesAs trusted s x
       → is_there is_reading (x.state.session n) ≡ answer
   reads answer x trusted reports agrees =
-      is_there_as is_reading refl trusted w x.state.kept (peer_at s.peers n) (x.state.session n)
+      is_there_as is_reading refl trusted.honest w x.state.kept (peer_at s.peers n)
+      (x.state.session n)
       (x.work.slot n) (agrees.peers n) ∙ sym reports
 
   abbrev pub none_if : Bool → Option world.Fault
@@ -102,16 +105,16 @@ module _ {S : Type 0} {g : Ghosts S} (s : System S g) (n : ℕ) where
   -- octets come to no session that reads
   pub not_reading : (piece : List ℕ) (answer : Bool)
       → answer ≡ is_there is_reading (session_at s.peers n) → answer ≡ false
-      → Steps (run.Bytes n piece) s (outputs.Refused faults.NoSession) s
+      → StepsAs (run.Bytes n piece) s (outputs.Refused faults.NoSession) s
   not_reading piece answer reports wrong =
-      refused (run.Bytes n piece) faults.NoSession s (λ x agrees.
-      ap none_if (reads answer x true reports agrees ∙ wrong))
+      refused (run.Bytes n piece) faults.NoSession s (λ leaving x agrees.
+      ap none_if (reads answer x (honestly leaving) reports agrees ∙ wrong))
 
   -- no session that reads breaks off
   pub not_there : (answer : Bool) → answer ≡ is_there is_reading (session_at s.peers n)
-      → answer ≡ false → Steps (run.Break n) s (outputs.Refused faults.NoSession) s
-  not_there answer reports wrong = refused (run.Break n) faults.NoSession s (λ x agrees.
-      ap none_if (reads answer x true reports agrees ∙ wrong))
+      → answer ≡ false → StepsAs (run.Break n) s (outputs.Refused faults.NoSession) s
+  not_there answer reports wrong = refused (run.Break n) faults.NoSession s (λ leaving x agrees.
+      ap none_if (reads answer x (honestly leaving) reports agrees ∙ wrong))
 
   -- octets come
   pub fed : (piece : List ℕ) (answer : Bool) (peer : Peer) (result : Option Peer) (lent : Peers)
@@ -119,13 +122,13 @@ module _ {S : Type 0} {g : Ghosts S} (s : System S g) (n : ℕ) where
       → answer ≡ is_there is_reading (session_at s.peers n) → answer ≡ true
       → TakesPeer n s.peers result lent → result ≡ Some peer → Fed peer.session piece session
       → GivesPeer n (record peer { session = session }) lent back
-      → Steps (run.Bytes n piece) s outputs.Quiet (record s { peers = back })
+      → StepsAs (run.Bytes n piece) s outputs.Quiet (record s { peers = back })
   fed piece answer peer result lent session back reports right takes is feeds gives =
       session_steps (run.Bytes n piece) outputs.Quiet peer result lent
       (record peer { session = session }) back takes is gives
-      (λ x m agrees there stands runs.
+      (λ leaving x m agrees there stands runs.
       let open_one : refusal w x.state (run.Bytes n piece) ≡ None =
-      ap none_if (reads answer x true reports agrees ∙ right) in
+      ap none_if (reads answer x (honestly leaving) reports agrees ∙ right) in
       record {
         next = with_unread m (m.unread ++ piece);
         stands = record {
@@ -144,13 +147,13 @@ module _ {S : Type 0} {g : Ghosts S} (s : System S g) (n : ℕ) where
       → answer ≡ is_there is_reading (session_at s.peers n) → answer ≡ true
       → TakesPeer n s.peers result lent → result ≡ Some peer → BrokenOff peer.session session
       → GivesPeer n (record peer { session = session }) lent back → octets ≡ []
-      → Steps (run.Break n) s (outputs.Ended n octets) (record s { peers = back })
+      → StepsAs (run.Break n) s (outputs.Ended n octets) (record s { peers = back })
   broken octets answer peer result lent session back reports right takes is breaks gives none =
       session_steps (run.Break n) (outputs.Ended n octets) peer result lent
       (record peer { session = session }) back takes is gives
-      (λ x m agrees there stands runs.
+      (λ leaving x m agrees there stands runs.
       let open_one : refusal w x.state (run.Break n) ≡ None =
-      ap none_if (reads answer x true reports agrees ∙ right) in
+      ap none_if (reads answer x (honestly leaving) reports agrees ∙ right) in
       record {
         next = in_phase m model.Leaving;
         stands = record {
@@ -167,8 +170,8 @@ module _ {S : Type 0} {g : Ghosts S} (s : System S g) (n : ℕ) where
   pub unfed : (peer : Peer) (result : Option Peer) (lent : Peers) (session : Session)
       (back : Peers) → TakesPeer n s.peers result lent → result ≡ Some peer
       → StandsAsBefore peer.session session
-      → GivesPeer n (record peer { session = session }) lent back → (trusted : Bool) (x : World)
-      → Agrees trusted s x → Agrees trusted (record s { peers = back }) x
+      → GivesPeer n (record peer { session = session }) lent back → (trusted : Trust) (x : World)
+      → AgreesAs trusted s x → AgreesAs trusted (record s { peers = back }) x
   unfed peer result lent session back takes is same gives trusted x agrees =
       let here = lent_is trusted w n s x peer result lent agrees takes is in
       let but = but_one trusted w n s x result lent agrees takes in
@@ -177,7 +180,7 @@ module _ {S : Type 0} {g : Ghosts S} (s : System S g) (n : ℕ) where
       let runs = runs_as w one here.0 here.2.gathered stays here.3 in
       record {
         core = core_with_peers trusted w s x back agrees.core;
-        peers = peers_again trusted w n (record peer { session = session }) lent back
+        peers = peers_again trusted.honest w n (record peer { session = session }) lent back
             x.state.kept x.state.session x.work.slot here.0 (IsBack runs gives) here.1 (record {
               gathered = here.2.gathered;
               stands = stays;
@@ -188,13 +191,13 @@ module _ {S : Type 0} {g : Ghosts S} (s : System S g) (n : ℕ) where
       }
 
   -- there is no memory for a new session: the peers that were there are there
-  pub unopened : (peers : Peers) → SamePeers s.peers peers → (trusted : Bool) (x : World)
-      → Agrees trusted s x → Agrees trusted (record s { peers = peers }) x
+  pub unopened : (peers : Peers) → SamePeers s.peers peers → (trusted : Trust) (x : World)
+      → AgreesAs trusted s x → AgreesAs trusted (record s { peers = peers }) x
   unopened peers same trusted x agrees =
       record {
         core = core_with_peers trusted w s x peers agrees.core;
         peers = λ k.
-            let P : Option Peer → Type 0 = λ o. PeerIs trusted w x.state.kept o
+            let P : Option Peer → Type 0 = λ o. PeerIs trusted.honest w x.state.kept o
             (x.state.session k) (x.work.slot k) in
             subst P (sym (same k)) (agrees.peers k);
         well = agrees.well;
@@ -203,19 +206,21 @@ module _ {S : Type 0} {g : Ghosts S} (s : System S g) (n : ℕ) where
   -- an event that is answered want of memory leaves all as it was
   pub wanted : (event : run.Event) (new : System S g) → run.takes_memory event ≡ true
       → new.config ≡ s.config
-      → ((x : World) → Agrees true s x → Agrees true new x)
-      → Steps event s (outputs.Refused faults.Memory) new
-  wanted event new takes config same = λ x agrees.
+      → ((leaving : Bool) (x : World) → AgreesAs (honestly leaving) s x
+      → AgreesAs (honestly leaving) new x)
+      → StepsAs event s (outputs.Refused faults.Memory) new
+  wanted event new takes config same = λ leaving x agrees.
       record {
         after = x;
-        agrees = same x agrees;
+        agrees = same leaving x agrees;
         is_step = run.WantsMemory takes refl refl;
       }
 
   -- the number was had before
   pub was_taken : (peer : ℕ) (answer : Bool) → answer ≡ is_taken s.newest n → answer ≡ true
-      → Steps (run.Open n peer) s (outputs.Refused faults.SessionTaken) s
-  was_taken peer answer is right = refused (run.Open n peer) faults.SessionTaken s (λ x agrees.
+      → StepsAs (run.Open n peer) s (outputs.Refused faults.SessionTaken) s
+  was_taken peer answer is right = refused (run.Open n peer) faults.SessionTaken s
+      (λ leaving x agrees.
       let e : is_taken x.state.newest n ≡ true =
       ap (λ o. is_taken o n) agrees.core.newest ∙ sym is ∙ right in
       ap (λ (b : Bool). if b then Some world.SessionTaken
@@ -224,8 +229,8 @@ module _ {S : Type 0} {g : Ghosts S} (s : System S g) (n : ℕ) where
   -- there is no such peer
   pub no_peer : (peer : ℕ) (answer : Bool) → answer ≡ is_taken s.newest n → answer ≡ false
       → length w.peers ≤ peer
-      → Steps (run.Open n peer) s (outputs.Refused faults.NoPeer) s
-  no_peer peer answer is wrong past = refused (run.Open n peer) faults.NoPeer s (λ x agrees.
+      → StepsAs (run.Open n peer) s (outputs.Refused faults.NoPeer) s
+  no_peer peer answer is wrong past = refused (run.Open n peer) faults.NoPeer s (λ leaving x agrees.
       let e : is_taken x.state.newest n ≡ false =
       ap (λ o. is_taken o n) agrees.core.newest ∙ sym is ∙ wrong in
       let f : nat_lt peer (length w.peers) ≡ false = le-ltb peer _ past in
@@ -236,10 +241,10 @@ module _ {S : Type 0} {g : Ghosts S} (s : System S g) (n : ℕ) where
       (peers : Peers) → answer ≡ is_taken s.newest n → answer ≡ false → peer < length w.peers
       → NewStands w session peer → greeting ≡ reply_text Greeting
       → GivesPeer n (record { session = session; slot = None }) s.peers peers
-      → Steps (run.Open n peer) s (outputs.Sent n greeting)
+      → StepsAs (run.Open n peer) s (outputs.Sent n greeting)
       (record s { peers = peers; newest = Some n })
   opened_one peer answer session greeting peers is wrong within stands greets gives =
-      λ x agrees.
+      λ leaving x agrees.
       let e : is_taken x.state.newest n ≡ false =
       ap (λ o. is_taken o n) agrees.core.newest ∙ sym is ∙ wrong in
       let f : nat_lt peer (length w.peers) ≡ true = lt-ltb peer _ within in

@@ -1,7 +1,7 @@
 -- A relay that is started from what a stop left.
-use Rattle.std.proofs.Common.{◌≡◌, ◌∙◌, ℕ, Bool, true, false, List, [], ◌∷◌, Option, None}
-use Rattle.std.proofs.Common.{Some}
+use Rattle.std.proofs.Common.{◌≡◌, ◌∙◌, ℕ, Bool, true, false, List, [], ◌∷◌, Option, None, Some}
 use Rattle.std.proofs.Common.{refl, sym, ap, subst, length, map, slice_get, true≢false}
+use Rattle.std.proofs.lemmas.Bool.{false≢true}
 use Rattle.std.specs.Prelude.{option_map}
 use Rattle.std.specs.Global.{Vec}
 use Rattle.std.specs.List.{AllZip}
@@ -35,7 +35,7 @@ use Rattle.relay_core.specs.declared.peers.Peer.{Peer}
 use Rattle.relay_core.proofs.Beginnings.{groups_count, idle_group_writers, rings_are}
 use Rattle.relay_core.proofs.Records.{lasts_again, record_behind, record_holds, weaker}
 use Rattle.relay_core.proofs.Stops.{ended_gone}
-use Rattle.relay_core.specs.Agreement.{AgreesBy, GroupWriterIs, PeerIs, ring_sizes}
+use Rattle.relay_core.specs.Agreement.{AgreesBy, GroupWriterIs, PeerIs, ring_sizes, AgreesAs}
 use Rattle.block_shelf.proofs.Filled.{heads_say}
 use Rattle.block_shelf.specs.Filled.{filled_of}
 use Rattle.relay_core.proofs.AheadLemmas.{ahead_by, ahead_in}
@@ -43,24 +43,22 @@ use Rattle.relay_core.specs.Ahead.{is_ahead}
 use Rattle.relay_core.specs.Desks.{AreOf, Reads, setting_of}
 use Rattle.relay_core.specs.Expiring.{expirer_view}
 use Rattle.relay_core.specs.Starting.{IsAheadAs, IsAheadOf, IsHistoryRefusal, IsRefusedRightly}
-use Rattle.relay_core.specs.Starting.{StartsOver}
-use Rattle.relay_core.specs.Starting.{unread_as}
+use Rattle.relay_core.specs.Starting.{StartsOver, unread_as}
 use Rattle.relay_core.specs.Starting as reasons
-use Rattle.relay_core.specs.Stopping.{IsHistory, IsShut, Tells, stop_of}
+use Rattle.relay_core.specs.Stopping.{IsHistory, IsShut, Tells, stop_of, IsShutLeft}
 use Rattle.block_shelf.specs.Each.{AreEach}
-use Rattle.block_shelf.specs.Starting.{HasCause, IsFromOutside}
-use Rattle.block_shelf.specs.Stopping.{ArePositions, HoldsTexts}
-use Rattle.block_shelf.specs.Heads.{IsOpened}
-use Rattle.block_shelf.specs.Starting.{IsHeldBy, IsUnwritten, KeepsHeld}
+use Rattle.block_shelf.specs.Starting.{HasCause, IsFromOutside, IsHeldBy, IsUnwritten, KeepsHeld}
+use Rattle.block_shelf.specs.Starting.{IsStartedBufferSet, WillKeepHeld}
+use Rattle.block_shelf.specs.Stopping.{ArePositions, HoldsTexts, HoldsLeft, HoldsLeftAt}
+use Rattle.block_shelf.specs.Heads.{IsOpened, KeepsOpened}
 use Rattle.block_shelf.specs.Heads as heads
 use Rattle.block_shelf.specs.Starting as shelves
-use Rattle.block_shelf.specs.Heads.{KeepsOpened}
-use Rattle.block_shelf.specs.Starting.{IsStartedBufferSet, WillKeepHeld}
 use Rattle.relay_core.specs.declared.desks.Desks.{Desks}
 use Rattle.block_shelf.specs.declared.starting.StopFault.{StopFault}
 use Rattle.block_shelf.specs.declared.starting.StopFault.TheVariants as faults
 use Rattle.block_shelf.specs.declared.starting.Unstarted.{Unstarted}
 use Rattle.block_shelf.specs.declared.opening.UnopenedBufferSet.{UnopenedBufferSet}
+use Rattle.block_shelf.specs.Leaving.{honestly}
 use Rattle.block_shelf.proofs.Starts.{untouched_stores}
 use Rattle.relay_core.specs.declared.system.GroupWriter.{GroupWriter}
 use Rattle.relay_core.specs.declared.system.System.{System}
@@ -139,6 +137,15 @@ module _ {S : Type 0} {g : Ghosts S} (config : Config) (stores : List S) where
             })),
       )
 
+  -- and a crash may leave them
+  left_by : (w : Terms) → HasSameStore w (terms_of config) → (stop : ℕ) (x : World)
+      → HoldsLeft g stores stop w x.state.begun x.state.kept x.work.failures
+      → HoldsLeft g stores stop (terms_of config) x.state.begun x.state.kept x.work.failures
+  left_by w store stop x left b buffer at =
+      subst (λ gs. HoldsLeftAt g stores stop gs x.state.begun x.state.kept x.work.failures b
+      buffer) (sym store.groups)
+      (left b buffer (ap (λ bs. slice_get bs b) (sym store.buffers) ∙ at))
+
   module _ (text : List ℕ) (w : Terms) (stop : ℕ) (x : World)
       (store : HasSameStore w (terms_of config))
       (shut : IsShut g w stop stores text x) where
@@ -198,54 +205,67 @@ module _ {S : Type 0} {g : Ghosts S} (config : Config) (stores : List S) where
         stop_is = stop;
         newest_is = newest;
         agrees = λ w at x store shut.
-            let is : kept ≡ shut.tells.kept = one_text shut.tells.kept (shut_reads text w at x store
-            shut) in
-            let H : texts.Kept → Type 0 = λ k. IsHistory w at x.state k in
-            let history = subst H (sym is) shut.tells.history in
-            let parts = again config w store at x x.work.failures kept history in
-            let lasts = of.claims (started x x.work.failures).state.claim parts.2 in
-            let C : Config → Type 0 = λ c. AgreesBy true (terms_of c) system
-            (started x x.work.failures) in
-            let N : ℕ → Type 0 = λ n. HoldsTexts g stores n w x.state.begun x.state.kept
-            x.work.failures in
-            subst C (sym same) (record {
-              core = record {
-                newest = ap Some (sym history.newest) ∙ sym newest;
-                claims = subst
-                    (λ (all : Shards). KeepsAll all (started x x.work.failures).state.claim)
-                    (sym shards_are)
-                    (record {
-                      agrees = λ id none.
-                          lasts.agrees id none
-                          ∙ ap mark_of (lasts_again (x.state.claim id)
-                          ∙ lasting-restart (x.state.claim id) (shut.idle id));
-                    });
-                count = ap length
-                    (ap (λ (group_writers : Vec GroupWriter). group_writers.items)
-                    group_writers_are)
-                    ∙ of.group_writers.count_is ∙ sym (groups_count config);
-                group_writers = subst (λ (group_writers : Vec GroupWriter). (h : ℕ)
-                    → GroupWriterIs (slice_get group_writers.items h) [] world.Idle)
-                    (sym group_writers_are)
-                    (idle_group_writers desks.group_writers.items of.group_writers.each);
-                desk = subst
-                    (λ (desk : FeedDesk).
-                    KeepsFeeds desk (ring_sizes (terms_of config)) x.state.feed)
-                    (sym desk_is)
-                    (subst (λ ns. KeepsFeeds desks.desk ns x.state.feed)
-                    (rings_are config.relay.feeds.items) (of.desk x.state.feed parts.1));
-                buffer_set = opens (terms_of config) x.state.begun x.state.kept x.work.failures
-                    (held (terms_of config) x.state.begun x.state.kept x.work.failures
-                    (held_by w store kept.stop x (subst N (sym history.stop_is) shut.buffer_set))
-                    parts.0);
-                expirer = sym (ap expirer_view expirer_is ∙ of.expirer);
-              };
-              peers = λ s. nobody true (terms_of config) x.state.kept (peer_at system.peers s)
-                  (x.state.session s)
-                  (peers s);
-              well = started_is_well text w at x store shut;
-            });
+            agrees_as false w at x store shut (λ never. absurd (false≢true never));
+        leaves = λ w at x store shut left. agrees_as true w at x store shut (λ yes. left);
       }
+    where
+      agrees_as : (leaving : Bool) (w : Terms) (at : ℕ) (x : World)
+          → HasSameStore w (terms_of config) → (shut : IsShut g w at stores text x)
+          → (leaving ≡ true → IsShutLeft g w at stores x)
+          → AgreesAs (honestly leaving) system (started x x.work.failures)
+      agrees_as leaving w at x store shut left =
+          let is : kept ≡ shut.tells.kept = one_text shut.tells.kept (shut_reads text w at x store
+          shut) in
+          let H : texts.Kept → Type 0 = λ k. IsHistory w at x.state k in
+          let history = subst H (sym is) shut.tells.history in
+          let parts = again config w store at x x.work.failures kept history in
+          let lasts = of.claims (started x x.work.failures).state.claim parts.2 in
+          let C : Config → Type 0 = λ c. AgreesBy (honestly leaving) (terms_of c) system
+          (started x x.work.failures) in
+          let N : ℕ → Type 0 = λ n. HoldsTexts g stores n w x.state.begun x.state.kept
+          x.work.failures in
+          let M : ℕ → Type 0 = λ n. HoldsLeft g stores n w x.state.begun x.state.kept
+          x.work.failures in
+          subst C (sym same) (record {
+            core = record {
+              newest = ap Some (sym history.newest) ∙ sym newest;
+              claims = subst
+                  (λ (all : Shards). KeepsAll all (started x x.work.failures).state.claim)
+                  (sym shards_are)
+                  (record {
+                    agrees = λ id none.
+                        lasts.agrees id none
+                        ∙ ap mark_of (lasts_again (x.state.claim id)
+                        ∙ lasting-restart (x.state.claim id) (shut.idle id));
+                  });
+              count = ap length
+                  (ap (λ (group_writers : Vec GroupWriter). group_writers.items)
+                  group_writers_are)
+                  ∙ of.group_writers.count_is ∙ sym (groups_count config);
+              group_writers = subst (λ (group_writers : Vec GroupWriter). (h : ℕ)
+                  → GroupWriterIs (slice_get group_writers.items h) [] world.Idle)
+                  (sym group_writers_are)
+                  (idle_group_writers desks.group_writers.items of.group_writers.each);
+              desk = subst
+                  (λ (desk : FeedDesk).
+                  KeepsFeeds desk (ring_sizes (terms_of config)) x.state.feed)
+                  (sym desk_is)
+                  (subst (λ ns. KeepsFeeds desks.desk ns x.state.feed)
+                  (rings_are config.relay.feeds.items) (of.desk x.state.feed parts.1));
+              buffer_set = opens leaving (terms_of config) x.state.begun x.state.kept
+                  x.work.failures
+                  (held leaving (terms_of config) x.state.begun x.state.kept x.work.failures
+                  (held_by w store kept.stop x (subst N (sym history.stop_is) shut.buffer_set))
+                  (λ yes. left_by w store kept.stop x
+                  (subst M (sym history.stop_is) (left yes)))
+                  parts.0);
+              expirer = sym (ap expirer_view expirer_is ∙ of.expirer);
+            };
+            peers = λ s. nobody true (terms_of config) x.state.kept (peer_at system.peers s)
+                (x.state.session s)
+                (peers s);
+            well = started_is_well text w at x store shut;
+          })
 
   -- WHY A START IS REFUSED
 

@@ -1,8 +1,7 @@
 -- A relay that is closed: nothing is open in it, and its history is that of each world.
-use Rattle.std.proofs.Common.{◌≡◌, ◌∙◌, ◌<◌, ◌≤◌, ◌+◌, ◌++◌, ℕ, Bool, true, false, List, [], ◌∷◌}
-use Rattle.std.proofs.Common.{Option, None, Some, refl, sym, ap, subst, true≢false, length, map}
-use Rattle.std.proofs.Common.{arith}
-use Rattle.std.proofs.Common.{◌⊎◌, ◌^◌, inl, inr, slice_get, All}
+use Rattle.std.proofs.Common.{◌≡◌, ◌∙◌, ◌<◌, ◌≤◌, ◌+◌, ◌++◌, ℕ, true, false, List, [], ◌∷◌, Option}
+use Rattle.std.proofs.Common.{None, Some, refl, sym, ap, subst, true≢false, length, map, arith, ◌⊎◌}
+use Rattle.std.proofs.Common.{◌^◌, inl, inr, slice_get, All}
 use Rattle.std.proofs.lemmas.List.{length-append, length-map, map_push}
 use Rattle.std.proofs.lemmas.List.Elements.{All-push}
 use Rattle.std.proofs.lemmas.Option.{none-some}
@@ -34,13 +33,12 @@ use Rattle.relay_model.specs.State.{in_phase}
 use Rattle.relay_model.specs.Terms.{FeedTerms, Terms}
 use Rattle.relay_model.specs.World as world
 use Rattle.relay_model.specs.World.{World}
-use Rattle.relay_core.specs.Agreement.{Agrees, IsGone, ring_sizes}
+use Rattle.relay_core.specs.Agreement.{IsGone, ring_sizes, AgreesAs}
 use Rattle.relay_core.specs.Idle.{TellsIdle}
 use Rattle.relay_core.specs.Openings.{opening_of, openings}
-use Rattle.relay_core.specs.Stopping.{AreKeptFeeds, Shuts}
-use Rattle.relay_core.specs.Stopping.{TellsHistory, next_stop}
-use Rattle.relay_core.specs.Stopping.{stop_of}
-use Rattle.block_shelf.specs.Stopping.{HoldsKept, IsBusyBufferSet, TellsPositions}
+use Rattle.relay_core.specs.Stopping.{AreKeptFeeds, Shuts, TellsHistory, next_stop, stop_of}
+use Rattle.block_shelf.specs.Stopping.{HoldsKept, IsBusyBufferSet, TellsPositions, HoldsKeptLeft}
+use Rattle.block_shelf.specs.Leaving.{Trust, honestly}
 use Rattle.relay_core.specs.declared.system.System.{System}
 
 -- no id is being stored
@@ -162,12 +160,12 @@ module _ {S : Type 0} {g : Ghosts S} (old : System S g) where
   w = terms_of old.config
 
   -- where the shards have no id that is being stored, no world has
-  pub at_rest : TellsIdle old.shards true → (trusted : Bool) (x : World) → Agrees trusted old x
+  pub at_rest : TellsIdle old.shards true → (trusted : Trust) (x : World) → AgreesAs trusted old x
       → IsIdle x
   at_rest idle trusted x agrees = idle x.state.claim agrees.core.claims
 
   -- and the buffer set keeps all without an open write
-  pub closed_texts : (trusted : Bool) (x : World) → Agrees trusted old x → IsIdle x
+  pub closed_texts : (trusted : Trust) (x : World) → AgreesAs trusted old x → IsIdle x
       → KeepsTexts trusted old.buffer_set w x.state.begun x.state.kept (λ h. None) x.work.failures
   closed_texts trusted x agrees none =
       let T : (ℕ → Option Opening)
@@ -178,29 +176,33 @@ module _ {S : Type 0} {g : Ghosts S} (old : System S g) where
   -- a relay that is closed holds each world with which it agreed
   pub shuts : (stop : ℕ) (stores : List S) (text : List ℕ) → stop ≡ next_stop (stop_of old)
       → TellsIdle old.shards true → TellsHistory old stop text
-      → HoldsKept stop old.buffer_set stores
+      → HoldsKept stop old.buffer_set stores → HoldsKeptLeft stop old.buffer_set stores
       → Shuts old stores text
-  shuts stop stores text is idle tells holds =
+  shuts stop stores text is idle tells holds left =
       let none = at_rest idle in
       let T : ℕ → Type 0 = λ n. TellsHistory old n text in
       let H : ℕ → Type 0 = λ n. HoldsKept n old.buffer_set stores in
+      let L : ℕ → Type 0 = λ n. HoldsKeptLeft n old.buffer_set stores in
       let told = subst T is tells in
       record {
         rest = none;
         told = told;
         holds = λ x agrees. record {
-          tells = told true x agrees;
+          tells = told (honestly false) x agrees;
           buffer_set = subst H is holds w x.state.begun x.state.kept x.work.failures
-              (closed_texts true x agrees (none true x agrees));
-          idle = none true x agrees;
+              (closed_texts (honestly false) x agrees (none (honestly false) x agrees));
+          idle = none (honestly false) x agrees;
           well = agrees.well;
         };
+        leaves = λ x agrees.
+            subst L is left w x.state.begun x.state.kept x.work.failures
+            (closed_texts (honestly true) x agrees (none (honestly true) x agrees));
       }
 
   -- where nothing is being stored no write is open
   pub not_busy : TellsIdle old.shards true → IsBusyBufferSet old.buffer_set
-      → (trusted : Bool) (x : World)
-      → Agrees trusted old x → ⊥
+      → (trusted : Trust) (x : World)
+      → AgreesAs trusted old x → ⊥
   not_busy idle busy trusted x agrees =
       busy.writing trusted w x.state.begun x.state.kept x.work.failures
       (closed_texts trusted x agrees (at_rest idle trusted x agrees))

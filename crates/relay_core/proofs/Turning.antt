@@ -18,22 +18,21 @@ use Rattle.relay_model.specs.State.{Kept, put_at}
 use Rattle.relay_model.specs.Terms.{Terms, last_moment}
 use Rattle.relay_model.specs.World as world
 use Rattle.relay_model.specs.World.{World, with_session}
-use Rattle.relay_core.specs.Peers.{HasPlace, TakesPeer, peer_at}
+use Rattle.relay_core.specs.Peers.{HasPlace, TakesPeer, peer_at, session_at}
 use Rattle.relay_core.specs.declared.peers.Peer.{Peer}
 use Rattle.relay_core.specs.declared.peers.Peers.{Peers}
 use Rattle.relay_core.proofs.GroupWriters.{same_or_other}
-use Rattle.relay_core.specs.Agreement.{Agrees, AgreesBut, AgreesBy, Core, IsGone, PeerIs}
-use Rattle.relay_core.specs.Agreement.{PeerStands}
-use Rattle.relay_core.specs.Peers.{session_at}
-use Rattle.relay_core.specs.Steps.{Steps}
-use Rattle.relay_core.specs.Turns.{Serves, StandsStill, TakesBack, IsBack, IsLetGo}
-use Rattle.relay_core.specs.Turns.{PutsBack}
+use Rattle.relay_core.specs.Agreement.{AgreesBut, AgreesBy, Core, IsGone, PeerIs, PeerStands}
+use Rattle.relay_core.specs.Agreement.{AgreesAs}
+use Rattle.relay_core.specs.Turns.{Serves, StandsStill, TakesBack, IsBack, IsLetGo, PutsBack}
 use Rattle.relay_core.specs.Views.{fault_view, output_view}
 use Rattle.relay_core.specs.declared.event.CoreError.{CoreError}
 use Rattle.relay_core.specs.declared.event.CoreError.TheVariants as faults
 use Rattle.relay_core.specs.declared.event.Output.{Output}
 use Rattle.relay_core.specs.declared.event.Output.TheVariants as outputs
 use Rattle.relay_core.specs.declared.system.System.{System}
+use Rattle.relay_core.specs.Steps.{StepsAs}
+use Rattle.block_shelf.specs.Leaving.{Trust, honestly}
 
 -- a phase's test that a closed session doesn't pass
 gone_fails : (test : model.Phase → Bool) → test model.Ended ≡ false
@@ -153,18 +152,18 @@ by_memory (outputs.Refused faults.NotRestarted) memory other = other (λ e. cc)
 module _ {S : Type 0} {g : Ghosts S} where
   -- an event is refused, and nothing changes
   pub refused : (event : run.Event) (error : CoreError) (s : System S g)
-      → ((x : World) → Agrees true s x
+      → ((leaving : Bool) (x : World) → AgreesAs (honestly leaving) s x
       → refusal (terms_of s.config) x.state event ≡ Some (fault_view error))
-      → Steps event s (outputs.Refused error) s
-  refused event error s why = λ x agrees.
+      → StepsAs event s (outputs.Refused error) s
+  refused event error s why = λ leaving x agrees.
       record {
         after = x;
         agrees = agrees;
-        is_step = run.IsRefused (fault_view error) (why x agrees) refl refl;
+        is_step = run.IsRefused (fault_view error) (why leaving x agrees) refl refl;
       }
 
   -- all but the peers stays where these change
-  pub core_with_peers : (trusted : Bool) (w : Terms) (s : System S g) (x : World) (peers : Peers)
+  pub core_with_peers : (trusted : Trust) (w : Terms) (s : System S g) (x : World) (peers : Peers)
       → Core trusted w s x → Core trusted w (record s { peers = peers }) x
   core_with_peers trusted w s x peers core =
       record {
@@ -178,52 +177,53 @@ module _ {S : Type 0} {g : Ghosts S} where
       }
 
   -- with one peer taken out, all others are the sessions
-  pub but_one : (trusted : Bool) (w : Terms) (n : ℕ) (s : System S g) (x : World)
+  pub but_one : (trusted : Trust) (w : Terms) (n : ℕ) (s : System S g) (x : World)
       (result : Option Peer) (new : Peers) → AgreesBy trusted w s x
       → TakesPeer n s.peers result new → AgreesBut trusted w n (record s { peers = new }) x
   but_one trusted w n s x result new agrees takes =
       record {
         core = core_with_peers trusted w s x new agrees.core;
         peers = λ k differ.
-            let P : Option Peer → Type 0 = λ o. PeerIs trusted w x.state.kept o
+            let P : Option Peer → Type 0 = λ o. PeerIs trusted.honest w x.state.kept o
             (x.state.session k) (x.work.slot k) in
             subst P (sym (takes.others k differ)) (agrees.peers k);
       }
 
   -- the peer that is taken out stands for the session
-  pub lent_is : (trusted : Bool) (w : Terms) (n : ℕ) (s : System S g) (x : World) (peer : Peer)
+  pub lent_is : (trusted : Trust) (w : Terms) (n : ℕ) (s : System S g) (x : World) (peer : Peer)
       (result : Option Peer) (new : Peers) → AgreesBy trusted w s x
       → TakesPeer n s.peers result new → result ≡ Some peer
-      → PeerIs trusted w x.state.kept (Some peer) (x.state.session n) (x.work.slot n)
+      → PeerIs trusted.honest w x.state.kept (Some peer) (x.state.session n) (x.work.slot n)
   lent_is trusted w n s x peer result new agrees takes is =
-      let P : Option Peer → Type 0 = λ o. PeerIs trusted w x.state.kept o (x.state.session n)
+      let P : Option Peer → Type 0 = λ o. PeerIs trusted.honest w x.state.kept o (x.state.session n)
       (x.work.slot n) in
       subst P (sym takes.result_is ∙ is) (agrees.peers n)
 
   -- whether a session runs, by the peers that are there
-  pub runs : (s : System S g) (n : ℕ) (answer : Bool) (x : World) (trusted : Bool)
-      → answer ≡ is_there is_running (session_at s.peers n) → Agrees trusted s x
+  pub runs : (s : System S g) (n : ℕ) (answer : Bool) (x : World) (trusted : Trust)
+      → answer ≡ is_there is_running (session_at s.peers n) → AgreesAs trusted s x
       → is_there is_running (x.state.session n) ≡ answer
   runs s n answer x trusted reports agrees =
-      is_there_as is_running refl trusted (terms_of s.config) x.state.kept (peer_at s.peers n)
+      is_there_as is_running refl trusted.honest (terms_of s.config) x.state.kept
+      (peer_at s.peers n)
       (x.state.session n) (x.work.slot n) (agrees.peers n) ∙ sym reports
 
   -- no such session runs
   pub none_runs : (s : System S g) (n now : ℕ) (answer : Bool)
       → answer ≡ is_there is_running (session_at s.peers n) → answer ≡ false
-      → Steps (run.Turn n now) s (outputs.Refused faults.NoSession) s
+      → StepsAs (run.Turn n now) s (outputs.Refused faults.NoSession) s
   none_runs s n now answer reports wrong =
-      refused (run.Turn n now) faults.NoSession s (λ x agrees.
+      refused (run.Turn n now) faults.NoSession s (λ leaving x agrees.
       ap (λ b. first_of_two b world.NoSession (nat_le now last_moment) world.BadMoment)
-      (runs s n answer x true reports agrees ∙ wrong))
+      (runs s n answer x (honestly leaving) reports agrees ∙ wrong))
 
   -- it is too late
   pub too_late : (s : System S g) (n now : ℕ) (answer : Bool)
       → answer ≡ is_there is_running (session_at s.peers n) → answer ≡ true
-      → last_moment < now → Steps (run.Turn n now) s (outputs.Refused faults.BadMoment) s
+      → last_moment < now → StepsAs (run.Turn n now) s (outputs.Refused faults.BadMoment) s
   too_late s n now answer reports right late =
-      refused (run.Turn n now) faults.BadMoment s (λ x agrees.
-      let e = runs s n answer x true reports agrees ∙ right in
+      refused (run.Turn n now) faults.BadMoment s (λ leaving x agrees.
+      let e = runs s n answer x (honestly leaving) reports agrees ∙ right in
       let f : nat_le now last_moment ≡ false = lt-leb now last_moment late in
       λ i. first_of_two (e i) world.NoSession (f i) world.BadMoment)
 
@@ -231,8 +231,8 @@ module _ {S : Type 0} {g : Ghosts S} where
   pub still : (s : System S g) (n : ℕ) (peer : Peer) (result : Option Peer) (lent : Peers)
       (new : System S g) (peer' : Peer) (back : Peers) → TakesPeer n s.peers result lent
       → result ≡ Some peer → StandsStill n (record s { peers = lent }) peer new peer'
-      → new.config ≡ s.config → TakesBack n peer' new.peers back → (trusted : Bool) (x : World)
-      → Agrees trusted s x → Agrees trusted (record new { peers = back }) x
+      → new.config ≡ s.config → TakesBack n peer' new.peers back → (trusted : Trust) (x : World)
+      → AgreesAs trusted s x → AgreesAs trusted (record new { peers = back }) x
   still s n peer result lent new peer' back takes is stands config gives trusted x agrees =
       let w : Terms = terms_of s.config in
       let here = lent_is trusted w n s x peer result lent agrees takes is in
@@ -241,7 +241,7 @@ module _ {S : Type 0} {g : Ghosts S} where
       (record new { peers = back }) x in
       subst C (sym config) (record {
         core = core_with_peers trusted w new x back but.core;
-        peers = peers_again trusted w n peer' new.peers back x.state.kept x.state.session
+        peers = peers_again trusted.honest w n peer' new.peers back x.state.kept x.state.session
             x.work.slot here.0 gives here.1 (record {
               gathered = here.2.gathered;
               stands = stands.stands here.0 here.2.gathered here.2.stands;
@@ -260,29 +260,30 @@ module _ {S : Type 0} {g : Ghosts S} where
       → (output ≡ outputs.Refused faults.Memory
       → StandsStill n (record s { peers = lent }) peer new peer')
       → new.config ≡ s.config → TakesBack n peer' new.peers back
-      → Steps (run.Turn n now) s output (record new { peers = back })
+      → StepsAs (run.Turn n now) s output (record new { peers = back })
   turned s n now answer peer result lent output new peer' back reports right in_time takes is
-      serves stands config gives = λ x agrees.
+      serves stands config gives = λ leaving x agrees.
       let w : Terms = terms_of s.config in
-      let here = lent_is true w n s x peer result lent agrees takes is in
+      let here = lent_is (honestly leaving) w n s x peer result lent agrees takes is in
       let early : nat_le now last_moment ≡ true = le-leb now last_moment in_time in
-      let has_runs = runs s n answer x true reports agrees ∙ right in
+      let has_runs = runs s n answer x (honestly leaving) reports agrees ∙ right in
       let open_one : refusal w x.state (run.Turn n now) ≡ None =
       λ i. first_of_two (has_runs i) world.NoSession (early i) world.BadMoment in
       by_memory output
       (λ memory. record {
         after = x;
         agrees = still s n peer result lent new peer' back takes is (stands memory) config gives
-            true x agrees;
+            (honestly leaving) x agrees;
         is_step = run.WantsMemory refl (ap output_view memory) refl;
       })
       (λ other.
-      let turn = serves x here.0 (but_one true w n s x result lent agrees takes) here.1 here.2
+      let turn = serves leaving x here.0 (but_one (honestly leaving) w n s x result lent agrees
+      takes) here.1 here.2
       agrees.well other in
       let after = with_session turn.between n turn.session in
       let step : run.Step w x (run.Turn n now) (output_view output) after =
       run.IsDone open_one turn.turns in
-      let C : Config → Type 0 = λ c. AgreesBy true (terms_of c)
+      let C : Config → Type 0 = λ c. AgreesBy (honestly leaving) (terms_of c)
       (record new { peers = back }) after in
       record {
         after = after;

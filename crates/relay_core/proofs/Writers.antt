@@ -1,12 +1,12 @@
 -- The writer of a group, taken out of its group writer.
-use Rattle.std.proofs.Common.{◌≡◌, ◌≢◌, ℕ, Bool, true, false, Option, refl}
-use Rattle.std.proofs.Common.{sym, ap, subst, ◌∙◌}
+use Rattle.std.proofs.Common.{◌≡◌, ◌≢◌, ℕ, Bool, true, false, Option, refl, sym, ap, subst, ◌∙◌}
 use Rattle.std.specs.Prelude.{nat_eq, slice_get, if◌then◌else◌}
 use Rattle.block_shelf.specs.Calls.{token_of}
 use Rattle.block_shelf.specs.Keeping.{KeepsTexts}
 use Rattle.block_shelf.specs.Openings.{Opening}
 use Rattle.block_shelf.specs.declared.buffer_set.Begun.{Begun}
 use Rattle.block_shelf.specs.declared.buffer_set.BufferSet.{BufferSet}
+use Rattle.block_shelf.specs.Leaving.{honestly}
 use Rattle.buffer_group.specs.Writers.{writer_view}
 use Rattle.buffer_group.specs.declared.writer.Writer.{Writer}
 use Rattle.cyc_block.specs.declared.store.BlockStore.{Ghosts}
@@ -54,8 +54,9 @@ pub openings_stay : (writer : ℕ → world.Writer) (h : ℕ) (v : world.Writer)
 openings_stay writer h v is =
     sym (openings_put writer h v ∙ put_same (openings writer) h (opening_of v) is)
 
-module _ {S : Type 0} {g : Ghosts S} (w : Terms) (h : ℕ) (v : Writer Begun) (old : System S g)
-    (x : World) (out : WriterOut w h v old x) where
+module _ {S : Type 0} {g : Ghosts S} {leaving : Bool} (w : Terms) (h : ℕ) (v : Writer Begun)
+    (old : System S g)
+    (x : World) (out : WriterOut leaving w h v old x) where
   -- all other group writers stay
   pub group_writers_same : (u : world.Writer) (k : ℕ) → k ≢ h
       → GroupWriterIs (slice_get old.group_writers.items k) (x.work.queue k)
@@ -70,10 +71,11 @@ module _ {S : Type 0} {g : Ghosts S} (w : Terms) (h : ℕ) (v : Writer Begun) (o
       (shards : Shards) (desk : FeedDesk) (buffer_set : BufferSet S g) → u ≡ writer_view token_of v'
       → σ.newest ≡ x.state.newest → KeepsAll shards σ.claim
       → KeepsFeeds desk (ring_sizes w) σ.feed
-      → KeepsTexts true buffer_set w σ.begun σ.kept
+      → KeepsTexts (honestly leaving) buffer_set w σ.begun σ.kept
       (put_at (openings x.work.writer) h (opening_of u)) failures
       → ((s : ℕ) → PeerIs true w σ.kept (peer_at old.peers s) (σ.session s) (x.work.slot s))
-      → WriterOut w h v' (record old { shards = shards; desk = desk; buffer_set = buffer_set })
+      → WriterOut leaving w h v'
+      (record old { shards = shards; desk = desk; buffer_set = buffer_set })
       (with_failures (writer_at x σ h u) failures)
   moved v' u σ failures shards desk buffer_set is newest claims feeds texts peers =
       record {
@@ -87,7 +89,7 @@ module _ {S : Type 0} {g : Ghosts S} (w : Terms) (h : ℕ) (v : Writer Begun) (o
         expirer = out.expirer;
         buffer_set =
             let P : (ℕ → Option Opening)
-            → Type 0 = λ all. KeepsTexts true buffer_set w σ.begun σ.kept
+            → Type 0 = λ all. KeepsTexts (honestly leaving) buffer_set w σ.begun σ.kept
             all failures in
             subst P (sym (openings_put x.work.writer h u)) texts;
         peers = peers;
@@ -96,12 +98,14 @@ module _ {S : Type 0} {g : Ghosts S} (w : Terms) (h : ℕ) (v : Writer Begun) (o
   -- where the open write stays as it is
   pub same_opening : (buffer_set : BufferSet S g) (o : Option Opening)
       → opening_of (writer_view token_of v) ≡ o
-      → KeepsTexts true buffer_set w x.state.begun x.state.kept (openings x.work.writer)
+      → KeepsTexts (honestly leaving) buffer_set w x.state.begun x.state.kept
+      (openings x.work.writer)
       x.work.failures
-      → KeepsTexts true buffer_set w x.state.begun x.state.kept
+      → KeepsTexts (honestly leaving) buffer_set w x.state.begun x.state.kept
       (put_at (openings x.work.writer) h o) x.work.failures
   same_opening buffer_set o is keeps =
-      let P : (ℕ → Option Opening) → Type 0 = λ all. KeepsTexts true buffer_set w x.state.begun
+      let P : (ℕ → Option Opening)
+      → Type 0 = λ all. KeepsTexts (honestly leaving) buffer_set w x.state.begun
       x.state.kept all x.work.failures in
       subst P (sym (put_same (openings x.work.writer) h o (ap opening_of out.writer_is ∙ is)))
       keeps

@@ -1,19 +1,17 @@
 -- What a Write does, by its writer: one call of one part each.
-use Rattle.std.specs.Prelude.{slice_get}
-use Rattle.std.proofs.Common.{◌≡◌, ◌<◌, ◌≤◌, ◌+◌, ◌++◌, ◌∷◌, ℕ, Bool, true, List, []}
-use Rattle.std.proofs.Common.{Option, None, Some, refl, sym, ap, subst, ◌∙◌, arith, le_refl}
-use Rattle.std.proofs.Common.{true≢false}
-use Rattle.std.specs.Prelude.{length, Ok, Err, is_some}
+use Rattle.std.specs.Prelude.{slice_get, length, Ok, Err, is_some}
+use Rattle.std.proofs.Common.{◌≡◌, ◌<◌, ◌≤◌, ◌+◌, ◌++◌, ◌∷◌, ℕ, Bool, true, List, [], Option, None}
+use Rattle.std.proofs.Common.{Some, refl, sym, ap, subst, ◌∙◌, arith, le_refl, true≢false}
 use Rattle.article_verdict.proofs.SoundTerms.{are_sound}
 use Rattle.article_verdict.specs.Config.{terms_of}
-use Rattle.block_shelf.specs.Calls.{AbandonsOn, BeginsOn, CanBegin, FinishesOn, WritesOn}
-use Rattle.block_shelf.specs.Calls.{token_of}
+use Rattle.block_shelf.specs.Calls.{AbandonsOn, BeginsOn, CanBegin, FinishesOn, WritesOn, token_of}
 use Rattle.block_shelf.specs.Keeping.{KeepsTexts}
 use Rattle.block_shelf.specs.Openings.{IsBroken, IsOpen}
 use Rattle.block_shelf.specs.declared.buffer_set.Begun.{Begun}
 use Rattle.block_shelf.specs.declared.buffer_set.BufferSet.{BufferSet}
 use Rattle.block_shelf.specs.declared.buffer_set.WriteError.{WriteError}
 use Rattle.block_shelf.specs.declared.buffer_set.WriteError.TheVariants as errors
+use Rattle.block_shelf.specs.Leaving.{honestly}
 use Rattle.buffer_group.specs.Jobs.{article_view, job_view}
 use Rattle.buffer_group.specs.declared.job.Job.{Job}
 use Rattle.buffer_group.specs.declared.writer.Writer.TheVariants as code
@@ -39,8 +37,7 @@ use Rattle.relay_model.specs.Terms.{Terms}
 use Rattle.relay_model.specs.World as world
 use Rattle.relay_model.specs.World.{World, with_failures}
 use Rattle.relay_model.specs.Writers as writers
-use Rattle.relay_model.specs.Writers.{IsHopeless, begun_in, gaining, staged, with_stage}
-use Rattle.relay_model.specs.Writers.{writer_at}
+use Rattle.relay_model.specs.Writers.{IsHopeless, begun_in, gaining, staged, with_stage, writer_at}
 use Rattle.relay_core.specs.Peers.{peer_at}
 use Rattle.relay_core.specs.declared.peers.Peer.{Peer}
 use Rattle.relay_core.proofs.Marks.{forgotten_is, keeps_staged, room_to_count, settled_is}
@@ -100,7 +97,8 @@ module _ {S : Type 0} {g : Ghosts S} (h now : ℕ) (job : Job) (old : System S g
   size = size_of (length job.article.text)
 
   -- the article can begin
-  can_begin : (x : World) → WriterOut w h (code.Popped job) old x → IsWell w x
+  can_begin : {leaving : Bool} (x : World) → WriterOut leaving w h (code.Popped job) old x
+      → IsWell w x
       → job.article.group ≡ h → x.state.claim job.id ≡ staged (job_view job) claims.Waiting
       → CanBegin w job.article.group size (openings x.work.writer)
   can_begin x out well group claimed =
@@ -121,9 +119,10 @@ module _ {S : Type 0} {g : Ghosts S} (h now : ℕ) (job : Job) (old : System S g
       buffer_set
       → Advances h now (code.Popped job) old (code.Writing job b 0)
       (record old { buffer_set = buffer_set })
-  begun_one b buffer_set begins = λ x out well.
+  begun_one b buffer_set begins = λ leaving x out well.
       let at = is_at w h (code.Popped job) old x out well in
-      let r = begins true w x.state.begun x.state.kept (openings x.work.writer) x.work.failures
+      let r = begins (honestly leaving) w x.state.begun x.state.kept (openings x.work.writer)
+      x.work.failures
       out.buffer_set (can_begin x out well at.0 at.1) in
       let token = token_of b in
       let σ : State = record (with_stage x.state (job_view job) (claims.Begun token)) {
@@ -131,7 +130,7 @@ module _ {S : Type 0} {g : Ghosts S} (h now : ℕ) (job : Job) (old : System S g
             (begun_in (slice_get w.groups job.article.group) (x.state.begun job.article.group)
             size);
       } in
-      let Q : ℕ → Type 0 = λ k. KeepsTexts true buffer_set w σ.begun x.state.kept
+      let Q : ℕ → Type 0 = λ k. KeepsTexts (honestly leaving) buffer_set w σ.begun x.state.kept
       (put_at (openings x.work.writer) k (Some (IsOpen token job.article.text 0)))
       x.work.failures in
       record {
@@ -158,9 +157,10 @@ module _ {S : Type 0} {g : Ghosts S} (h now : ℕ) (job : Job) (old : System S g
       buffer_set
       → Advances h now (code.Popped job) old (code.Failed job None)
       (record old { buffer_set = buffer_set })
-  worn_one buffer_set begins = λ x out well.
+  worn_one buffer_set begins = λ leaving x out well.
       let at = is_at w h (code.Popped job) old x out well in
-      let r = begins true w x.state.begun x.state.kept (openings x.work.writer) x.work.failures
+      let r = begins (honestly leaving) w x.state.begun x.state.kept (openings x.work.writer)
+      x.work.failures
       out.buffer_set (can_begin x out well at.0 at.1) in
       record {
         after = writer_at x x.state h (world.Failed (job_view job) None);
@@ -182,8 +182,9 @@ module _ {S : Type 0} {g : Ghosts S} (h now : ℕ) (job : Job) (old : System S g
       → written < size → WritesOn (token_of b) job.article.text old.buffer_set (Ok last) buffer_set
       → Advances h now (code.Writing job b written) old (code.Writing job b (written + 1))
       (record old { buffer_set = buffer_set })
-  block_written b written last buffer_set left writes = λ x out well.
-      let r = writes true w x.state.begun x.state.kept (openings x.work.writer) x.work.failures
+  block_written b written last buffer_set left writes = λ leaving x out well.
+      let r = writes (honestly leaving) w x.state.begun x.state.kept (openings x.work.writer)
+      x.work.failures
       out.buffer_set h written (ap opening_of out.writer_is) left in
       let u : world.Writer = world.Writing (job_view job) (token_of b) (written + 1) in
       record {
@@ -202,12 +203,14 @@ module _ {S : Type 0} {g : Ghosts S} (h now : ℕ) (job : Job) (old : System S g
       → WritesOn (token_of b) job.article.text old.buffer_set (Err fault) buffer_set
       → Advances h now (code.Writing job b written) old (code.Failed job (Some b))
       (record old { buffer_set = buffer_set })
-  block_failed b written errors.NotOpen buffer_set left writes = λ x out well.
-      absurd (writes true w x.state.begun x.state.kept (openings x.work.writer) x.work.failures
+  block_failed b written errors.NotOpen buffer_set left writes = λ leaving x out well.
+      absurd (writes (honestly leaving) w x.state.begun x.state.kept (openings x.work.writer)
+      x.work.failures
       out.buffer_set h written (ap opening_of out.writer_is) left).0
-  block_failed b written (errors.Failed fault) buffer_set left writes = λ x out well.
+  block_failed b written (errors.Failed fault) buffer_set left writes = λ leaving x out well.
       let at = is_at w h (code.Writing job b written) old x out well in
-      let r = (writes true w x.state.begun x.state.kept (openings x.work.writer) x.work.failures
+      let r = (writes (honestly leaving) w x.state.begun x.state.kept (openings x.work.writer)
+      x.work.failures
       out.buffer_set h written (ap opening_of out.writer_is) left).0.1 in
       let σ : State = with_stage x.state (job_view job) claims.Failed in
       let u : world.Writer = world.Failed (job_view job) (Some (token_of b)) in
@@ -223,8 +226,8 @@ module _ {S : Type 0} {g : Ghosts S} (h now : ℕ) (job : Job) (old : System S g
       }
 
   -- all blocks are written
-  module _ (b : Begun) (written : ℕ) (full : size ≤ written) (x : World)
-      (out : WriterOut w h (code.Writing job b written) old x) (well : IsWell w x) where
+  module _ {leaving : Bool} (b : Begun) (written : ℕ) (full : size ≤ written) (x : World)
+      (out : WriterOut leaving w h (code.Writing job b written) old x) (well : IsWell w x) where
     -- as many as there are
     all_written : written ≡ size
     all_written =
@@ -242,14 +245,14 @@ module _ {S : Type 0} {g : Ghosts S} (h now : ℕ) (job : Job) (old : System S g
       → size ≤ written → FinishesOn (token_of b) old.buffer_set (Ok token) buffer_set
       → Advances h now (code.Writing job b written) old (code.Finished job token)
       (record old { buffer_set = buffer_set })
-  finished_one b written token buffer_set full finishes = λ x out well.
+  finished_one b written token buffer_set full finishes = λ leaving x out well.
       let at = is_at w h (code.Writing job b written) old x out well in
       let one : Kept =
       record { token = token_of b; id = job.id; text = job.article.text } in
       let σ : State = record (with_stage x.state (job_view job) (claims.Whole (token_of b))) {
         kept = x.state.kept ++ one ∷ [];
       } in
-      let does = finishes true w x.state.begun x.state.kept (openings x.work.writer)
+      let does = finishes (honestly leaving) w x.state.begun x.state.kept (openings x.work.writer)
       x.work.failures out.buffer_set h job.article.text job.id
       (all_open b written full x out well) in
       let u : world.Writer = world.Finished (job_view job) (token_of b) in
@@ -273,8 +276,8 @@ module _ {S : Type 0} {g : Ghosts S} (h now : ℕ) (job : Job) (old : System S g
       (buffer_set : BufferSet S g) → size ≤ written
       → FinishesOn (token_of b) old.buffer_set (Err back) buffer_set
       → Advances h now (code.Writing job b written) old v' new
-  not_given_back b back written buffer_set full finishes = λ x out well.
-      absurd (finishes true w x.state.begun x.state.kept (openings x.work.writer)
+  not_given_back b back written buffer_set full finishes = λ leaving x out well.
+      absurd (finishes (honestly leaving) w x.state.begun x.state.kept (openings x.work.writer)
       x.work.failures out.buffer_set h job.article.text job.id
       (all_open b written full x out well)).0
 
@@ -291,7 +294,7 @@ module _ {S : Type 0} {g : Ghosts S} (h now : ℕ) (job : Job) (old : System S g
       → Advances h now (code.Finished job token) old (code.Settled job.session)
       (record old { shards = shards; desk = desk })
   settled_one token now' settled shards desk permitted moment same_feeds changes named posts =
-      λ x out well.
+      λ leaving x out well.
       let at = is_at w h (code.Finished job token) old x out well in
       let σ : State = record x.state {
         claim = put_id x.state.claim job.id (claims.Stored (token_view token) now);
@@ -329,7 +332,7 @@ module _ {S : Type 0} {g : Ghosts S} (h now : ℕ) (job : Job) (old : System S g
       → OfClaim (KeepsAll old.shards) job.id
       (λ claim. is_some result ≡ claims.is_storing_for job.session claim)
       → Advances h now (code.Finished job token) old v' new
-  not_settled token result none answers = λ x out well.
+  not_settled token result none answers = λ leaving x out well.
       let at = is_at w h (code.Finished job token) old x out well in
       absurd (true≢false (sym (ap is_some (sym none)
       ∙ answers x.state.claim out.claims
@@ -341,7 +344,7 @@ module _ {S : Type 0} {g : Ghosts S} (h now : ℕ) (job : Job) (old : System S g
       → AbandonsOn (token_of b) old.buffer_set buffer_set
       → Advances h now (code.Failed job (Some b)) old (code.Failed job None)
       (record old { buffer_set = buffer_set })
-  closed_one b buffer_set abandons = λ x out well.
+  closed_one b buffer_set abandons = λ leaving x out well.
       record {
         after = writer_at x x.state h (world.Failed (job_view job) None);
         writes = writers.Closes (job_view job) (token_of b) out.writer_is refl;
@@ -349,7 +352,8 @@ module _ {S : Type 0} {g : Ghosts S} (h now : ℕ) (job : Job) (old : System S g
             (world.Failed (job_view job) None) x.state x.work.failures old.shards
             old.desk buffer_set
             refl refl out.claims out.desk
-            (abandons true w x.state.begun x.state.kept (openings x.work.writer) x.work.failures
+            (abandons (honestly leaving) w x.state.begun x.state.kept (openings x.work.writer)
+            x.work.failures
             out.buffer_set h (IsBroken (token_of b)) (ap opening_of out.writer_is) refl)
             out.peers;
       }
@@ -360,7 +364,7 @@ module _ {S : Type 0} {g : Ghosts S} (h now : ℕ) (job : Job) (old : System S g
       (claims.after_forget job.session)
       → Advances h now (code.Failed job None) old (code.Forgotten job.session)
       (record old { shards = shards })
-  forgotten_one shards changes = λ x out well.
+  forgotten_one shards changes = λ leaving x out well.
       let at = is_at w h (code.Failed job None) old x out well in
       let σ : State = record x.state { claim = put_id x.state.claim job.id claims.Unknown } in
       let P : Claim → Type 0 = λ c. KeepsAll shards (put_id x.state.claim job.id c) in

@@ -4,6 +4,7 @@ use Rattle.std.specs.Prelude.{option_map, slice_get, Option, None, Some}
 use Rattle.article_verdict.specs.Config.{terms_of}
 use Rattle.block_shelf.specs.Calls.{token_of}
 use Rattle.block_shelf.specs.Keeping.{KeepsTexts}
+use Rattle.block_shelf.specs.Leaving.{Trust, honestly, plain}
 use Rattle.buffer_group.specs.Jobs.{job_view}
 use Rattle.buffer_group.specs.Writers.{writer_view}
 use Rattle.cyc_block.specs.declared.store.BlockStore.{Ghosts}
@@ -88,7 +89,7 @@ abbrev pub ring_sizes : Terms → List ℕ
 ring_sizes w = map (λ (feed : FeedTerms). feed.ring) w.feeds
 
 -- all parts but the peers
-pub record Core {S : Type 0} {g : Ghosts S} (trusted : Bool) (w : Terms) (system : System S g)
+pub record Core {S : Type 0} {g : Ghosts S} (trusted : Trust) (w : Terms) (system : System S g)
     (x : World)
     : Type 0 where
   pub newest : x.state.newest ≡ system.newest
@@ -102,23 +103,31 @@ pub record Core {S : Type 0} {g : Ghosts S} (trusted : Bool) (w : Terms) (system
   pub expirer : x.work.expirer ≡ expirer_view system.expirer
 
 -- all but the peer of session n, which is taken out
-pub record AgreesBut {S : Type 0} {g : Ghosts S} (trusted : Bool) (w : Terms) (n : ℕ)
+pub record AgreesBut {S : Type 0} {g : Ghosts S} (trusted : Trust) (w : Terms) (n : ℕ)
     (system : System S g) (x : World)
     : Type 0 where
   pub core : Core trusted w system x
-  pub peers : (s : ℕ) → s ≢ n → PeerIs trusted w x.state.kept (peer_at system.peers s)
+  pub peers : (s : ℕ) → s ≢ n → PeerIs trusted.honest w x.state.kept (peer_at system.peers s)
       (x.state.session s) (x.work.slot s)
 
 -- all, and the world is well; under these terms
-pub record AgreesBy {S : Type 0} {g : Ghosts S} (trusted : Bool) (w : Terms)
+pub record AgreesBy {S : Type 0} {g : Ghosts S} (trusted : Trust) (w : Terms)
     (system : System S g) (x : World)
     : Type 0 where
   pub core : Core trusted w system x
-  pub peers : (s : ℕ) → PeerIs trusted w x.state.kept (peer_at system.peers s)
+  pub peers : (s : ℕ) → PeerIs trusted.honest w x.state.kept (peer_at system.peers s)
       (x.state.session s) (x.work.slot s)
   pub well : IsWell w x
 
--- The relay's code agrees with this world, under the terms of its configuration. Where the stores
--- aren't trusted nothing is said of what they hold.
+-- The relay's code agrees with this world, under the terms of its configuration.
+abbrev pub AgreesAs : {S : Type 0} {g : Ghosts S} → Trust → System S g → World → Type 0
+AgreesAs trusted system x = AgreesBy trusted (terms_of system.config) system x
+
+-- So it does over stores that are honest or not; where they aren't trusted nothing is said of what
+-- they hold.
 abbrev pub Agrees : {S : Type 0} {g : Ghosts S} → Bool → System S g → World → Type 0
-Agrees trusted system x = AgreesBy trusted (terms_of system.config) system x
+Agrees trusted system x = AgreesAs (plain trusted) system x
+
+-- It does over honest stores, and a crash may leave them.
+abbrev pub AgreesLeft : {S : Type 0} {g : Ghosts S} → System S g → World → Type 0
+AgreesLeft system x = AgreesAs (honestly true) system x

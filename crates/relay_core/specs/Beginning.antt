@@ -1,6 +1,7 @@
 -- The relay before anything has come.
 use Rattle.std.specs.Prelude.{◌≡◌, ℕ, Bool, true, All, List, [], length, map}
 use Rattle.block_shelf.specs.Filling.{failures_in}
+use Rattle.block_shelf.specs.Leaving.{IsFresh}
 use Rattle.buffer_group.specs.declared.writer.Writer.TheVariants as writers
 use Rattle.cyc_block.specs.declared.store.BlockStore.{Ghosts}
 use Rattle.feed_queue.specs.Feeds.{KeepsFeeds, no_feed, ring_size}
@@ -9,7 +10,7 @@ use Rattle.relay_conf.specs.declared.settings.Config.{Config}
 use Rattle.relay_model.specs.Claims.{Unknown}
 use Rattle.relay_model.specs.World as world
 use Rattle.relay_model.specs.World.{empty_world}
-use Rattle.relay_core.specs.Agreement.{Agrees}
+use Rattle.relay_core.specs.Agreement.{Agrees, AgreesLeft}
 use Rattle.relay_core.specs.Expiring.{expirer_view}
 use Rattle.relay_core.specs.Queues.{jobs_of}
 use Rattle.relay_core.specs.Refusals.{HasGroupWriters}
@@ -43,6 +44,8 @@ pub record BeginsOver {S : Type 0} {g : Ghosts S} (config : Config) (stores : Li
   pub config_is : system.config ≡ config
   pub agrees : (trusted : Bool) → (trusted ≡ true → All g.honest stores)
       → Agrees trusted system (empty_world (failures_in g stores))
+  -- over fresh stores it does, and a crash may leave them
+  pub leaves : All (IsFresh g) stores → AgreesLeft system (empty_world (failures_in g stores))
   pub laned : HasGroupWriters system
   -- there was no stop yet
   pub stop_is : stop_of system ≡ 0

@@ -1,9 +1,10 @@
 -- How far forgetting has come, and what an Expire does (docs/PROTOCOL.md, Forgetting).
-use Rattle.std.specs.Prelude.{◌≡◌, ◌≤◌, ℕ, Bool, List, map, length, Option, slice_get}
+use Rattle.std.specs.Prelude.{◌≡◌, ◌≤◌, ℕ, List, map, length, Option, slice_get}
 use Rattle.block_shelf.specs.Keeping.{KeepsTexts}
 use Rattle.block_shelf.specs.Openings.{Opening}
 use Rattle.block_shelf.specs.Reading.{IsFrontAt}
 use Rattle.block_shelf.specs.declared.buffer_set.BufferSet.{BufferSet}
+use Rattle.block_shelf.specs.Leaving.{Trust}
 use Rattle.cyc_block.specs.declared.store.BlockStore.{Ghosts}
 use Rattle.cyc_buffer.specs.declared.answers.Front.{Front}
 use Rattle.id_history.specs.Expiry.{passed_view}
@@ -36,7 +37,7 @@ expirer_view expirer = stage_view (map passed_view (fronts_of expirer)) expirer.
 abbrev pub IsNextFront : {S : Type 0} {g : Ghosts S} → BufferSet S g → Expirer → Option Front
     → Type 0
 IsNextFront buffer_set expirer answer =
-    (trusted : Bool) (w : Terms) (σ : State) (openings : ℕ → Option Opening) (failures : ℕ → ℕ)
+    (trusted : Trust) (w : Terms) (σ : State) (openings : ℕ → Option Opening) (failures : ℕ → ℕ)
     → KeepsTexts trusted buffer_set w σ.begun σ.kept openings failures → length w.buffers ≤ 256
     → IsFrontAt w σ (slice_get w.buffers (length (fronts_of expirer))) answer
 

@@ -1,9 +1,10 @@
 -- What the figures of a relay are of, and what its parts tell of them.
-use Rattle.std.specs.Prelude.{◌≡◌, ℕ, Bool, List, Option, map}
+use Rattle.std.specs.Prelude.{◌≡◌, ℕ, List, Option, map}
 use Rattle.article_verdict.specs.Config.{terms_of}
 use Rattle.block_shelf.specs.Keeping.{KeepsTexts}
 use Rattle.block_shelf.specs.Openings.{Opening}
 use Rattle.block_shelf.specs.declared.buffer_set.BufferSet.{BufferSet}
+use Rattle.block_shelf.specs.Leaving.{Trust}
 use Rattle.cyc_block.specs.declared.store.BlockStore.{Ghosts}
 use Rattle.feed_queue.specs.Feeds.{KeepsFeeds}
 use Rattle.feed_queue.specs.declared.desk.FeedDesk.{FeedDesk}
@@ -23,7 +24,7 @@ config_of system = system.config
 abbrev pub TellBuffers : {S : Type 0} {g : Ghosts S} → Config → BufferSet S g → List NamedBuffer
     → Type 0
 TellBuffers config buffer_set named =
-    (trusted : Bool) (σ : State) (openings : ℕ → Option Opening) (failures : ℕ → ℕ)
+    (trusted : Trust) (σ : State) (openings : ℕ → Option Opening) (failures : ℕ → ℕ)
     → KeepsTexts trusted buffer_set (terms_of config) σ.begun σ.kept openings failures
     → map buffer_view named ≡ named_buffers config σ
 

@@ -6,6 +6,7 @@ pub mod Desks
 pub mod Expiring
 pub mod Figures
 pub mod Idle
+pub mod Killing
 pub mod Openings
 pub mod Peers
 pub mod Queues

@@ -1,6 +1,5 @@
 -- What was read of a block, in the words of the relay's fetches (docs/PROTOCOL.md, Reading).
-use Rattle.std.specs.Prelude.{◌≡◌, ℕ, ◌<◌, max, true, None, Option}
-use Rattle.std.specs.Prelude.{Result, Ok, Err}
+use Rattle.std.specs.Prelude.{◌≡◌, ℕ, ◌<◌, max, None, Option, Result, Ok, Err, Bool}
 use Rattle.article_fetch.specs.declared.chunk.Chunk.{Chunk}
 use Rattle.article_fetch.specs.declared.chunk.Chunk.TheVariants as chunks
 use Rattle.block_shelf.specs.Calls.{IsFaultAt}
@@ -8,6 +7,7 @@ use Rattle.block_shelf.specs.Keeping.{KeepsTexts}
 use Rattle.block_shelf.specs.Openings.{Opening}
 use Rattle.block_shelf.specs.Reading.{IsFrontFor}
 use Rattle.block_shelf.specs.declared.buffer_set.BufferSet.{BufferSet}
+use Rattle.block_shelf.specs.Leaving.{honestly}
 use Rattle.cyc_block.specs.declared.store.BlockStore.{Ghosts}
 use Rattle.cyc_buffer.specs.declared.answers.BufError.{BufError}
 use Rattle.cyc_buffer.specs.declared.answers.BufError.TheVariants as errors
@@ -41,24 +41,24 @@ IsChunkOf w σ token k other found = ⊥
 -- what a read of block k does, over stores that are honest: it finds what a fetch finds, or the
 -- device failed, which was asked only where the numbers don't decide, and its fault is of a read of
 -- the token's article
-pub data ChunkRead {S : Type 0} {g : Ghosts S} (w : Terms) (σ : State)
+pub data ChunkRead {S : Type 0} {g : Ghosts S} (leaving : Bool) (w : Terms) (σ : State)
     (openings : ℕ → Option Opening) (failures : ℕ → ℕ) (token : Token) (k : ℕ) (read : Chunk)
     (new : BufferSet S g)
     : Type 0 where
-  HasFound : KeepsTexts true new w σ.begun σ.kept openings failures
+  HasFound : KeepsTexts (honestly leaving) new w σ.begun σ.kept openings failures
       → IsChunkOf w σ token k read (fetched w σ token)
-      → ChunkRead w σ openings failures token k read new
+      → ChunkRead leaving w σ openings failures token k read new
   HasNotFound : (fault : Fault) (later : ℕ → ℕ) → read ≡ chunks.Device fault
       → IsFaultAt kinds.Read token (errors.Device fault)
-      → KeepsTexts true new w σ.begun σ.kept openings later
+      → KeepsTexts (honestly leaving) new w σ.begun σ.kept openings later
       → HasFailedAt token.buffer failures later → decided w σ token ≡ None
-      → ChunkRead w σ openings failures token k read new
+      → ChunkRead leaving w σ openings failures token k read new
 
 -- block k of what lies under a token is read; the article has a block k, or k is 0
 abbrev pub ReadsChunk : {S : Type 0} {g : Ghosts S} → Token → (k : ℕ) → (old : BufferSet S g)
     → Chunk → (new : BufferSet S g) → Type 0
 ReadsChunk token k old read new =
-    (w : Terms) (σ : State) (openings : ℕ → Option Opening) (failures : ℕ → ℕ)
-    → KeepsTexts true old w σ.begun σ.kept openings failures
+    (leaving : Bool) (w : Terms) (σ : State) (openings : ℕ → Option Opening) (failures : ℕ → ℕ)
+    → KeepsTexts (honestly leaving) old w σ.begun σ.kept openings failures
     → k < max 1 (size_of token.length)
-    → ChunkRead w σ openings failures token k read new
+    → ChunkRead leaving w σ openings failures token k read new

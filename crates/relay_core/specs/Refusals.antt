@@ -1,15 +1,16 @@
 -- Which events are refused, and in which order; this holds over every store, honest or not.
-use Rattle.std.specs.Prelude.{◌≡◌, Bool, true, length, Option, None, Some}
+use Rattle.std.specs.Prelude.{◌≡◌, true, length, Option, None, Some}
 use Rattle.article_verdict.specs.Config.{terms_of}
 use Rattle.cyc_block.specs.declared.store.BlockStore.{Ghosts}
 use Rattle.relay_model.specs.Run.{Event, refusal, takes_memory}
 use Rattle.relay_model.specs.State.{State, empty_state}
 use Rattle.relay_model.specs.World.{Fault, Memory, Refuses, World}
 use Rattle.relay_core.specs.Peers.{session_at}
-use Rattle.relay_core.specs.Agreement.{Agrees}
 use Rattle.relay_core.specs.Views.{output_view}
 use Rattle.relay_core.specs.declared.event.Output.{Output}
 use Rattle.relay_core.specs.declared.system.System.{System}
+use Rattle.relay_core.specs.Agreement.{AgreesAs}
+use Rattle.block_shelf.specs.Leaving.{Trust}
 
 -- what an event is refused by: the sessions that are there, and the number of the newest
 abbrev pub seen : {S : Type 0} {g : Ghosts S} → System S g → State
@@ -37,5 +38,5 @@ pub record RefusesRightly {S : Type 0} {g : Ghosts S} (event : Event) (old : Sys
       → IsInOrder event (refusal (terms_of old.config) (seen old) event) output
   pub same : HasGroupWriters old → (fault : Fault)
       → refusal (terms_of old.config) (seen old) event ≡ Some fault → new ≡ old
-  pub kept : (fault : Fault) → output_view output ≡ Refuses fault → (trusted : Bool) (x : World)
-      → Agrees trusted old x → Agrees trusted new x
+  pub kept : (fault : Fault) → output_view output ≡ Refuses fault → (trusted : Trust) (x : World)
+      → AgreesAs trusted old x → AgreesAs trusted new x

@@ -1,9 +1,10 @@
 -- A Restart: what it is refused for, and what it makes of the relay (docs/PROTOCOL.md, Clean stop
 -- and start).
-use Rattle.std.specs.Prelude.{◌≡◌, ℕ, Bool, true, false, List, [], length}
+use Rattle.std.specs.Prelude.{◌≡◌, ℕ, true, false, List, [], length}
 use Rattle.article_verdict.specs.Config.{terms_of}
 use Rattle.block_shelf.specs.declared.restarting.RestartFault.{RestartFault}
 use Rattle.block_shelf.specs.declared.restarting.RestartFault.TheVariants as restarts
+use Rattle.block_shelf.specs.Leaving.{Trust}
 use Rattle.cyc_block.specs.declared.store.BlockStore.{Ghosts}
 use Rattle.feed_queue.specs.Feeds.{KeepsFeeds}
 use Rattle.id_history.specs.declared.fault.HistoryError.{HistoryError}
@@ -14,7 +15,7 @@ use Rattle.relay_model.specs.Run as run
 use Rattle.relay_model.specs.World as world
 use Rattle.relay_model.specs.World.{Fault, Refuses, Rises, World, with_failures}
 use Rattle.relay_core.specs.Peers.{NoPeers}
-use Rattle.relay_core.specs.Agreement.{Agrees, ring_sizes}
+use Rattle.relay_core.specs.Agreement.{ring_sizes, AgreesAs}
 use Rattle.relay_core.specs.Beginning.{AreIdle}
 use Rattle.relay_core.specs.Expiring.{expirer_view}
 use Rattle.relay_core.specs.Refusals.{RefusesRightly}
@@ -40,12 +41,12 @@ IsOfRestart world.NotIdle = Unit {0}
 IsOfRestart world.NotRestarted = Unit {0}
 
 -- it agrees with this world, but that devices may have failed since
-pub record AgreesLater {S : Type 0} {g : Ghosts S} (trusted : Bool) (system : System S g)
+pub record AgreesLater {S : Type 0} {g : Ghosts S} (trusted : Trust) (system : System S g)
     (x : World)
     : Type 0 where
   pub later : ℕ → ℕ
   pub rises : Rises x.work.failures later
-  pub agrees : Agrees trusted system (with_failures x later)
+  pub agrees : AgreesAs trusted system (with_failures x later)
 
 -- A Restart is refused as not idle exactly where an id is being stored, whatever the stores do, and
 -- then nothing changes at all. Otherwise it may be refused for want of memory, or as not restarted,
@@ -60,8 +61,8 @@ pub record RestartsRightly {S : Type 0} {g : Ghosts S} (old : System S g) (outpu
       → output ≡ outputs.Refused faults.NotIdle → (id : List ℕ) × (is_storing (claims id) ≡ true)
   pub same : output ≡ outputs.Refused faults.NotIdle → new ≡ old
   pub only : (fault : Fault) → output_view output ≡ Refuses fault → IsOfRestart fault
-  pub kept : (fault : Fault) → output_view output ≡ Refuses fault → (trusted : Bool) (x : World)
-      → Agrees trusted old x → AgreesLater trusted new x
+  pub kept : (fault : Fault) → output_view output ≡ Refuses fault → (trusted : Trust) (x : World)
+      → AgreesAs trusted old x → AgreesLater trusted new x
   pub stays : (fault : Fault) → output_view output ≡ Refuses fault → stop_of new ≡ stop_of old
   pub stop : output ≡ outputs.Quiet → stop_of new ≡ next_stop (stop_of old)
 
@@ -86,10 +87,10 @@ refused_as (restarts.Failed number) = faults.NotRestarted
 -- what is kept in memory beside the buffer set, as a Restart leaves it of each world that the relay
 -- agrees with
 pub record IsReread {S : Type 0} {g : Ghosts S} (old : System S g) (desks : Desks) : Type 0 where
-  pub claims : (trusted : Bool) (x : World) → Agrees trusted old x
+  pub claims : (trusted : Trust) (x : World) → AgreesAs trusted old x
       → ((id : List ℕ) → is_storing (x.state.claim id) ≡ false)
       → KeepsAll desks.shards (λ id. after_restart (x.state.claim id))
-  pub desk : (trusted : Bool) (x : World) → Agrees trusted old x
+  pub desk : (trusted : Trust) (x : World) → AgreesAs trusted old x
       → KeepsFeeds desks.desk (ring_sizes (terms_of old.config)) x.state.feed
   pub group_writers : AreIdle (length old.group_writers.items) desks.group_writers.items
   pub expirer : expirer_view desks.expirer ≡ world.Reading []
@@ -97,7 +98,7 @@ pub record IsReread {S : Type 0} {g : Ghosts S} (old : System S g) (desks : Desk
 -- the text of a relay that agrees with a world is that of a history of its configuration
 abbrev pub IsUnread : {S : Type 0} {g : Ghosts S} → System S g → HistoryError → Type 0
 IsUnread old errors.Memory = Unit {0}
-IsUnread old errors.BadHistory = (trusted : Bool) (x : World) → Agrees trusted old x → ⊥
+IsUnread old errors.BadHistory = (trusted : Trust) (x : World) → AgreesAs trusted old x → ⊥
 
 -- the relay goes on with these, under this stop, and without sessions
 pub record BeginsAgain {S : Type 0} {g : Ghosts S} (desks : Desks) (stop : ℕ)

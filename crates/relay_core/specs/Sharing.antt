@@ -1,5 +1,5 @@
 -- What the step of what is shared does that a Turn takes.
-use Rattle.std.specs.Prelude.{◌≡◌, ◌≢◌, ℕ, ◌<◌, Bool, true, false, All, List, length, Option}
+use Rattle.std.specs.Prelude.{◌≡◌, ◌≢◌, ℕ, ◌<◌, Bool, false, All, List, length, Option}
 use Rattle.std.specs.Prelude.{None, Some, Result, Ok, Err}
 use Rattle.std.specs.declared.alloc.AllocError.{AllocError}
 use Rattle.article_verdict.specs.Config.{terms_of}
@@ -23,6 +23,7 @@ use Rattle.relay_model.specs.World.{World}
 use Rattle.relay_core.specs.declared.peers.Peer.{Peer}
 use Rattle.relay_core.specs.Agreement.{AgreesBut, IsFront, SlotIs}
 use Rattle.relay_core.specs.declared.system.System.{System}
+use Rattle.block_shelf.specs.Leaving.{Trust, honestly}
 
 -- the configuration stays, and there are as many group writers
 pub record KeepsFrame {S : Type 0} {g : Ghosts S} (old new : System S g) : Type 0 where
@@ -49,14 +50,14 @@ AskFits w x (asks.LooksInSlot transfer id) gathered = Unit {0}
 AskFits w x (asks.Releases id) gathered = Unit {0}
 
 -- the step is done, and answered as the definitions say
-pub record Gives {S : Type 0} {g : Ghosts S} (w : Terms) (n now : ℕ) (ask : Ask)
+pub record Gives {S : Type 0} {g : Ghosts S} (leaving : Bool) (w : Terms) (n now : ℕ) (ask : Ask)
     (gathered : List ℕ) (x : World) (answer : Answer) (new : System S g) (slot : Option Outcome)
     : Type 0 where
   pub told : shares.Answer
   pub between : World
   pub shares : Shares w x n now ask told between
   pub answers : IsAnswerTo ask gathered answer told
-  pub agrees : AgreesBut true w n new between
+  pub agrees : AgreesBut (honestly leaving) w n new between
   pub slot_is : SlotIs slot (between.work.slot n)
 
 -- What `share` does, in whatever world the code agrees with but for the peer of session n: where
@@ -64,12 +65,12 @@ pub record Gives {S : Type 0} {g : Ghosts S} (w : Terms) (n now : ℕ) (ask : As
 abbrev pub SharesStep : {S : Type 0} {g : Ghosts S} → (n now : ℕ) → Step → (old : System S g)
     → Peer → Answer → (new : System S g) → Peer → Type 0
 SharesStep n now step old peer answer new peer' =
-    (x : World) (m : model.Session) (d : Due) (gathered : List ℕ)
-    → AgreesBut true (terms_of old.config) n old x → SlotIs peer.slot (x.work.slot n)
+    (leaving : Bool) (x : World) (m : model.Session) (d : Due) (gathered : List ℕ)
+    → AgreesBut (honestly leaving) (terms_of old.config) n old x → SlotIs peer.slot (x.work.slot n)
     → AskFits (terms_of old.config) x d.ask gathered
     → Planned (terms_of old.config) peer.session m d gathered false → IsStepOf step d.ask
     → answer ≢ answers.Memory
-    → Gives (terms_of old.config) n now d.ask gathered x answer new peer'.slot
+    → Gives leaving (terms_of old.config) n now d.ask gathered x answer new peer'.slot
     × Planned (terms_of old.config) peer'.session m d gathered (handed answer)
 
 -- the steps that take memory
@@ -95,6 +96,6 @@ queue_answer (Err error) = answers.Memory
 pub record LeavesAll {S : Type 0} {g : Ghosts S} (n : ℕ) (old : System S g) (peer : Peer)
     (new : System S g) (peer' : Peer)
     : Type 0 where
-  pub agrees : (trusted : Bool) (w : Terms) (x : World) → AgreesBut trusted w n old x
+  pub agrees : (trusted : Trust) (w : Terms) (x : World) → AgreesBut trusted w n old x
       → AgreesBut trusted w n new x
   pub same_peer : peer' ≡ peer

@@ -11,11 +11,11 @@ use Rattle.relay_facts.specs.Started.{HasSameStore, started}
 use Rattle.relay_model.specs.State.{State}
 use Rattle.relay_model.specs.Terms.{Terms}
 use Rattle.relay_model.specs.World.{World}
-use Rattle.relay_core.specs.Agreement.{Agrees}
+use Rattle.relay_core.specs.Agreement.{Agrees, AgreesLeft}
 use Rattle.relay_core.specs.Ahead.{is_ahead}
 use Rattle.relay_core.specs.Desks.{AreOf, Reads}
 use Rattle.relay_core.specs.Refusals.{HasGroupWriters}
-use Rattle.relay_core.specs.Stopping.{IsShut, stop_of}
+use Rattle.relay_core.specs.Stopping.{IsShut, stop_of, IsShutLeft}
 use Rattle.block_shelf.specs.Each.{AreEach}
 use Rattle.block_shelf.specs.Filled.{IsFilledAs, filled_in, filled_of}
 use Rattle.block_shelf.specs.Starting.{IsFromOutside, IsHeldBy, IsStartedBufferSet, IsUnwritten}
@@ -95,6 +95,10 @@ pub record StartsOver {S : Type 0} {g : Ghosts S} (config : Config) (stores : Li
   pub newest_is : system.newest ≡ Some history.newest
   pub agrees : (w : Terms) (stop : ℕ) (x : World) → HasSameStore w (terms_of config)
       → IsShut g w stop stores text x → Agrees true system (started x x.work.failures)
+  -- where a crash may leave those stores, it may leave the relay's
+  pub leaves : (w : Terms) (stop : ℕ) (x : World) → HasSameStore w (terms_of config)
+      → IsShut g w stop stores text x → IsShutLeft g w stop stores x
+      → AgreesLeft system (started x x.work.failures)
 
 -- why a start is refused, in the order of trial; where it is for one reason none before it was
 pub data IsStartRefusal {S : Type 0} (g : Ghosts S) (config : Config) (stores : List S)

@@ -1,6 +1,6 @@
 -- A clean stop of the relay: what its history tells, and what stores and text hold
 -- (docs/PROTOCOL.md, Clean stop and start).
-use Rattle.std.specs.Prelude.{◌≡◌, ◌+◌, ◌-◌, ◌^◌, ℕ, Bool, true, false, List, map, nat_lt, ◌<◌}
+use Rattle.std.specs.Prelude.{◌≡◌, ◌+◌, ◌-◌, ◌^◌, ℕ, true, false, List, map, nat_lt, ◌<◌}
 use Rattle.std.specs.Prelude.{if◌then◌else◌, length, All}
 use Rattle.article_verdict.specs.Config.{terms_of}
 use Rattle.cyc_block.specs.declared.store.BlockStore.{Ghosts}
@@ -18,8 +18,9 @@ use Rattle.relay_model.specs.Invariants.{IsWell}
 use Rattle.relay_model.specs.State.{State, Feed}
 use Rattle.relay_model.specs.Terms.{Terms}
 use Rattle.relay_model.specs.World.{World}
-use Rattle.relay_core.specs.Agreement.{Agrees, ring_sizes}
-use Rattle.block_shelf.specs.Stopping.{ArePositions, HoldsTexts, IsShutPartly}
+use Rattle.relay_core.specs.Agreement.{Agrees, ring_sizes, AgreesAs, AgreesLeft}
+use Rattle.block_shelf.specs.Stopping.{ArePositions, HoldsTexts, IsShutPartly, HoldsLeft}
+use Rattle.block_shelf.specs.Leaving.{Trust}
 use Rattle.relay_core.specs.declared.stopped.Unstopped.{Unstopped}
 use Rattle.relay_core.specs.declared.stopped.Unstopped.TheVariants as unstoppeds
 use Rattle.relay_core.specs.declared.system.System.{System}
@@ -58,22 +59,28 @@ pub record IsShut {S : Type 0} (g : Ghosts S) (w : Terms) (stop : ℕ) (stores :
   pub idle : (id : List ℕ) → is_storing (x.state.claim id) ≡ false
   pub well : IsWell w x
 
+-- a crash may leave the stores, as what the relay was shut to is
+abbrev pub IsShutLeft : {S : Type 0} → Ghosts S → Terms → (stop : ℕ) → (stores : List S) → World
+    → Type 0
+IsShutLeft g w stop stores x =
+    HoldsLeft g stores stop w x.state.begun x.state.kept x.work.failures
+
 -- the text is that of the history of each world that the relay agrees with
 abbrev pub TellsHistory : {S : Type 0} {g : Ghosts S} → System S g → (stop : ℕ) → List ℕ → Type 0
 TellsHistory system stop text =
-    (trusted : Bool) (x : World) → Agrees trusted system x
+    (trusted : Trust) (x : World) → AgreesAs trusted system x
     → Tells (terms_of system.config) stop x.state text
 
 -- an id is being stored in each world that the relay agrees with
 abbrev pub IsStoring : {S : Type 0} {g : Ghosts S} → System S g → Type 0
 IsStoring system =
-    (trusted : Bool) (x : World) → Agrees trusted system x
+    (trusted : Trust) (x : World) → AgreesAs trusted system x
     → (id : List ℕ) × (is_storing (x.state.claim id) ≡ true)
 
 -- none is
 abbrev pub IsAtRest : {S : Type 0} {g : Ghosts S} → System S g → Type 0
 IsAtRest system =
-    (trusted : Bool) (x : World) → Agrees trusted system x → (id : List ℕ)
+    (trusted : Trust) (x : World) → AgreesAs trusted system x → (id : List ℕ)
     → is_storing (x.state.claim id) ≡ false
 
 -- What closing gives holds each world that the relay agreed with, at the next stop; over stores
@@ -85,6 +92,9 @@ pub record Shuts {S : Type 0} {g : Ghosts S} (old : System S g) (stores : List S
   pub told : TellsHistory old (next_stop (stop_of old)) text
   pub holds : (x : World) → Agrees true old x
       → IsShut g (terms_of old.config) (next_stop (stop_of old)) stores text x
+  -- where a crash may have left its stores, it may leave those
+  pub leaves : (x : World) → AgreesLeft old x
+      → IsShutLeft g (terms_of old.config) (next_stop (stop_of old)) stores x
 
 -- Why the relay isn't closed. Where an id is being stored, and there alone, it isn't idle and comes
 -- back as it was; so it does where memory was refused. Else the device of a buffer has failed.

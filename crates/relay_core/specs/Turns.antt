@@ -26,6 +26,7 @@ use Rattle.relay_core.specs.declared.event.CoreError.TheVariants as faults
 use Rattle.relay_core.specs.declared.event.Output.{Output}
 use Rattle.relay_core.specs.declared.event.Output.TheVariants as outputs
 use Rattle.relay_core.specs.declared.system.System.{System}
+use Rattle.block_shelf.specs.Leaving.{Trust, honestly}
 
 -- the session heard the answer as the definitions say, and what it says is the output
 pub record Voiced (w : Terms) (n : ℕ) (d : Due) (told : shares.Answer) (output : Output)
@@ -59,13 +60,14 @@ IsMemoryAlone output =
     → output ≡ outputs.Refused faults.Memory
 
 -- a Turn was had: the world after it, but for the session, and what the session became
-pub record HasTurned {S : Type 0} {g : Ghosts S} (w : Terms) (n now : ℕ) (x : World)
+pub record HasTurned {S : Type 0} {g : Ghosts S} (leaving : Bool) (w : Terms) (n now : ℕ)
+    (x : World)
     (output : Output) (new : System S g) (peer : Peer)
     : Type 0 where
   pub between : World
   pub session : model.Session
   pub turns : Turns w x n now (output_view output) (with_session between n session)
-  pub agrees : AgreesBut true w n new between
+  pub agrees : AgreesBut (honestly leaving) w n new between
   pub stands : PeerStands true w between.state.kept peer session (between.work.slot n)
 
 -- what `serve` does, in whatever world the code agrees with but for the peer of session n, which
@@ -73,17 +75,18 @@ pub record HasTurned {S : Type 0} {g : Ghosts S} (w : Terms) (n now : ℕ) (x : 
 abbrev pub Serves : {S : Type 0} {g : Ghosts S} → (n now : ℕ) → (old : System S g) → Peer
     → Output → (new : System S g) → Peer → Type 0
 Serves n now old peer output new peer' =
-    (x : World) (m : model.Session) → AgreesBut true (terms_of old.config) n old x
+    (leaving : Bool) (x : World) (m : model.Session)
+    → AgreesBut (honestly leaving) (terms_of old.config) n old x
     → x.state.session n ≡ Some m
     → PeerStands true (terms_of old.config) x.state.kept peer m (x.work.slot n)
     → IsWell (terms_of old.config) x → output ≢ outputs.Refused faults.Memory
-    → HasTurned (terms_of old.config) n now x output new peer'
+    → HasTurned leaving (terms_of old.config) n now x output new peer'
 
 -- nothing that anybody can see has changed: the peer stands for what it stood for
 pub record StandsStill {S : Type 0} {g : Ghosts S} (n : ℕ) (old : System S g) (peer : Peer)
     (new : System S g) (peer' : Peer)
     : Type 0 where
-  pub agrees : (trusted : Bool) (w : Terms) (x : World) → AgreesBut trusted w n old x
+  pub agrees : (trusted : Trust) (w : Terms) (x : World) → AgreesBut trusted w n old x
       → AgreesBut trusted w n new x
   pub stands : (m : model.Session) (gathered : List ℕ)
       → Stands (terms_of old.config) peer.session m gathered

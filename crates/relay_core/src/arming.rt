@@ -1,5 +1,5 @@
 //! The relay over stores that fail on purpose.
-ghost use Rattle.relay_core.specs.Arming.{AgreesStill, Arms};
+ghost use Rattle.relay_core.specs.Arming.{AgreesStill, Arms, StaysLeft};
 ghost use Rattle.relay_core.specs.Sharing.{KeepsFrame};
 
 use crate::system::System;
@@ -13,6 +13,7 @@ impl<S: BlockStore> System<FailAt<S>> {
         ensures armed { Arms buffer k self.old self.new }
         // No world can tell that it was armed.
         ensures agrees { AgreesStill self.old self.new }
+        ensures leaves { StaysLeft self.old self.new }
         ensures frame { KeepsFrame self.old self.new }
     {
         self.buffer_set.arm(buffer, k);

@@ -110,12 +110,12 @@ impl<S: BlockStore> System<S> {
     ghost use Rattle.relay_model.specs.Run as run;
     ghost use Rattle.relay_core.specs.Refusals.{RefusesRightly};
     ghost use Rattle.relay_core.specs.Sharing.{KeepsFrame};
-    ghost use Rattle.relay_core.specs.Steps.{Steps};
+    ghost use Rattle.relay_core.specs.Steps.{StepsAs};
 
     /// The next bit of forgetting: the next front is read, or with all fronts the ids of the shard
     /// are forgotten that may be. It takes no memory.
     pub(crate) fn expire(&mut self, shard: usize, now: u64) -> Output
-        ensures steps { Steps (run.Expire shard now) self.old result self.new }
+        ensures steps { StepsAs (run.Expire shard now) self.old result self.new }
         ensures refused { RefusesRightly (run.Expire shard now) self.old result self.new }
         ensures frame { KeepsFrame self.old self.new }
     {

@@ -19,12 +19,12 @@ impl<S: BlockStore> System<S> {
     ghost use Rattle.relay_core.specs.Restarting.{BeginsAgain, IsReread, IsUnread};
     ghost use Rattle.relay_core.specs.Restarting.{RestartsRightly};
     ghost use Rattle.relay_core.specs.Sharing.{KeepsFrame};
-    ghost use Rattle.relay_core.specs.Steps.{Steps};
+    ghost use Rattle.relay_core.specs.Steps.{StepsAs};
 
     /// Closes the relay and starts it again, in place: the buffers from what they write, all else
     /// from the text of its history. Where a message-id is being stored nothing is done.
     pub(crate) fn restart(&mut self) -> Output
-        ensures steps { Steps run.Restart self.old result self.new }
+        ensures steps { StepsAs run.Restart self.old result self.new }
         ensures refused { RestartsRightly self.old result self.new }
         ensures frame { KeepsFrame self.old self.new }
     {

@@ -15,13 +15,15 @@ impl<S: BlockStore> System<S> {
     ghost use Rattle.relay_core.specs.Refusals.{RefusesRightly};
     ghost use Rattle.relay_core.specs.Restarting.{RefusedAs};
     ghost use Rattle.relay_core.specs.Sharing.{KeepsFrame};
-    ghost use Rattle.relay_core.specs.Steps.{RunsTo, Steps};
+    ghost use Rattle.relay_core.specs.Steps.{RunsLeft, RunsTo, Steps, StepsAs, StepsLeft};
     ghost use Rattle.relay_core.specs.Views.{event_view, output_view};
     ghost use Rattle.relay_core.specs.declared.event.CoreError.TheVariants as faults;
 
     /// Does what an event asks. A refused event changes nothing.
     pub fn step(&mut self, event: &Event) -> Output
         ensures steps { Steps (event_view event.now) self.old result self.new }
+        // A crash may leave its stores behind it, where it might before it.
+        ensures leaves { StepsLeft (event_view event.now) self.old result self.new }
         ensures refused { RefusedAs (event_view event.now) self.old result self.new }
         ensures frame { KeepsFrame self.old self.new }
     {
@@ -41,6 +43,9 @@ impl<S: BlockStore> System<S> {
     pub fn run(&mut self, events: &[Event]) -> Result<Vec<Output>, CoreError>
         ensures run { IfOk result (λ outputs. RunsTo (map event_view events.now) self.old
             (map output_view outputs.items) self.new) }
+        // A crash may leave its stores behind them, where it might before the first.
+        ensures leaves { IfOk result (λ outputs. RunsLeft (map event_view events.now) self.old
+            (map output_view outputs.items) self.new) }
         ensures memory { IfErr result (λ error. error ≡ faults.Memory) }
         ensures unbegun { IfErr result (λ error. self.new ≡ self.old) }
     {
@@ -57,7 +62,7 @@ impl<S: BlockStore> System<S> {
 
     /// A session opens. Its greeting has room first.
     fn open(&mut self, number: u64, peer: usize) -> Output
-        ensures steps { Steps (run.Open number peer) self.old result self.new }
+        ensures steps { StepsAs (run.Open number peer) self.old result self.new }
         ensures refused { RefusesRightly (run.Open number peer) self.old result self.new }
         ensures frame { KeepsFrame self.old self.new }
     {
@@ -86,7 +91,7 @@ impl<S: BlockStore> System<S> {
 
     /// Octets come to a session.
     fn bytes(&mut self, number: u64, piece: &Octets) -> Output
-        ensures steps { Steps (run.Bytes number piece.now) self.old result self.new }
+        ensures steps { StepsAs (run.Bytes number piece.now) self.old result self.new }
         ensures refused { RefusesRightly (run.Bytes number piece.now) self.old result self.new }
         ensures frame { KeepsFrame self.old self.new }
     {
@@ -108,7 +113,7 @@ impl<S: BlockStore> System<S> {
 
     /// A session's connection is gone: it leaves. This takes no memory.
     fn break_off(&mut self, number: u64) -> Output
-        ensures steps { Steps (run.Break number) self.old result self.new }
+        ensures steps { StepsAs (run.Break number) self.old result self.new }
         ensures refused { RefusesRightly (run.Break number) self.old result self.new }
         ensures frame { KeepsFrame self.old self.new }
     {

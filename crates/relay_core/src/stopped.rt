@@ -3,6 +3,7 @@
 use crate::system::System;
 use block_shelf::Unstarted;
 use cyc_block::BlockStore;
+use relay_conf::Config;
 use std::io;
 
 /// A relay that was closed.
@@ -12,6 +13,15 @@ pub struct Stopped<S> {
     pub stores: Vec<S>,
     /// The text of its history (docs/FORMATS.md, History file).
     pub history: Vec<u8>,
+}
+
+/// What is left of a relay that was killed.
+#[derive(Drop)]
+pub struct LeftBehind<S> {
+    /// Its settings.
+    pub config: Config,
+    /// The stores of its buffers, in their order, as they were.
+    pub stores: Vec<S>,
 }
 
 /// Why a relay isn't closed, in the order of trial; want of memory comes last before the devices.

@@ -16,7 +16,7 @@ pub const GROUP_LIMIT: usize = 256;
 
 impl<S: BlockStore> System<S> {
     ghost use Rattle.std.specs.Prelude.{◌≡◌, IfErr, IfOk};
-    ghost use Rattle.relay_core.specs.Stopping.{ComesBack, Shuts, TellsHistory};
+    ghost use Rattle.relay_core.specs.Stopping.{ComesBack, Shuts, TellsHistory, stop_of};
 
     /// Closes the relay: gives the stores of its buffers, and the text of its history. Where a
     /// message-id is being stored it isn't.
@@ -50,6 +50,20 @@ impl<S: BlockStore> System<S> {
             Err(Unshut::Busy(buffer_set)) => Err(Unstopped::NotIdle(unbuffered.with(buffer_set))),
             Err(Unshut::Memory(buffer_set)) => Err(Unstopped::Memory(unbuffered.with(buffer_set))),
         }
+    }
+
+    /// The number of its last stop: 0 before the first.
+    pub fn stop(&self) -> u64
+        ensures { result ≡ stop_of self.now }
+    {
+        self.stop
+    }
+
+    /// The text of its history, as it is now, at its last stop.
+    pub fn history(&self) -> Result<Vec<u8>, AllocError>
+        ensures { IfOk result (λ text. TellsHistory self.now (stop_of self.now) text.items) }
+    {
+        self.text(self.stop)
     }
 
     /// The text of its history at this stop.

@@ -20,14 +20,14 @@ impl<S: BlockStore> System<S> {
     ghost use Rattle.relay_model.specs.Terms.{last_moment};
     ghost use Rattle.relay_core.specs.Refusals.{RefusesRightly};
     ghost use Rattle.relay_core.specs.Sharing.{KeepsFrame};
-    ghost use Rattle.relay_core.specs.Steps.{Steps};
+    ghost use Rattle.relay_core.specs.Steps.{StepsAs};
     ghost use Rattle.relay_core.specs.Turns.{IsMemoryAlone, Serves, StandsStill};
     ghost use Rattle.relay_core.specs.declared.event.CoreError.TheVariants as faults;
     ghost use Rattle.relay_core.specs.declared.event.Output.TheVariants as outputs;
 
     /// The next bit of a session's work.
     pub(crate) fn turn(&mut self, number: u64, now: u64) -> Output
-        ensures steps { Steps (run.Turn number now) self.old result self.new }
+        ensures steps { StepsAs (run.Turn number now) self.old result self.new }
         ensures refused { RefusesRightly (run.Turn number now) self.old result self.new }
         ensures frame { KeepsFrame self.old self.new }
     {

@@ -59,6 +59,21 @@ impl Unbuffered {
         }
     }
 
+    /// Its settings; all else is let go.
+    pub(crate) fn into_config(self) -> Config
+        ensures { result ≡ self.config }
+    {
+        let Unbuffered {
+            config,
+            peers,
+            desks,
+            ..
+        } = self;
+        drop(peers);
+        drop(desks);
+        config
+    }
+
     /// The relay with these buffers.
     pub(crate) fn with<S: BlockStore>(self, buffer_set: BufferSet<S>) -> System<S>
         ensures { result ≡ with_buffers self buffer_set }

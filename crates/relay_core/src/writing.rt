@@ -19,13 +19,13 @@ impl<S: BlockStore> System<S> {
     ghost use Rattle.buffer_group.specs.declared.writer.Writer.TheVariants as writers;
     ghost use Rattle.relay_model.specs.Run as run;
     ghost use Rattle.relay_core.specs.Refusals.{RefusesRightly};
-    ghost use Rattle.relay_core.specs.Steps.{Steps};
+    ghost use Rattle.relay_core.specs.Steps.{StepsAs};
     ghost use Rattle.relay_core.specs.Sharing.{KeepsFrame};
     ghost use Rattle.relay_core.specs.Writing.{Advances};
 
     /// The next bit of the work of a group's writer. It takes no memory.
     pub(crate) fn write(&mut self, group: usize, now: u64) -> Output
-        ensures steps { Steps (run.Write group now) self.old result self.new }
+        ensures steps { StepsAs (run.Write group now) self.old result self.new }
         ensures refused { RefusesRightly (run.Write group now) self.old result self.new }
         ensures frame { KeepsFrame self.old self.new }
     {

@@ -1,6 +1,8 @@
 -- What is found is what was whole there, and its message-id is remembered.
-use Rattle.std.proofs.Common.{◌≡◌, ◌∙◌, ℕ, Bool, true, false, List, [], ◌∷◌, All, Option, None, Some}
-use Rattle.std.proofs.Common.{bytes_eq, refl, sym, ap, subst, true≢false, if◌then◌else◌, ◌≤◌, arith, length, get_or}
+use Rattle.std.proofs.Common.{◌≡◌, ◌∙◌, ℕ, Bool, true, false, List, [], ◌∷◌, All, Option, None}
+use Rattle.std.proofs.Common.{Some}
+use Rattle.std.proofs.Common.{bytes_eq, refl, sym, ap, subst, true≢false, if◌then◌else◌, ◌≤◌, arith}
+use Rattle.std.proofs.Common.{length, get_or}
 use Rattle.std.specs.Prelude.{find, option_map}
 use Rattle.std.specs.List.{Contains}
 use Rattle.std.proofs.lemmas.List.Elements.{All-map, All-contains, All-cons, All-nil}

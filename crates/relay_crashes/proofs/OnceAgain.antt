@@ -3,7 +3,8 @@ use Rattle.std.proofs.Common.{◌≡◌, ℕ, ◌+◌, ◌≤◌, Bool, true, fa
 use Rattle.std.proofs.Common.{Some, All, count_by, cond, bytes_eq, refl, sym, ap, subst, arith}
 use Rattle.std.proofs.Common.{le_refl, zero-le, le_trans, true≢false, if◌then◌else◌}
 use Rattle.std.specs.Prelude.{find, filter}
-use Rattle.std.proofs.lemmas.List.Elements.{All-nil, All-cons, All-weaker, All-filter, filter_passes}
+use Rattle.std.proofs.lemmas.List.Elements.{All-nil, All-cons, All-weaker, All-filter}
+use Rattle.std.proofs.lemmas.List.Elements.{filter_passes}
 use Rattle.std.proofs.lemmas.List.Sums.{sum_by-cons}
 use Rattle.news_terms.specs.Token.{Token, same_token}
 use Rattle.relay_model.specs.Claims.{Stored}
@@ -16,7 +17,8 @@ use Rattle.relay_laws.proofs.Tests.{passes_place, same_places}
 use Rattle.relay_model.specs.Crash.{Again, Found, Listed, IsFound, accepted_again, claim_again}
 use Rattle.relay_model.specs.Crash.{claim_by, claimed, has_room, is_claimed, permitted_again}
 use Rattle.relay_model.specs.Crash.{state_again}
-use Rattle.relay_crashes.proofs.WellAgain.{accepted_all, find_all, from_kept, kept_of, never_storing}
+use Rattle.relay_crashes.proofs.WellAgain.{accepted_all, find_all, from_kept, kept_of}
+use Rattle.relay_crashes.proofs.WellAgain.{never_storing}
 
 -- a test that implies another counts no more
 ones : (a b : Bool) → (a ≡ true → b ≡ true) → cond {A = ℕ} a 1 0 ≤ cond {A = ℕ} b 1 0

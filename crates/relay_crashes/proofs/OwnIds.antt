@@ -1,5 +1,6 @@
 -- Each text that is kept has the message-id that it was stored under, which is its own.
-use Rattle.std.proofs.Common.{◌≡◌, ◌∙◌, ◌≤◌, ◌<◌, ◌++◌, ◌-◌, ℕ, nat_lt, nat_le, Bool, true, false, List, []}
+use Rattle.std.proofs.Common.{◌≡◌, ◌∙◌, ◌≤◌, ◌<◌, ◌++◌, ◌-◌, ℕ, nat_lt, nat_le, Bool, true, false}
+use Rattle.std.proofs.Common.{List, []}
 use Rattle.std.proofs.Common.{◌∷◌, length, Option, None, Some, All, refl, sym, ap, subst}
 use Rattle.std.proofs.Common.{slice_get}
 use Rattle.std.specs.Prelude.{option_map}
@@ -25,7 +26,8 @@ use Rattle.relay_model.specs.Shares as shares
 use Rattle.relay_model.specs.State.{State, Session, Kept, Job}
 use Rattle.relay_model.specs.State.{Ended, Leaving, in_phase, put_at, put_id, with_unread}
 use Rattle.relay_model.specs.Terms.{Terms, last_moment, queue_limit}
-use Rattle.relay_model.specs.World.{World, Output, Expirer, Reading, Forgetting, NoSession, BadMoment}
+use Rattle.relay_model.specs.World.{World, Output, Expirer, Reading, Forgetting, NoSession}
+use Rattle.relay_model.specs.World.{BadMoment}
 use Rattle.relay_model.specs.World.{with_session}
 use Rattle.relay_model.specs.Writers.{Writes, NoJob, Pops, HasBegun, FindsWorn, WritesBlock}
 use Rattle.relay_model.specs.Writers.{FailsToWrite, HasStored, Settles, Closes, Forgets, TellsKept}

@@ -15,7 +15,8 @@ use Rattle.relay_model.specs.Terms.{Terms}
 use Rattle.relay_model.specs.State.{tokens_for}
 use Rattle.relay_model.specs.World.{World}
 use Rattle.relay_crashes.specs.Rings.{GainsOrFull, held_of, most_of}
-use Rattle.relay_model.specs.Crash.{Again, Crash, accepted_again, has_room, is_claimed, permitted_again}
+use Rattle.relay_model.specs.Crash.{Again, Crash, accepted_again, has_room, is_claimed}
+use Rattle.relay_model.specs.Crash.{permitted_again}
 
 -- a number that is among those that pass passes
 among_passes : (p : ℕ → Bool) (f : ℕ) (xs : List ℕ)

@@ -199,7 +199,8 @@ lie_apart x y apart buffer cycle first =
     (begins_at buffer cycle first x.kept at ∙ sym (begins_at buffer cycle first y.kept other)))
 
 -- texts found where all that is below is as before
-pub crash_by : (saved : Token → Bool) (x : World) (texts : List Again) (sizes : List ℕ) (listed : List Listed)
+pub crash_by : (saved : Token → Bool) (x : World) (texts : List Again) (sizes : List ℕ)
+    (listed : List Listed)
     (later : ℕ → ℕ) → AreBegun (courses_of k1 (λ group. sizes))
     → front_of k1 (state_again k1 (found_by texts sizes listed)) buffer_a
     ≤ front_of k1 x.state buffer_a
@@ -217,7 +218,8 @@ pub crash_by : (saved : Token → Bool) (x : World) (texts : List Again) (sizes 
     → text_under (kept_of texts) before.token ≡ Some before.text) x.state.kept
     → All (λ one. one.moment ≤ last_moment) listed
     → Crash k1 k1 saved x (world_again k1 (found_by texts sizes listed) later)
-crash_by saved x texts sizes listed later begun front read below of_before places ids count owned kept
+crash_by saved x texts sizes listed later begun front read below of_before places ids count owned
+    kept
     timed = record {
       found = found_by texts sizes listed;
       failures = later;

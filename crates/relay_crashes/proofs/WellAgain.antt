@@ -162,7 +162,8 @@ gained_few f accepted =
 -- nobody has anything to accept
 nothing_left : (n : ℕ) → sum_below (λ g. 0) n ≡ 0
 nothing_left zero = refl
-nothing_left (suc n) = let before : sum_below (λ g. 0) n ≡ 0 = nothing_left n in omega (arith, before)
+nothing_left (suc n) = let before : sum_below (λ g. 0) n ≡ 0 = nothing_left n in omega
+    (arith, before)
 
 -- each claim is of a moment that there is
 timed : (w v : Terms) (saved : Token → Bool) (σ : State) (found : Found)

@@ -1,6 +1,7 @@
 //! What a crash leaves, and what holds of all lives of the relay: of runs, with crashes between
 //! them.
-ghost use Rattle.std.specs.Prelude.{◌≡◌, ◌≢◌, ◌≤◌, ℕ, Bool, true, List, [], Some, slice_get, nat_eq, All};
+ghost use Rattle.std.specs.Prelude.{◌≡◌, ◌≢◌, ◌≤◌, ℕ, Bool, true, List, [], Some, slice_get};
+ghost use Rattle.std.specs.Prelude.{nat_eq, All};
 ghost use Rattle.std.specs.List.{Contains, list_any};
 ghost use Rattle.news_terms.specs.Article.{Article, IsArticleText, message_id};
 ghost use Rattle.news_terms.specs.Ring.{missed};

@@ -81,7 +81,7 @@ fn standing_in<S: BlockStore>(store: &mut S, place: usize, stop: u64) -> Result<
 
 /// The numbers that head block 0 says, where it is that of the buffer at this place, with so many
 /// blocks.
-fn numbers_of(octets: &[u8; BLOCK_OCTETS], place: usize, blocks: u32) -> Option<HeadNumbers>
+pub fn numbers_of(octets: &[u8; BLOCK_OCTETS], place: usize, blocks: u32) -> Option<HeadNumbers>
     ensures numbers { MatchOption result
         ((b : HeadBlock) → Says (octets.now ∷ []) (buffer_at place blocks) b → ⊥)
         (λ numbers. Says (octets.now ∷ []) (buffer_at place blocks) (head_view numbers)) }

@@ -6,5 +6,5 @@
 mod heads;
 mod positions;
 
-pub use heads::{HeadFault, Standing, standing_of};
+pub use heads::{HeadFault, Standing, numbers_of, standing_of};
 pub use positions::positions_again;

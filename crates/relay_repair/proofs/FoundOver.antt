@@ -9,9 +9,8 @@ use Rattle.article_verdict.specs.Config.{terms_of}
 use Rattle.block_shelf.specs.Each.{AreEach}
 use Rattle.block_shelf.specs.Openings.{Opening}
 use Rattle.block_shelf.specs.Starting.{IsUnwritten}
-use Rattle.buffer_repair.specs.Keeping.{AreLeftOf, AreLeftOfGroups, HasLeft, KeepsLeft}
-use Rattle.buffer_repair.specs.Keeping.{LeavesRecord, saved_in}
-use Rattle.buffer_repair.specs.Keeping.{TellsBefore}
+use Rattle.block_shelf.specs.Leaving.{AreLeftOf, HasLeft, saved_in}
+use Rattle.buffer_repair.specs.Keeping.{AreLeftOfGroups, KeepsLeft, LeavesRecord, TellsBefore}
 use Rattle.buffer_repair.specs.declared.found_set.FoundBufferSet.{FoundBufferSet}
 use Rattle.cyc_block.specs.declared.store.BlockStore.{Ghosts}
 use Rattle.cyc_buffer.specs.Crash.{IsLeftOf}
@@ -26,7 +25,8 @@ use Rattle.relay_model.specs.Terms.{Terms}
 use Rattle.relay_model.specs.World.{World}
 use Rattle.repair_laws.proofs.RecoveredSet.{recovered_are_found}
 use Rattle.relay_repair.proofs.Repaired.{nameless}
-use Rattle.relay_repair.specs.Repairing.{IsFoundOf, IsLeftBy, RepairsFrom}
+use Rattle.relay_core.specs.Killing.{IsLeftBy}
+use Rattle.relay_repair.specs.Repairing.{IsFoundOf, RepairsFrom, RepairsLeftFrom}
 
 -- what is left of a relay is left of one with other settings that have its buffers and groups
 pub left_of : {S : Type 0} {g : Ghosts S} {stores : List S} {w v : Terms} {begun : ℕ → Course}
@@ -98,5 +98,15 @@ pub repairs_on : {S : Type 0} {g : Ghosts S} {failed : Option ℕ} {old new : Li
     → RepairsFrom g config new last now back history
     → RepairsFrom g config old last now back history
 repairs_on config last now back history are repairs honest w saved x same left =
+    repairs (honest_on are honest) w saved x same
+    (record { well = left.well; left = left_on are honest left.left })
+
+-- and a crash may leave it where it might
+pub left_repairs_on : {S : Type 0} {g : Ghosts S} {failed : Option ℕ} {old new : List S}
+    (config : Config) (last : Option texts.Kept) (now : ℕ) (back : List S) (history : List ℕ)
+    → AreEach (IsUnwritten g failed) old new
+    → RepairsLeftFrom g config new last now back history
+    → RepairsLeftFrom g config old last now back history
+left_repairs_on config last now back history are repairs honest w saved x same left =
     repairs (honest_on are honest) w saved x same
     (record { well = left.well; left = left_on are honest left.left })

@@ -1,7 +1,6 @@
 -- What is found of a relay is shut as the stop of a world that a crash leads to.
-use Rattle.std.proofs.Common.{◌≡◌, ◌∙◌, ℕ, ◌<◌, false, List, [], length}
-use Rattle.std.proofs.Common.{map, min, Option, None, Some, unwrap_or, slice_get, refl, sym, ap}
-use Rattle.std.proofs.Common.{subst}
+use Rattle.std.proofs.Common.{◌≡◌, ◌∙◌, ℕ, ◌<◌, false, List, [], length, map, min, Option, None}
+use Rattle.std.proofs.Common.{Some, unwrap_or, slice_get, refl, sym, ap, subst}
 use Rattle.std.specs.Borrow.{Bor}
 use Rattle.std.proofs.lemmas.Simd.{map-map}
 use Rattle.std.proofs.Math.Nat.{min-le_right}
@@ -11,7 +10,7 @@ use Rattle.block_shelf.specs.Stopping.{ArePositions}
 use Rattle.buffer_repair.specs.Finding.{remains_in}
 use Rattle.buffer_repair.specs.Keeping.{KeepsFound}
 use Rattle.buffer_repair.specs.Remains.{AreTurns, all_texts_left, courses_left}
-use Rattle.buffer_repair.specs.Shutting.{HoldsFound}
+use Rattle.buffer_repair.specs.Shutting.{HoldsFound, HoldsFoundLeft}
 use Rattle.buffer_repair.specs.declared.found_set.FoundBufferSet.{FoundBufferSet}
 use Rattle.cyc_block.specs.declared.store.BlockStore.{Ghosts}
 use Rattle.feed_queue.specs.Feeds.{ring_size}
@@ -25,18 +24,15 @@ use Rattle.id_history.specs.declared.kept.History.{History}
 use Rattle.news_terms.specs.Token.{Token}
 use Rattle.relay_conf.specs.declared.settings.Config.{Config}
 use Rattle.relay_crashes.proofs.WellAgain.{again_well, never_storing}
-use Rattle.relay_model.specs.Claims.{Claim, Unknown, Offered, Storing, Stored, Refused}
-use Rattle.relay_model.specs.Claims.{is_storing}
-use Rattle.relay_model.specs.Crash.{Again, Found, IsFound, claim_again}
-use Rattle.relay_model.specs.Crash.{world_again}
+use Rattle.relay_model.specs.Claims.{Claim, Unknown, Offered, Storing, Stored, Refused, is_storing}
+use Rattle.relay_model.specs.Crash.{Again, Found, IsFound, claim_again, world_again}
 use Rattle.relay_model.specs.Terms.{FeedTerms, last_moment}
 use Rattle.repair_laws.proofs.FoundWhole.{found_is_of_crash}
 use Rattle.repair_laws.proofs.Positions.{turn_positions}
 use Rattle.repair_laws.proofs.SameKept.{same_kept}
 use Rattle.repair_laws.specs.FoundAll.{AreBuffersFound, AreClaimed, IsOfCrash, found_with}
 use Rattle.relay_repair.specs.Repairing.{AreInTime, ShutsFound}
-use Rattle.relay_repair.specs.Telling.{TellsFound, last_lent, last_listed, listed_of}
-use Rattle.relay_repair.specs.Telling.{stop_again}
+use Rattle.relay_repair.specs.Telling.{TellsFound, last_lent, last_listed, listed_of, stop_again}
 
 -- the turns that these positions tell
 abbrev pub turns_at : List ℕ → ℕ → ℕ
@@ -73,7 +69,8 @@ at_rest found id = by (claim_again found id) refl
 module _ {S : Type 0} {g : Ghosts S} (config : Config) (old : Option (Bor History)) (now : ℕ)
     (before after : FoundBufferSet S g) (text : List ℕ) (stores : List S)
     (told : TellsFound config old now before after text)
-    (held : HoldsFound (stop_again old) after stores) where
+    (held : HoldsFound (stop_again old) after stores)
+    (left : HoldsFoundLeft (stop_again old) after stores) where
   -- each turn is of a buffer of its group
   in_turn : AreTurns (terms_of config).groups (turns_at told.positions)
   in_turn h group there some =
@@ -137,21 +134,25 @@ module _ {S : Type 0} {g : Ghosts S} (config : Config) (old : Option (Bor Histor
       same_kept after (terms_of config) begun read.left
       (map (λ (one : Again). one.kept) crash.again) failures read.keeps crash.same in
       record {
-        after = world_again (terms_of config) found failures;
-        crash = record {
-          found = found;
-          failures = failures;
-          is_found = is_found;
-          after = refl;
+        repair = record {
+          after = world_again (terms_of config) found failures;
+          crash = record {
+            found = found;
+            failures = failures;
+            is_found = is_found;
+            after = refl;
+          };
+          listed = refl;
+          moment = refl;
+          shut = record {
+            tells = told.tells.tells found is_of turned;
+            buffer_set =
+                held (terms_of config) begun (map (λ (one : Again). one.kept) crash.again)
+                failures keeps_again;
+            idle = at_rest found;
+            well = again_well w (terms_of config) saved x.state found failures is_found;
+          };
         };
-        listed = refl;
-        moment = refl;
-        shut = record {
-          tells = told.tells.tells found is_of turned;
-          buffer_set =
-              held (terms_of config) begun (map (λ (one : Again). one.kept) crash.again)
-              failures keeps_again;
-          idle = at_rest found;
-          well = again_well w (terms_of config) saved x.state found failures is_found;
-        };
+        left = left (terms_of config) begun (map (λ (one : Again). one.kept) crash.again)
+            failures keeps_again;
       }

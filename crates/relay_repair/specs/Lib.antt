@@ -1,3 +1,4 @@
 pub mod Refusing
 pub mod Repairing
+pub mod Reviving
 pub mod Telling

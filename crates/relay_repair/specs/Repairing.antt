@@ -7,25 +7,15 @@ use Rattle.news_terms.specs.Token.{Token}
 use Rattle.relay_conf.specs.declared.settings.Config.{Config}
 use Rattle.relay_facts.specs.Started.{HasSameStore}
 use Rattle.relay_model.specs.Crash.{Crash, Listed}
-use Rattle.relay_model.specs.Invariants.{IsWell}
 use Rattle.relay_model.specs.Terms.{Terms, last_moment}
 use Rattle.relay_model.specs.World.{World}
 use Rattle.buffer_repair.specs.Finding.{remains_in}
-use Rattle.buffer_repair.specs.Keeping.{AreLeftOf}
 use Rattle.buffer_repair.specs.Remains.{AreTurns, all_texts_left, courses_left}
 use Rattle.buffer_repair.specs.declared.found_set.FoundBufferSet.{FoundBufferSet}
-use Rattle.relay_core.specs.Openings.{openings}
-use Rattle.relay_core.specs.Stopping.{IsShut, next_stop}
+use Rattle.relay_core.specs.Killing.{IsLeftBy}
+use Rattle.relay_core.specs.Stopping.{IsShut, IsShutLeft, next_stop}
 use Rattle.repair_laws.specs.FoundAll.{AreBuffersFound}
 use Rattle.relay_repair.specs.Telling.{IsLast, last_listed, last_stop}
-
--- The stores may be what a crash has left of a relay that was in this world, under these settings;
--- each text that was saved had to be left.
-pub record IsLeftBy {S : Type 0} (g : Ghosts S) (stores : List S) (w : Terms)
-    (saved : Token → Bool) (x : World)
-    : Type 0 where
-  pub well : IsWell w x
-  pub left : AreLeftOf g stores w x.state.begun x.state.kept (openings x.work.writer) saved
 
 -- Stores and text are those of the stop of a world that a crash leads to from this one: with the
 -- texts that are found, and the ids that the history of the last stop lists.
@@ -55,6 +45,29 @@ Repairs g config stores text now back history =
     (last : Option texts.Kept) × IsLast config text last
     × RepairsFrom g config stores last now back history
 
+-- they are, and a crash may leave the stores
+pub record IsLeftRepairOf {S : Type 0} (g : Ghosts S) (config : Config) (last : Option texts.Kept)
+    (now : ℕ) (w : Terms) (saved : Token → Bool) (x : World) (stores : List S)
+    (history : List ℕ)
+    : Type 0 where
+  pub repair : IsRepairOf g config last now w saved x stores history
+  pub left : IsShutLeft g (terms_of config) (next_stop (last_stop last)) stores repair.after
+
+-- a repair gives such, whatever relay was left
+abbrev pub RepairsLeftFrom : {S : Type 0} (g : Ghosts S) → Config → (stores : List S)
+    → (last : Option texts.Kept) → (now : ℕ) → (back : List S) → (history : List ℕ) → Type 0
+RepairsLeftFrom g config stores last now back history =
+    All g.honest stores → (w : Terms) (saved : Token → Bool) (x : World)
+    → HasSameStore w (terms_of config) → IsLeftBy g stores w saved x
+    → IsLeftRepairOf g config last now w saved x back history
+
+-- so it does from the history that is handed in
+abbrev pub RepairsLeft : {S : Type 0} (g : Ghosts S) → Config → (stores : List S)
+    → (text : Option (List ℕ)) → (now : ℕ) → (back : List S) → (history : List ℕ) → Type 0
+RepairsLeft g config stores text now back history =
+    (last : Option texts.Kept) × IsLast config text last
+    × RepairsLeftFrom g config stores last now back history
+
 -- how many blocks each store has
 abbrev pub counts_of : {S : Type 0} → Ghosts S → List S → List ℕ
 counts_of {S} g stores = map (λ (store : S). length (g.blocks store)) stores
@@ -80,4 +93,4 @@ abbrev pub ShutsFound : {S : Type 0} {g : Ghosts S} → Config → FoundBufferSe
 ShutsFound {g = g} config found_set last now back history =
     (w : Terms) (saved : Token → Bool) (x : World)
     → IsFoundOf found_set w (terms_of config) saved x
-    → IsRepairOf g config last now w saved x back history
+    → IsLeftRepairOf g config last now w saved x back history

@@ -4,6 +4,8 @@
 #![tactic(auto)]
 
 mod repairing;
+mod reviving;
 mod shutting;
 
 pub use repairing::repair;
+pub use reviving::revive;

@@ -4,7 +4,8 @@ ghost use Rattle.id_history.specs.History.{Kept};
 ghost use Rattle.relay_remains.specs.Heads.{AreUnwritten, TellsEnds};
 ghost use Rattle.relay_repair.specs.Refusing.{IsRefusedAfter, IsRefusedFor, IsUnrepaired};
 ghost use Rattle.relay_repair.specs.Refusing.{IsUnshutOver};
-ghost use Rattle.relay_repair.specs.Repairing.{AreInTime, Repairs, RepairsFrom, counts_of};
+ghost use Rattle.relay_repair.specs.Repairing.{AreInTime, Repairs, RepairsLeft, RepairsLeftFrom};
+ghost use Rattle.relay_repair.specs.Repairing.{counts_of};
 ghost use Rattle.relay_repair.specs.Telling.{IsLast, IsUntold, last_lent, last_listed};
 ghost use Rattle.relay_repair.specs.Telling.{last_stop, last_view};
 ghost use Rattle.relay_repair.specs.Telling.{octets_in};
@@ -39,6 +40,9 @@ pub fn repair<S: BlockStore + Drop>(
     // given is the stop of a world to which a crash leads.
     ensures repaired { IfOk result (λ stopped. Repairs ⟦<S as BlockStore>⟧ config.now stores.items
         (octets_in text.entry) now stopped.stores.items stopped.history.items) }
+    // A crash may leave it again.
+    ensures left { IfOk result (λ stopped. RepairsLeft ⟦<S as BlockStore>⟧ config.now stores.items
+        (octets_in text.entry) now stopped.stores.items stopped.history.items) }
     ensures counts { IfOk result (λ stopped. counts_of ⟦<S as BlockStore>⟧ stopped.stores.items
         ≡ counts_of ⟦<S as BlockStore>⟧ stores.items) }
     // What a crash left is refused for memory or a device alone; all stores come back.
@@ -67,6 +71,8 @@ fn repair_by<S: BlockStore + Drop>(
     requires { map (λ store. length (S.blocks store)) stores.items
         ≡ map (λ buffer. buffer.blocks) config.now.buffers.buffers.items }
     ensures repaired { IfOk result (λ stopped. Repairs ⟦<S as BlockStore>⟧ config.now stores.items
+        (octets_in text.entry) now stopped.stores.items stopped.history.items) }
+    ensures left { IfOk result (λ stopped. RepairsLeft ⟦<S as BlockStore>⟧ config.now stores.items
         (octets_in text.entry) now stopped.stores.items stopped.history.items) }
     ensures counts { IfOk result (λ stopped. counts_of ⟦<S as BlockStore>⟧ stopped.stores.items
         ≡ counts_of ⟦<S as BlockStore>⟧ stores.items) }
@@ -113,7 +119,7 @@ fn repair_after<S: BlockStore + Drop>(
     requires { map (λ store. length (S.blocks store)) stores.items
         ≡ map (λ buffer. buffer.blocks) config.now.buffers.buffers.items }
     ensures repaired { IfOk result (λ stopped. AreInTime (last_listed (last_lent old.entry))
-        → RepairsFrom ⟦<S as BlockStore>⟧ config.now stores.items (last_lent old.entry) now
+        → RepairsLeftFrom ⟦<S as BlockStore>⟧ config.now stores.items (last_lent old.entry) now
         stopped.stores.items stopped.history.items) }
     ensures counts { IfOk result (λ stopped. counts_of ⟦<S as BlockStore>⟧ stopped.stores.items
         ≡ counts_of ⟦<S as BlockStore>⟧ stores.items) }
@@ -155,7 +161,7 @@ fn repair_found<S: BlockStore + Drop>(
     requires { map (λ store. length (S.blocks store)) stores.items
         ≡ map (λ buffer. buffer.blocks) config.now.buffers.buffers.items }
     ensures repaired { IfOk result (λ stopped. AreInTime (last_listed (last_lent old.entry))
-        → RepairsFrom ⟦<S as BlockStore>⟧ config.now stores.items (last_lent old.entry) now
+        → RepairsLeftFrom ⟦<S as BlockStore>⟧ config.now stores.items (last_lent old.entry) now
         stopped.stores.items stopped.history.items) }
     ensures counts { IfOk result (λ stopped. counts_of ⟦<S as BlockStore>⟧ stopped.stores.items
         ≡ counts_of ⟦<S as BlockStore>⟧ stores.items) }

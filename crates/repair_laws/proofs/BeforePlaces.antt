@@ -15,7 +15,8 @@ use Rattle.buffer_repair.proofs.LeftTexts.{at_place, count_one, text_is}
 use Rattle.buffer_repair.proofs.RejectedTexts.{article_from, under_own}
 use Rattle.buffer_repair.proofs.Without.{count_beside, count_without, here, is_here}
 use Rattle.buffer_repair.proofs.Without.{one_counted, some_under, under_some}
-use Rattle.buffer_repair.specs.Keeping.{AreLeftOf, without_text}
+use Rattle.block_shelf.specs.Leaving.{AreLeftOf}
+use Rattle.buffer_repair.specs.Keeping.{without_text}
 use Rattle.cyc_block.specs.declared.store.BlockStore.{Ghosts}
 use Rattle.cyc_buffer.proofs.Finished.{IsBefore, at_itself, at_parts, place_of}
 use Rattle.cyc_buffer.proofs.Places.{IsPlaced, chosen, placed}

@@ -3,7 +3,8 @@ use Rattle.std.proofs.Common.{◌≡◌, ℕ, Bool, List, Option}
 use Rattle.block_shelf.specs.Filling.{failures_in}
 use Rattle.block_shelf.specs.Openings.{Opening}
 use Rattle.buffer_repair.specs.Finding.{remains_in}
-use Rattle.buffer_repair.specs.Keeping.{AreLeftOf, AreLeftOfGroups, KeepsFound, KeepsLeft}
+use Rattle.block_shelf.specs.Leaving.{AreLeftOf}
+use Rattle.buffer_repair.specs.Keeping.{AreLeftOfGroups, KeepsFound, KeepsLeft}
 use Rattle.buffer_repair.specs.Keeping.{LeavesRecord, TellsBefore}
 use Rattle.buffer_repair.specs.Remains.{AreOfGroups, AreTurns, all_texts_left, courses_left}
 use Rattle.buffer_repair.specs.declared.found_set.FoundBufferSet.{FoundBufferSet}

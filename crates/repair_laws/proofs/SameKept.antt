@@ -1,14 +1,16 @@
 -- Buffers that were found again keep the same texts in whatever order, for whatever ids.
-use Rattle.std.proofs.Common.{◌∙◌, ℕ, List, [], ◌∷◌, map, All}
-use Rattle.std.proofs.Common.{None}
+use Rattle.std.proofs.Common.{◌∙◌, ℕ, List, [], ◌∷◌, map, All, None, true}
 use Rattle.std.proofs.lemmas.List.Elements.{All-cons, All-head, All-map, All-nil, All-tail}
 use Rattle.std.proofs.lemmas.List.Elements.{All-weaker}
 use Rattle.std.proofs.lemmas.List.Sorted.{All-permutation}
 use Rattle.block_shelf.specs.Histories.{IsHistoryOf}
+use Rattle.block_shelf.specs.Keeping.{HasBuffer}
 use Rattle.buffer_repair.specs.Keeping.{IsLiveText, KeepsFound}
 use Rattle.buffer_repair.specs.declared.found_set.FoundBufferSet.{FoundBufferSet}
+use Rattle.buffer_repair.specs.Finding.{buffers_in}
 use Rattle.cyc_block.specs.declared.store.BlockStore.{Ghosts}
 use Rattle.cyc_buffer.specs.History.{History}
+use Rattle.cyc_buffer.specs.declared.buffer.Buffer.{Buffer}
 use Rattle.found_again.specs.Reading.{AreSameTexts, unnamed}
 use Rattle.news_terms.specs.Courses.{Course}
 use Rattle.news_terms.specs.Places as places
@@ -47,6 +49,25 @@ said_same groups begun kept other same at_places h said = record {
   writing = said.writing;
 }
 
+-- a buffer keeps them
+abbrev same_buffer : {S : Type 0} {g : Ghosts S} (codes : List (Buffer S g))
+    (groups : List places.Group) (begun : ℕ → Course) (kept other : List Kept) (failures : ℕ → ℕ)
+    → AreSameTexts kept other → AreAtPlaces kept → (b : ℕ) (buffer : places.Buffer)
+    → HasBuffer true codes groups begun kept (λ h. None) failures b buffer
+    → HasBuffer true codes groups begun other (λ h. None) failures b buffer
+same_buffer codes groups begun kept other failures same at_places b buffer had = record {
+  code = had.code;
+  there = had.there;
+  keeps = record {
+    history = had.keeps.history;
+    is_of_buffer = had.keeps.is_of_buffer;
+    agrees = had.keeps.agrees;
+    is_said = said_same groups begun kept other same at_places had.keeps.history
+        had.keeps.is_said;
+    failed = had.keeps.failed;
+  };
+}
+
 -- so all that the buffers kept they keep
 pub same_kept : {S : Type 0} {g : Ghosts S} (found_set : FoundBufferSet S g) (w : Terms)
     (begun : ℕ → Course) (kept other : List Kept) (failures : ℕ → ℕ)
@@ -60,23 +81,17 @@ same_kept {S} {g} found_set w begun kept other failures keeps same = record {
     laid = keeps.texts.laid;
     count = keeps.texts.count;
     buffers = λ b buffer at.
-        let had = keeps.texts.buffers b buffer at in
-        record {
-          code = had.code;
-          there = had.there;
-          keeps = record {
-            history = had.keeps.history;
-            is_of_buffer = had.keeps.is_of_buffer;
-            agrees = had.keeps.agrees;
-            is_said = said_same w.groups begun kept other same keeps.places had.keeps.history
-                had.keeps.is_said;
-            failed = had.keeps.failed;
-          };
-        };
+        same_buffer (buffers_in found_set) w.groups begun kept other failures same keeps.places b
+        buffer (keeps.texts.buffers b buffer at);
   };
   live = all_same (IsLiveText w begun)
       (λ one l. record { buffer = l.buffer; there = l.there; unpassed = l.unpassed })
       (λ one l. record { buffer = l.buffer; there = l.there; unpassed = l.unpassed })
       kept other same keeps.live;
   places = places_same kept other same keeps.places;
+  left = λ b buffer at. record {
+    has = same_buffer (buffers_in found_set) w.groups begun kept other failures same keeps.places b
+        buffer (keeps.left b buffer at).has;
+    left = (keeps.left b buffer at).left;
+  };
 }

@@ -1,9 +1,10 @@
 //! What follows for a relay that is found again.
 ghost use Rattle.std.specs.Prelude.{◌≡◌, ℕ, Bool, List, Option, Some, length, slice_get};
+ghost use Rattle.block_shelf.specs.Leaving.{AreLeftOf};
 ghost use Rattle.block_shelf.specs.Openings.{Opening};
 ghost use Rattle.block_shelf.specs.Stopping.{ArePositions};
 ghost use Rattle.buffer_repair.specs.Finding.{remains_in};
-ghost use Rattle.buffer_repair.specs.Keeping.{AreLeftOf, AreLeftOfGroups, KeepsFound, KeepsLeft};
+ghost use Rattle.buffer_repair.specs.Keeping.{AreLeftOfGroups, KeepsFound, KeepsLeft};
 ghost use Rattle.buffer_repair.specs.Keeping.{LeavesRecord, TellsBefore};
 ghost use Rattle.buffer_repair.specs.Remains.{AreTurns, Remains, all_texts_left, courses_left};
 ghost use Rattle.buffer_repair.specs.declared.found_set.FoundBufferSet.{FoundBufferSet};

@@ -1,8 +1,8 @@
 use Rattle.std.proofs.Common.{arith, refl, None}
 use Rattle.std.proofs.lemmas.Option.{none-some}
-use Rattle.block_shelf.proofs.Starts.{buffers_keep, err_so, mixed_buffer_set, never_other, ok_so}
-use Rattle.block_shelf.proofs.Starts.{few_stores, refused_buffer_set, refused_cause, started_stores}
-use Rattle.block_shelf.proofs.Starts.{untouched_stores}
+use Rattle.block_shelf.proofs.Starts.{buffers_keep, buffers_left, err_so, mixed_buffer_set}
+use Rattle.block_shelf.proofs.Starts.{never_other, ok_so, few_stores, refused_buffer_set}
+use Rattle.block_shelf.proofs.Starts.{refused_cause, started_stores, untouched_stores}
 use Rattle.block_shelf.proofs.starting.start.Goals as goal
 
 pub returns-in-Refused : goal.returns-in-Refused
@@ -42,10 +42,12 @@ returns-in-None g c =
           (λ buffer_set same also w begun kept failures held.
           rw same (buffers_keep c.args.settings.now c.requires held tried.0));
       keeps = ok_so c.shelve.result c.shelve.ensures.buffers c.shelve.ensures.placed_groups
-          (λ buffer_set same resume w begun kept failures held are_at.
+          (λ buffer_set same resume may_be_left w begun kept failures held left are_at.
           let texts = buffers_keep c.args.settings.now c.requires held tried.0 in
           record {
             texts = rw same texts;
+            left = λ yes.
+                rw same (buffers_left c.args.settings.now c.requires held tried.0 (left yes));
             placed_groups = resume w begun kept failures held.1 texts are_at;
           });
       started = ok_so c.shelve.result c.shelve.ensures.buffers c.shelve.ensures.buffers

@@ -1,5 +1,6 @@
 use Rattle.std.proofs.Common.{◌∙◌, arith, sym}
-use Rattle.block_shelf.proofs.Stops.{fails_next, stays_failed, stops_next}
+use Rattle.cyc_buffer.specs.Agreement.{store_of}
+use Rattle.block_shelf.proofs.Stops.{fails_next, leaves_next, leaves_same, stays_failed, stops_next}
 use Rattle.block_shelf.proofs.stopping.shut_next.Goals as goal
 
 pub returns-then-is_some : goal.returns-then-is_some
@@ -9,6 +10,11 @@ returns-then-is_some g c = record {
       c.into_store.result c.push_reserved.new.self.items
       (sym c.is_some.ensures ∙ c.if-is_some.true) c.into_store.ensures c.push_reserved.ensures.items
       had;
+  leaves =
+      leaves_next c.args.buffer c.args.stores.now.items c.push_reserved.new.self.items
+      c.into_store.result c.push_reserved.ensures.items
+      (leaves_same g.S.BlockStore (store_of c.args.buffer) c.into_store.result
+      c.into_store.ensures);
   count = c.push_reserved.ensures.len;
   room = c.push_reserved.ensures.capacity;
 }
@@ -20,6 +26,9 @@ returns-in-Ok g c = record {
       c.in-Ok.store c.push_reserved-in-Ok.new.self.items
       (sym c.is_some.ensures ∙ c.if-is_some.false) c.push_reserved-in-Ok.ensures.items
       (assumption c.in-Ok.ensures) had;
+  leaves =
+      leaves_next c.args.buffer c.args.stores.now.items c.push_reserved-in-Ok.new.self.items
+      c.in-Ok.store c.push_reserved-in-Ok.ensures.items c.in-Ok.ensures.blocks;
   count = c.push_reserved-in-Ok.ensures.len;
   room = c.push_reserved-in-Ok.ensures.capacity;
 }
@@ -34,6 +43,10 @@ returns-in-Err g c = record {
       c.in-Err.ensures.rest
       (omega (arith, c.len-place.ensures, c.args.stores.now.ok)) c.into_store-in-Err.ensures
       c.push_reserved-in-Err.ensures.items had;
+  leaves =
+      leaves_next c.args.buffer c.args.stores.now.items c.push_reserved-in-Err.new.self.items
+      c.into_store-in-Err.result c.push_reserved-in-Err.ensures.items
+      (rw c.into_store-in-Err.ensures c.in-Err.ensures.rest.store);
   count = c.push_reserved-in-Err.ensures.len;
   room = c.push_reserved-in-Err.ensures.capacity;
 }

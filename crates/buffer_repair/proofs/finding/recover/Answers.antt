@@ -1,9 +1,8 @@
 use Rattle.std.proofs.Common.{None, arith, refl}
 use Rattle.std.proofs.lemmas.Option.{none-some}
 use Rattle.block_shelf.proofs.Starts.{few_stores, untouched_stores}
-use Rattle.buffer_repair.proofs.Recovered.{agree_before, found_stores, keeps_left, of_groups_left}
-use Rattle.buffer_repair.proofs.Recovered.{record_left}
-use Rattle.buffer_repair.proofs.Recovered.{unfound_set}
+use Rattle.buffer_repair.proofs.KeepsLeft.{agree_before, keeps_left, of_groups_left, record_left}
+use Rattle.buffer_repair.proofs.Recovered.{found_stores, unfound_set}
 use Rattle.buffer_repair.proofs.finding.recover.Goals as goal
 
 pub returns-in-Refused : goal.returns-in-Refused

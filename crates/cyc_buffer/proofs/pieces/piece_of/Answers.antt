@@ -36,7 +36,8 @@ returns-then-not-lies_round-clause-none c t k here piece =
     let there = index_of (buffer_of c.args.line.now) c.args.octets.now t u k block same here piece
     in
     let first = first_before t u k block same here in
-    c.lies_round.ensures.other c.if-not-lies_round.true first (omega (arith, first, there.inside)) there.ends
+    c.lies_round.ensures.other c.if-not-lies_round.true first (omega (arith, first, there.inside))
+    there.ends
     there.begun
 
 pub returns-then-not-is_image_under-clause-none :

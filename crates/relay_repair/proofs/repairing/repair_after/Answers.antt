@@ -3,7 +3,7 @@ use Rattle.std.proofs.lemmas.List.{length-map}
 use Rattle.std.proofs.lemmas.Option.{slice_get_within}
 use Rattle.std.proofs.lemmas.Result.{IfOk-weaker, IfErr-weaker}
 use Rattle.relay_remains.specs.Heads.{AreUnwritten, TellsEnds}
-use Rattle.relay_repair.proofs.FoundOver.{repairs_on}
+use Rattle.relay_repair.proofs.FoundOver.{left_repairs_on}
 use Rattle.relay_repair.proofs.RefusedAs.{by_head, may_have_ended, refused_over}
 use Rattle.relay_repair.specs.Refusing.{IsRefusedAfter}
 use Rattle.relay_repair.specs.Telling.{last_lent}
@@ -13,7 +13,7 @@ pub returns-in-Ok-clause-repaired : goal.returns-in-Ok-clause-repaired
 returns-in-Ok-clause-repaired g c =
     IfOk-weaker c.repair_found.result _ _
     (λ stopped repairs in_time.
-    repairs_on c.args.config.now (last_lent c.args.old) c.args.now stopped.stores.items
+    left_repairs_on c.args.config.now (last_lent c.args.old) c.args.now stopped.stores.items
     stopped.history.items
     (subst (λ told. AreUnwritten g.S.BlockStore told c.args.stores.items
     c.looked_at-stores.result.0.items) c.in-Ok.is c.looked_at-stores.ensures.unwritten)

@@ -1,5 +1,5 @@
 use Rattle.std.proofs.Common.{◌∙◌, ap, subst}
-use Rattle.buffer_repair.specs.Shutting.{HoldsFound}
+use Rattle.buffer_repair.specs.Shutting.{HoldsFound, HoldsFoundLeft}
 use Rattle.relay_core.specs.Stopping.{next_stop}
 use Rattle.relay_repair.proofs.Repaired.{is_repaired}
 use Rattle.relay_repair.proofs.Unshut.{counted, unread, unshut}
@@ -12,6 +12,8 @@ returns-in-Ok-shut-clause-shut g c =
     c.in-Ok.ensures.tells
     (subst (λ stop. HoldsFound stop c.tell_found.new.found_set c.in-Ok-shut.stores.items)
     (c.next_stop-stop.ensures ∙ ap next_stop c.last_stop.ensures) c.in-Ok-shut.ensures.held)
+    (subst (λ stop. HoldsFoundLeft stop c.tell_found.new.found_set c.in-Ok-shut.stores.items)
+    (c.next_stop-stop.ensures ∙ ap next_stop c.last_stop.ensures) c.in-Ok-shut.ensures.left)
 
 pub returns-in-Ok-shut-clause-counts : goal.returns-in-Ok-shut-clause-counts
 returns-in-Ok-shut-clause-counts g c =

@@ -1,4 +1,4 @@
-use Rattle.std.proofs.Common.{◌∙◌, refl, sym}
+use Rattle.std.proofs.Common.{◌∙◌, arith, refl, sym}
 use Rattle.block_shelf.proofs.Shelving.{buffers_kept, calls_same, groups_kept, kept_at}
 use Rattle.block_shelf.proofs.Shelving.{read_there, still}
 use Rattle.block_shelf.proofs.Armed.{arms, arms_none}
@@ -14,7 +14,12 @@ returns-in-Some g c = record {
   kept = λ trusted w begun kept openings failures keeps.
       let at = kept_at (buffers_kept keeps)
       (read_there c.args.self.now.buffers.items c.args.number c.in-Some.ensures.item) in
-      still keeps at c.arm.ensures.same (at.failed ∙ sym c.arm.ensures.armed.seen.failures)
+      still keeps at c.arm.ensures.same
+      (record {
+        blocks = λ sure. c.arm.ensures.armed.seen.blocks;
+        more = omega (arith, c.arm.ensures.armed.seen.failures);
+      })
+      (at.failed ∙ sym c.arm.ensures.armed.seen.failures)
       (λ n apart. refl) (groups_kept keeps);
   calls =
       calls_same c.args.self.now c.args.number c.arm.new.self

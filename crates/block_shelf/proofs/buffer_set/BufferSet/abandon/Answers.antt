@@ -13,7 +13,8 @@ returns-in-Some g c = record {
       (c.from.ensures ∙ ap (λ (t : code.Token). t.buffer) c.token.ensures
       ∙ ap (λ (t : Token). t.buffer) (sym named))
       (read_there c.args.self.now.buffers.items c.from.result c.in-Some.ensures.item)
-      c.args.begun.open (sym named) c.abandon.ensures.abandoned c.abandon.ensures.store;
+      c.args.begun.open (sym named) c.abandon.ensures.abandoned c.abandon.ensures.store
+      c.abandon.ensures.leaves;
   calls =
       calls_same c.args.self.now c.from.result c.abandon.new.self
       (read_there c.args.self.now.buffers.items c.from.result c.in-Some.ensures.item)

@@ -80,7 +80,7 @@ returns g c = record {
       (read_there c.args.self.now.buffers.items c.in_ok-pick.field-0.number
       c.in_ok-buffer.ensures.item)
       c.in-Ok.open c.in-Ok.ensures.store (c.begun.ensures.places can.group (begun c.args.group))
-      c.in-Ok.ensures.refusal c.in-Ok.ensures.begun c.in-Ok.ensures.token;
+      c.in-Ok.ensures.refusal c.in-Ok.ensures.begun c.in-Ok.ensures.token c.in-Ok.ensures.leaves;
   refused = tt;
   calls =
       calls_same c.args.self.now c.in_ok-pick.field-0.number c.begin.new.self

@@ -32,7 +32,8 @@ returns-clause-finished g c =
       ap token_view c.finish.ensures.handle,
       finish keeps is (rw c.token.ensures at c.from-number.ensures)
           (read_there c.args.self.now.buffers.items c.from-number.result c.in-Some.ensures.item)
-          c.args.begun.open refl id refl c.finish.ensures.finished c.finish.ensures.store,
+          c.args.begun.open refl id refl c.finish.ensures.finished c.finish.ensures.store
+          c.finish.ensures.leaves,
     )
 
 pub returns-clause-calls : goal.returns-clause-calls

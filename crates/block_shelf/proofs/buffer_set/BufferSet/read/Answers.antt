@@ -8,7 +8,7 @@ pub returns-in-Some-clause-found : goal.returns-in-Some-clause-found
 returns-in-Some-clause-found g c = λ trusted w σ openings failures keeps within.
     reads σ keeps c.args.token.now c.args.k c.from.ensures
     (read_there c.args.self.now.buffers.items c.from.result c.in-Some.ensures.item)
-    within c.read_block.result c.read_block.ensures.reads
+    within c.read_block.result c.read_block.ensures.reads c.read_block.ensures.held
 
 pub returns-in-None-clause-found : goal.returns-in-None-clause-found
 returns-in-None-clause-found g c = λ trusted w σ openings failures keeps within.

@@ -1,6 +1,7 @@
 use Rattle.std.proofs.Common.{Ok, Err, arith, refl}
-use Rattle.block_shelf.proofs.Stops.{all_restarted, keeps_further, not_busy, not_idle}
-use Rattle.block_shelf.proofs.Stops.{ends_at, nothing_restarted, refused_at, stays_same}
+use Rattle.block_shelf.proofs.Restarted.{all_restarted, keeps_further, not_busy}
+use Rattle.block_shelf.proofs.Stops.{not_idle}
+use Rattle.block_shelf.proofs.Restarted.{ends_at, nothing_restarted, refused_at, stays_same}
 use Rattle.block_shelf.proofs.buffer_set.BufferSet.restart.Goals as goal
 
 pub loop-place-init : goal.loop-place-init

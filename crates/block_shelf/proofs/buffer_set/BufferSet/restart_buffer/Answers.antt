@@ -1,7 +1,7 @@
 use Rattle.std.proofs.Common.{refl, sym}
 use Rattle.std.proofs.lemmas.Bool.{ltb-false}
-use Rattle.block_shelf.proofs.Stops.{keeps_done, keeps_refused, none_restarted, one_restarted}
-use Rattle.block_shelf.proofs.Stops.{stays_same}
+use Rattle.block_shelf.proofs.Restarted.{keeps_done, keeps_refused, none_restarted, one_restarted}
+use Rattle.block_shelf.proofs.Restarted.{stays_same}
 use Rattle.block_shelf.proofs.Shelving.{put_there, read_there}
 use Rattle.block_shelf.proofs.buffer_set.BufferSet.restart_buffer.Goals as goal
 
@@ -21,11 +21,11 @@ returns-in-Ok g c = record {
   keeps =
       keeps_done c.args.self.now c.args.place
       (read_there c.args.self.now.buffers.items c.args.place c.in-Some.ensures.item)
-      c.in-Ok.ensures.same c.in-Ok.ensures.no_failure;
+      c.in-Ok.ensures.same c.in-Ok.ensures.blocks c.in-Ok.ensures.no_failure;
   restarted =
       one_restarted c.args.self.now c.args.place
       (read_there c.args.self.now.buffers.items c.args.place c.in-Some.ensures.item)
-      c.in-Ok.ensures.same c.args.stop (assumption c.in-Ok.ensures);
+      c.in-Ok.ensures.same c.in-Ok.ensures.blocks c.args.stop (assumption c.in-Ok.ensures);
   other = tt;
   fault = tt;
   refused = tt;
@@ -36,7 +36,8 @@ returns-in-Err g c = record {
   keeps =
       keeps_refused c.args.self.now c.args.place
       (read_there c.args.self.now.buffers.items c.args.place c.in-Some.ensures.item)
-      c.in-Err.ensures.same c.in-Err.error c.fault_of.result c.in-Err.ensures.refusal
+      c.in-Err.ensures.same c.in-Err.ensures.blocks c.in-Err.error c.fault_of.result
+      c.in-Err.ensures.refusal
       c.in-Err.ensures.cause c.fault_of.ensures.fault;
   restarted = tt;
   other = c.fault_of.ensures.other;

@@ -1,8 +1,8 @@
 use Rattle.std.proofs.Common.{ap, append_assoc, arith, length, refl}
 use Rattle.std.proofs.lemmas.List.{length-append}
 use Rattle.block_shelf.proofs.EachLemmas.{count_through, here_through, none_each, none_left}
-use Rattle.block_shelf.proofs.Stops.{holds_kept, not_idle}
-use Rattle.block_shelf.specs.Stopping.{IsShutOver}
+use Rattle.block_shelf.proofs.Stops.{holds_kept, holds_left, not_idle}
+use Rattle.block_shelf.specs.Stopping.{IsShutOver, IsStoreOf}
 use Rattle.block_shelf.proofs.buffer_set.BufferSet.shut.Goals as goal
 
 pub loop-buffer-preserved : goal.loop-buffer-preserved
@@ -14,6 +14,7 @@ loop-buffer-preserved g c = record {
       c.args.self.buffers.items c.in-Some.buffer c.next.new.self.rest.items
       c.loop-buffer.invariant.all c.in-Some.ensures.steps.0))
       c.loop-buffer.invariant.stopped;
+  leaves = c.shut_next-failed.ensures.leaves c.loop-buffer.yielded c.loop-buffer.invariant.leaves;
   count = simp length-append (omega (arith, c.shut_next-failed.ensures.count));
   room = omega (arith, c.shut_next-failed.ensures.room);
 }
@@ -29,6 +30,12 @@ returns g c = record {
       rw (← none_left c.loop-buffer.yielded c.loop-buffer.buffer-iterator.rest.items
       c.loop-buffer.invariant.all (omega (arith, c.in-None.ensures.steps.0)))
       (rw c.in-None-failed.is at c.loop-buffer.invariant.stopped);
+  left =
+      let through = none_left c.loop-buffer.yielded c.loop-buffer.buffer-iterator.rest.items
+      c.loop-buffer.invariant.all (omega (arith, c.in-None.ensures.steps.0)) in
+      holds_left c.args.stop c.args.self c.loop-buffer.stores.items
+      (rw (← through) (rw c.in-None-failed.is at c.loop-buffer.invariant.stopped))
+      (rw (← through) c.loop-buffer.invariant.leaves);
   refusal = tt;
   busy = λ busy.
       absurd (not_idle (c.is_busy.ensures.idle c.if-is_busy.false) busy);
@@ -48,6 +55,7 @@ pub returns-in_default : goal.returns-in_default
 returns-in_default g c = record {
   held = tt;
   shut = tt;
+  left = tt;
   refusal = refl;
   busy = λ busy.
       absurd (not_idle (c.is_busy.ensures.idle c.if-is_busy.false) busy);
@@ -57,6 +65,7 @@ pub returns-in-Some-failed : goal.returns-in-Some-failed
 returns-in-Some-failed g c = record {
   held = tt;
   shut = tt;
+  left = tt;
   refusal =
       let through = none_left c.loop-buffer.yielded c.loop-buffer.buffer-iterator.rest.items
       c.loop-buffer.invariant.all (omega (arith, c.in-None.ensures.steps.0)) in
@@ -75,6 +84,7 @@ pub loop-buffer-init : goal.loop-buffer-init
 loop-buffer-init g c = record {
   all = c.into_iter-buffer-iterator.ensures.into_iter_gives.0;
   stopped = rw c.in-Ok.ensures.items (none_each (IsShutOver c.args.stop));
+  leaves = rw c.in-Ok.ensures.items (none_each (IsStoreOf {g = g.S.BlockStore}));
   count = omega (arith, c.in-Ok.ensures.len);
   room = omega (arith, c.args.self.buffers.ok, c.len.ensures, c.in-Ok.ensures.capacity);
 }
@@ -83,6 +93,7 @@ pub returns-then-is_busy : goal.returns-then-is_busy
 returns-then-is_busy g c = record {
   held = tt;
   shut = tt;
+  left = tt;
   refusal = (refl, c.is_busy.ensures.busy c.if-is_busy.true);
   busy = λ busy. tt;
 }

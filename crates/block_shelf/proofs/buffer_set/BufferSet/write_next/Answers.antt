@@ -36,7 +36,7 @@ returns-in-Ok-clause-written g c =
     let there = read_there c.args.self.now.buffers.items c.from.result c.in-Some.ensures.item in
     let does = c.in-Ok.ensures.written in (
       wrote keeps is number there c.args.begun.now.open refl c.in-Ok.last does
-          c.in-Ok.ensures.device,
+          c.in-Ok.ensures.device c.in-Ok.ensures.leaves,
       called_once c.args.self.now c.from.result c.write_next.new.self there number does.calls,
     )
 

@@ -1,9 +1,9 @@
 use Rattle.std.proofs.Common.{arith}
 use Rattle.cyc_buffer.specs.Agreement.{store_of}
-use Rattle.block_shelf.proofs.EachLemmas.{one_more_each}
+use Rattle.block_shelf.proofs.EachLemmas.{each_so, one_more_each}
 use Rattle.block_shelf.proofs.GivenBack.{count_given}
 use Rattle.block_shelf.proofs.Opens.{behind_failed, first_failed}
-use Rattle.block_shelf.specs.Heads.{IsOpenedFrom}
+use Rattle.block_shelf.specs.Heads.{IsOpenedOf}
 use Rattle.block_shelf.proofs.opening.Opening.next.Goals as goal
 
 pub returns-in-Failed : goal.returns-in-Failed
@@ -22,8 +22,11 @@ returns-in-Ok g c = record {
   opens = λ before had.
       let was = rw c.in-Opened.is at had in
       rw c.push_reserved-in-Ok.ensures.items (
-        one_more_each IsOpenedFrom before c.in-Opened.buffers.items c.args.unopened c.in-Ok.buffer
-            was.0 (assumption c.in-Ok.ensures),
+        one_more_each IsOpenedOf before c.in-Opened.buffers.items c.args.unopened c.in-Ok.buffer
+            was.0 (record {
+              is_from = assumption c.in-Ok.ensures;
+              blocks = c.in-Ok.ensures.blocks;
+            }),
         was.1,
       );
   count =
@@ -42,7 +45,8 @@ returns-in-Err g c = record {
         c.into_store-in-Err.ensures,
       )
       (first_failed before c.args.unopened c.in-Opened.buffers.items c.in-Opened.room.items
-      c.len-place.result c.in-Err.unopened was.0 was.1
+      c.len-place.result c.in-Err.unopened
+      (each_so was.0 (λ b one code there at opened. opened.is_from)) was.1
       (omega (arith, c.len-place.ensures, c.in-Opened.buffers.ok)) c.in-Err.ensures.failed);
   count = rw c.in-Opened.is (omega (
     arith,

@@ -1,8 +1,8 @@
 use Rattle.std.proofs.Common.{ap, append_assoc, arith, length, refl}
 use Rattle.std.proofs.lemmas.List.{length-append}
-use Rattle.block_shelf.proofs.EachLemmas.{count_through, none_each, none_left}
+use Rattle.block_shelf.proofs.EachLemmas.{count_through, each_so, none_each, none_left}
 use Rattle.block_shelf.proofs.Opens.{keeps_opened}
-use Rattle.block_shelf.specs.Heads.{IsOpenedFrom}
+use Rattle.block_shelf.specs.Heads.{IsOpenedOf}
 use Rattle.block_shelf.proofs.opening.UnopenedBufferSet.open.Goals as goal
 
 pub loop-unopened-preserved : goal.loop-unopened-preserved
@@ -24,7 +24,8 @@ returns-in-Opened g c = record {
   opened =
       rw (← none_left c.loop-unopened.yielded c.loop-unopened.unopened-iterator.rest.items
       c.loop-unopened.invariant.all (omega (arith, c.in-None.ensures.steps.0)))
-      (rw c.in-Opened.is at c.loop-unopened.invariant.opened).0;
+      (each_so (rw c.in-Opened.is at c.loop-unopened.invariant.opened).0
+      (λ b one code there at opened. opened.is_from));
   refusal = tt;
 }
 
@@ -48,7 +49,7 @@ returns-in-Failed g c = record {
 pub loop-unopened-init : goal.loop-unopened-init
 loop-unopened-init g c = record {
   all = c.into_iter-unopened-iterator.ensures.into_iter_gives.0;
-  opened = rw c.args.self.none_opened (none_each IsOpenedFrom, c.args.self.none_back);
+  opened = rw c.args.self.none_opened (none_each IsOpenedOf, c.args.self.none_back);
   count = omega (
     arith,
     c.args.self.opened.ok,

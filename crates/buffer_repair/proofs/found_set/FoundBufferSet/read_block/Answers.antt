@@ -2,7 +2,7 @@ use Rattle.std.proofs.Common.{◌∙◌, ap, refl, slice_get, sym}
 use Rattle.std.proofs.lemmas.Option.{none-some}
 use Rattle.block_shelf.proofs.Shelving.{read_there}
 use Rattle.buffer_repair.proofs.Changed.{changed_at, none_at, unchanged_at}
-use Rattle.buffer_repair.proofs.KeptOn.{read_keeps}
+use Rattle.buffer_repair.proofs.KeptRead.{read_keeps}
 use Rattle.buffer_repair.specs.Keeping.{IsReadFrom}
 use Rattle.buffer_repair.proofs.found_set.FoundBufferSet.read_block.Goals as goal
 

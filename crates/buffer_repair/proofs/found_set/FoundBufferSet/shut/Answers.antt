@@ -3,7 +3,7 @@ use Rattle.std.proofs.lemmas.List.{length-append}
 use Rattle.block_shelf.proofs.EachLemmas.{count_through, here_through, none_each, none_left}
 use Rattle.cyc_buffer.specs.Head.{is_busy}
 use Rattle.news_terms.proofs.ListPlaces.{holds_at}
-use Rattle.buffer_repair.proofs.Shut.{holds_found}
+use Rattle.buffer_repair.proofs.Shut.{holds_found, holds_left}
 use Rattle.buffer_repair.specs.Parts.{buffer_in}
 use Rattle.buffer_repair.specs.Shutting.{IsShutFound}
 use Rattle.buffer_repair.proofs.found_set.FoundBufferSet.shut.Goals as goal
@@ -23,6 +23,7 @@ returns-in-None-failed g c =
     let shut = rw through at (rw c.in-None-failed.is at c.loop-one.invariant.shut) in
     record {
       held = holds_found c.args.stop c.args.self c.loop-one.stores.items shut;
+      left = holds_left c.args.stop c.args.self c.loop-one.stores.items shut;
       shut = shut;
       refusal = tt;
     }
@@ -53,6 +54,7 @@ returns-in-Some-failed g c =
     let was = rw c.in-Some-failed.is at c.loop-one.invariant.shut in
     record {
       held = tt;
+      left = tt;
       shut = tt;
       refusal = record {
         device = refl;

@@ -49,7 +49,8 @@ returns-in-Ok-clause-history g c honest some cycle used front =
     let lists = found_in blocks buffer stopped.buffer_state stopped.tokens.items
     (was.found honest) cycle used front in
     let tells = found_told buffer blocks cycle used stopped.tokens.items some front lists refl
-    (omega (arith, c.ranges.first_cycle.fits)) (omega (arith, c.count-blocks.ensures.blocks, c.count-blocks.type_inv)) in
+    (omega (arith, c.ranges.first_cycle.fits))
+    (omega (arith, c.count-blocks.ensures.blocks, c.count-blocks.type_inv)) in
     let h = found_history buffer blocks cycle used stopped.tokens.items in
     record {
       keeps = keeps_found blocks h tells buffer stopped.buffer_state stopped.tokens.items

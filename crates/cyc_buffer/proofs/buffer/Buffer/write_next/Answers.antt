@@ -17,7 +17,8 @@ use Rattle.cyc_buffer.specs.declared.line.Line.{Line}
 use Rattle.cyc_buffer.specs.declared.marks.Marks.{Marks}
 use Rattle.cyc_buffer.proofs.Writes.{chunk_length, counted_on, fails_by, next_by, image_there}
 use Rattle.cyc_buffer.proofs.Writes.{with_error, without_error}
-use Rattle.cyc_buffer.proofs.CrashWrites.{left_same, left_write, newest_open, one_image, written_piece}
+use Rattle.cyc_buffer.proofs.CrashWrites.{left_same, left_write, newest_open, one_image}
+use Rattle.cyc_buffer.proofs.CrashWrites.{written_piece}
 use Rattle.cyc_buffer.proofs.buffer.Buffer.write_next.Goals as goal
 
 pub block_image-image-requires-clause-some : goal.block_image-image-requires-clause-some

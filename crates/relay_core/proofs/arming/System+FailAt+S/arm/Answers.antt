@@ -1,21 +1,18 @@
+use Rattle.std.proofs.Common.{true}
+use Rattle.block_shelf.specs.Leaving.{honestly, plain}
+use Rattle.relay_core.proofs.Left.{still_agrees}
 use Rattle.relay_core.specs.Openings.{openings}
 use Rattle.relay_core.proofs.arming.System+FailAt+S.arm.Goals as goal
 
 -- the buffer set keeps what it kept, and every other part is the same
 pub returns-clause-agrees : goal.returns-clause-agrees
 returns-clause-agrees g c = λ trusted x agrees.
-    record {
-      core = record {
-        newest = agrees.core.newest;
-        claims = agrees.core.claims;
-        count = agrees.core.count;
-        group_writers = agrees.core.group_writers;
-        desk = agrees.core.desk;
-        expirer = agrees.core.expirer;
-        buffer_set =
-            c.arm.ensures.kept trusted _ x.state.begun x.state.kept (openings x.work.writer)
-            x.work.failures agrees.core.buffer_set;
-      };
-      peers = agrees.peers;
-      well = agrees.well;
-    }
+    still_agrees c.args.self.now c.arm.new.self x agrees
+    (c.arm.ensures.kept (plain trusted) _ x.state.begun x.state.kept (openings x.work.writer)
+    x.work.failures agrees.core.buffer_set)
+
+pub returns-clause-leaves : goal.returns-clause-leaves
+returns-clause-leaves g c = λ x agrees.
+    still_agrees c.args.self.now c.arm.new.self x agrees
+    (c.arm.ensures.kept (honestly true) _ x.state.begun x.state.kept (openings x.work.writer)
+    x.work.failures agrees.core.buffer_set)

@@ -10,6 +10,7 @@ use Rattle.relay_core.proofs.Turning.{place_of}
 use Rattle.relay_core.specs.declared.event.CoreError.TheVariants as faults
 use Rattle.relay_core.specs.declared.event.Output.TheVariants as outputs
 use Rattle.relay_core.proofs.system.System.bytes.Goals as goal
+use Rattle.block_shelf.specs.Leaving.{honestly}
 
 -- no such session reads
 pub returns-then-not-is_reading : goal.returns-then-not-is_reading
@@ -55,11 +56,12 @@ returns-in-Err g c =
     record {
       steps = wanted c.args.self.now c.args.number (run.Bytes c.args.number c.args.piece.now) _ refl
           refl
-          (unfed c.args.self.now c.args.number c.in-Some.peer c.lend.result c.lend.new.self
+          (λ leaving. unfed c.args.self.now c.args.number c.in-Some.peer c.lend.result
+          c.lend.new.self
           c.feed-fed.new.self c.give_back.new.self c.lend.ensures c.in-Some.is c.in-Err.ensures.err
           (c.give_back.ensures.given
           (place_of c.args.number c.args.self.now.peers c.lend.result c.lend.new.self c.in-Some.peer
-          c.lend.ensures c.in-Some.is)) true);
+          c.lend.ensures c.in-Some.is)) (honestly leaving));
       refused = memory_wanted c.args.self.now (run.Bytes c.args.number c.args.piece.now) _
           (λ laned. bytes_reason c.args.self.now c.args.number c.args.piece.now c.is_reading.result
           true c.is_reading.ensures c.if-not-is_reading.false) refl

@@ -1,4 +1,4 @@
-use Rattle.std.proofs.Common.{◌<◌, ◌≤◌, ℕ, refl, subst, true, ◌∙◌}
+use Rattle.std.proofs.Common.{◌<◌, ◌≤◌, ℕ, refl, subst, ◌∙◌}
 use Rattle.relay_model.specs.Run as run
 use Rattle.relay_core.proofs.Refusing as refusing
 use Rattle.relay_core.proofs.Refusing.{may_open, memory_wanted, never_refuses, not_refused}
@@ -7,6 +7,7 @@ use Rattle.relay_core.proofs.SessionSteps.{no_peer, opened_one, peers_count, uno
 use Rattle.relay_core.proofs.SessionSteps.{was_taken}
 use Rattle.relay_core.specs.declared.event.CoreError.TheVariants as faults
 use Rattle.relay_core.proofs.system.System.open.Goals as goal
+use Rattle.block_shelf.specs.Leaving.{honestly}
 
 -- the number was had before
 pub returns-then-is_taken : goal.returns-then-is_taken
@@ -42,7 +43,7 @@ pub returns-in-Err : goal.returns-in-Err
 returns-in-Err g c =
     record {
       steps = wanted c.args.self.now c.args.number (run.Open c.args.number c.args.peer) _ refl refl
-          (λ x agrees. agrees);
+          (λ leaving x agrees. agrees);
       refused = memory_wanted c.args.self.now (run.Open c.args.number c.args.peer) _
           (λ laned. may_open c.args.self.now c.args.number c.args.peer c.is_taken.result
           c.is_taken.ensures c.if-is_taken.false
@@ -56,7 +57,7 @@ pub returns-in-Err-open : goal.returns-in-Err-open
 returns-in-Err-open g c =
     record {
       steps = wanted c.args.self.now c.args.number (run.Open c.args.number c.args.peer) _ refl refl
-          (λ x agrees. agrees);
+          (λ leaving x agrees. agrees);
       refused = memory_wanted c.args.self.now (run.Open c.args.number c.args.peer) _
           (λ laned. may_open c.args.self.now c.args.number c.args.peer c.is_taken.result
           c.is_taken.ensures c.if-is_taken.false
@@ -87,8 +88,8 @@ pub returns-in-Err-open-2 : goal.returns-in-Err-open-2
 returns-in-Err-open-2 g c =
     record {
       steps = wanted c.args.self.now c.args.number (run.Open c.args.number c.args.peer) _ refl refl
-          (unopened c.args.self.now c.args.number c.open-2.new.self c.in-Err-open-2.ensures.err
-          true);
+          (λ leaving. unopened c.args.self.now c.args.number c.open-2.new.self
+          c.in-Err-open-2.ensures.err (honestly leaving));
       refused = memory_wanted c.args.self.now (run.Open c.args.number c.args.peer) _
           (λ laned. may_open c.args.self.now c.args.number c.args.peer c.is_taken.result
           c.is_taken.ensures c.if-is_taken.false

@@ -6,12 +6,12 @@ use Rattle.relay_core.proofs.Restarts.{not_idle, refused_there, rightly_busy, ri
 use Rattle.relay_core.proofs.Restarts.{rightly_refused, rightly_there}
 use Rattle.relay_core.specs.Idle.{TellsIdle}
 use Rattle.relay_core.specs.Restarting.{IsUnread, RestartsRightly}
-use Rattle.relay_core.specs.Steps.{Steps}
 use Rattle.relay_core.specs.Stopping.{stop_of}
 use Rattle.relay_core.specs.declared.event.CoreError.{CoreError}
 use Rattle.relay_core.specs.declared.event.CoreError.TheVariants as faults
 use Rattle.relay_core.specs.declared.event.Output.TheVariants as outputs
 use Rattle.relay_core.specs.declared.system.System.{System}
+use Rattle.relay_core.specs.Steps.{StepsAs}
 use Rattle.relay_core.proofs.system.System.restart.Goals as goal
 
 -- an id is being stored
@@ -76,7 +76,7 @@ returns-in-Err g c =
     c.if-not-is_idle.false c.is_idle.ensures in
     record {
       steps = subst
-          (λ (e : CoreError). Steps run.Restart c.args.self.now (outputs.Refused e)
+          (λ (e : CoreError). StepsAs run.Restart c.args.self.now (outputs.Refused e)
           (record c.args.self.now { buffer_set = c.restart.new.self })) (sym c.refused_as.ensures)
           (refused_there c.args.self.now c.restart.result c.in-Err.fault c.restart.new.self idle
           c.restart.ensures.keeps c.in-Err.is);

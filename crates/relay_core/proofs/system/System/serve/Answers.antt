@@ -24,7 +24,7 @@ returns-in-Ok g c =
 pub returns-in-Err : goal.returns-in-Err
 returns-in-Err g c =
     record {
-      served = λ x m but there stands well other. absurd (other refl);
+      served = λ leaving x m but there stands well other. absurd (other refl);
       memory = λ memory.
           record {
             agrees = λ trusted w x but. but;

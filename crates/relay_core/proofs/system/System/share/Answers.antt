@@ -36,7 +36,7 @@ returns-in-Ok g c =
 pub returns-in-Err : goal.returns-in-Err
 returns-in-Err g c =
     record {
-      shared = λ x m d gathered but slot fits planned asked some. absurd (some refl);
+      shared = λ leaving x m d gathered but slot fits planned asked some. absurd (some refl);
       memory = λ memory. claims_left c.args.number c.args.now c.args.self.now c.args.peer.now
           c.offer.new.self c.in-Err.ensures.err;
       wants = λ memory. subst WantsMemory (sym c.in-Offer.is) tt;
@@ -97,7 +97,7 @@ returns-in-Ok-refuse g c =
 pub returns-in-Err-refuse : goal.returns-in-Err-refuse
 returns-in-Err-refuse g c =
     record {
-      shared = λ x m d gathered but slot fits planned asked some. absurd (some refl);
+      shared = λ leaving x m d gathered but slot fits planned asked some. absurd (some refl);
       memory = λ memory. claims_left c.args.number c.args.now c.args.self.now c.args.peer.now
           c.refuse.new.self c.in-Err-refuse.ensures.err;
       wants = λ memory. subst WantsMemory (sym c.in-Refuse.is) tt;
@@ -120,7 +120,7 @@ returns-in-Ok-take g c =
 pub returns-in-Err-take : goal.returns-in-Err-take
 returns-in-Err-take g c =
     record {
-      shared = λ x m d gathered but slot fits planned asked some. absurd (some refl);
+      shared = λ leaving x m d gathered but slot fits planned asked some. absurd (some refl);
       memory = λ memory. claims_left c.args.number c.args.now c.args.self.now c.args.peer.now
           c.take-in-Take.new.self c.in-Err-take.ensures.err;
       wants = λ memory. subst WantsMemory (sym c.in-Take.is) tt;

@@ -1,5 +1,6 @@
 use Rattle.std.proofs.Common.{Bool, ap, refl, subst, ◌∙◌}
-use Rattle.block_shelf.specs.Stopping.{HoldsKept, IsBusyBufferSet, IsShutPartly, IsUnshut}
+use Rattle.block_shelf.specs.Stopping.{HoldsKept, HoldsKeptLeft, IsBusyBufferSet}
+use Rattle.block_shelf.specs.Stopping.{IsShutPartly, IsUnshut}
 use Rattle.block_shelf.specs.declared.buffer_set.BufferSet.{BufferSet}
 use Rattle.relay_core.proofs.Stops.{at_rest, not_busy, shuts}
 use Rattle.relay_core.specs.Idle.{TellsIdle}
@@ -37,10 +38,13 @@ returns-in-Ok-shut g c =
     c.is_idle.ensures in
     let H : BufferSet g.row.S.Denot g.S.BlockStore → Type 0 = λ buffer_set.
     HoldsKept c.next_stop-stop.result buffer_set c.in-Ok-shut.stores.items in
+    let L : BufferSet g.row.S.Denot g.S.BlockStore → Type 0 = λ buffer_set.
+    HoldsKeptLeft c.next_stop-stop.result buffer_set c.in-Ok-shut.stores.items in
     record {
       shut = shuts c.args.self c.next_stop-stop.result c.in-Ok-shut.stores.items
           c.in-Ok.history.items c.next_stop-stop.ensures idle c.in-Ok.ensures
-          (subst H c.take_apart-buffer_set.ensures.buffer_set c.in-Ok-shut.ensures.held);
+          (subst H c.take_apart-buffer_set.ensures.buffer_set c.in-Ok-shut.ensures.held)
+          (subst L c.take_apart-buffer_set.ensures.buffer_set c.in-Ok-shut.ensures.left);
       back = tt;
     }
 
