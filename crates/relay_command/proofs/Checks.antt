@@ -1,12 +1,17 @@
 -- What is told where a configuration has an error.
-use Rattle.std.proofs.Common.{inl, inr, ℕ, List, Option, None, Some, refl, Result, Err}
+use Rattle.std.proofs.Common.{inl, inr, ℕ, List, Option, None, Some, refl, Result, Ok, Err}
 use Rattle.std.specs.Io.KnownBytes.{Keeps}
 use Rattle.relay_conf.specs.declared.faults.ConfError.{ConfError}
 use Rattle.relay_conf.specs.declared.faults.ConfError.TheVariants as errors
 use Rattle.relay_conf.specs.RelayViews.{RelayGives}
-use Rattle.relay_command.specs.Check.{CheckGives, CycbuffReads, StorageReads, Fails, HasError}
-use Rattle.relay_command.specs.Check.{IsErrorIn}
+use Rattle.relay_conf.specs.declared.settings.Config.{Config}
+use Rattle.relay_command.specs.Adding.{Standing}
+use Rattle.relay_command.specs.Check.{CycbuffReads, StorageReads, Fails, HasError, IsUnchecked}
+use Rattle.relay_command.specs.Check.{IsErrorIn, IsIn}
 use Rattle.relay_command.specs.Check.{in_cycbuff, in_storage, in_relay}
+use Rattle.relay_command.specs.Run.{ChecksFolder, TellsConfig}
+use Rattle.relay_command.specs.declared.failure.Failure.{Failure}
+use Rattle.relay_command.specs.declared.failure.Failure.TheVariants as failures
 use Rattle.relay_command.specs.declared.load.CheckError.{CheckError}
 use Rattle.relay_command.specs.declared.load.CheckError.TheVariants.{Memory, Unreadable, Faulty}
 use Rattle.relay_command.specs.declared.load.CheckError.TheVariants.{Unwritten}
@@ -44,8 +49,33 @@ keeps_same (Some xs) = refl
 
 -- Where a configuration has an error, that is told and nothing is written.
 pub error_is_told : (folder : List ℕ) (error : CheckError) (held : Option (List ℕ))
-    → HasError folder error → CheckGives (Err error) folder held held
+    → HasError folder error → IsUnchecked error folder held held
 error_is_told folder Memory held has = keeps_same held
 error_is_told folder (Unreadable file) held has = (has, keeps_same held)
 error_is_told folder (Faulty file line code name) held has = (has, keeps_same held)
 error_is_told folder Unwritten held has = absurd (never_unwritten folder has)
+
+-- A configuration that was told, with how its relay stands, is that of its folder.
+pub told_in : (standing : Standing) (config : Config) (folder : List ℕ)
+    (result : Result (Unit {0}) Failure) (before after : Option (List ℕ)) → IsIn folder config
+    → TellsConfig standing config folder result before after
+    → ChecksFolder standing folder result before after
+told_in standing config folder (Ok done) before after is told = (config, is, told)
+told_in standing config folder (Err (failures.Serve error)) before after is told =
+    (config, is, told)
+told_in standing config folder (Err (failures.Check Unwritten)) before after is told =
+    (config, is, told)
+told_in standing config folder (Err (failures.Check Memory)) before after is told = absurd told
+told_in standing config folder (Err (failures.Check (Unreadable file))) before after is told =
+    absurd told
+told_in standing config folder (Err (failures.Check (Faulty file line code name))) before after is
+    told =
+    absurd told
+told_in standing config folder (Err (failures.Unbegun unbegun)) before after is told = absurd told
+told_in standing config folder (Err (failures.Words error)) before after is told = absurd told
+told_in standing config folder (Err (failures.Explain unexplained)) before after is told =
+    absurd told
+told_in standing config folder (Err (failures.Drill error)) before after is told = absurd told
+told_in standing config folder (Err (failures.Token fault)) before after is told = absurd told
+told_in standing config folder (Err (failures.Ask error)) before after is told = absurd told
+told_in standing config folder (Err failures.Unwritten) before after is told = absurd told

@@ -17,6 +17,7 @@ read_or_not items (Err (faults.Line number)) left gives = absurd gives
 read_or_not items (Err faults.Unwritten) left gives = absurd gives
 read_or_not items (Err faults.Unseeded) left gives = absurd gives
 read_or_not items (Err faults.Device) left gives = absurd gives
+read_or_not items (Err faults.Unrepaired) left gives = absurd gives
 
 -- so does why a file is not opened
 pub not_opened : (kind : ErrorKind) → CannotBeRead (unopened_as kind)

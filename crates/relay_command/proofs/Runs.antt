@@ -5,7 +5,7 @@ use Rattle.relay_conf.specs.declared.settings.Config.{Config}
 use Rattle.relay_adding.specs.Telling.{AddsRightly}
 use Rattle.relay_report.specs.Serve.{AnswersRightly}
 use Rattle.relay_report.specs.declared.fault.ServeError.{ServeError}
-use Rattle.relay_command.specs.Adding.{Adding, HandedTo}
+use Rattle.relay_command.specs.Adding.{Adding, HandedTo, Standing}
 use Rattle.relay_command.specs.Ask.{Asking}
 use Rattle.clap.specs.Words.{Text}
 use Rattle.clap.specs.declared.error.Error.{Error}
@@ -22,7 +22,7 @@ module _ {W : Type 0} (contents : W → Option (List ℕ))
     (rightly : AnswersRightly contents post)
     (add_post : Bor Config → Bor (List ℕ) → MutBor W → Result (Unit {0}) ServeError → MutBor W
     → Type 0)
-    (adds_rightly : AddsRightly contents add_post) (asking : Asking) where
+    (adds_rightly : AddsRightly contents add_post) (standing : Standing) (asking : Asking) where
   abbrev serving : Serving
   serving = Handed contents post
 
@@ -31,7 +31,8 @@ module _ {W : Type 0} (contents : W → Option (List ℕ))
 
   -- Nothing that the words ask for fails as words that ask for nothing do.
   never_words : (a : Asked) (error : Error) (input before after : Option (List ℕ))
-      → Performs serving adding asking a (Err (failures.Words error)) input before after → ⊥
+      → Performs serving adding standing asking a (Err (failures.Words error)) input before after
+      → ⊥
   never_words (Drills folder script) error input before after does = does
   never_words (Checks folder) error input before after does = does
   never_words (Explains folder question) error input before after does = does
@@ -44,8 +45,8 @@ module _ {W : Type 0} (contents : W → Option (List ℕ))
   -- What the words ask for was done, or failed.
   pub ran : (words : List Text) (a : Asked) (result : Result (Unit {0}) Failure)
       (input before after : Option (List ℕ)) → IsAskedBy words a
-      → Performs serving adding asking a result input before after
-      → RunGives serving adding asking words result input before after
+      → Performs serving adding standing asking a result input before after
+      → RunGives serving adding standing asking words result input before after
   ran words a (Ok done) input before after is does = (a, is, does)
   ran words a (Err (failures.Words error)) input before after is does =
       absurd (never_words a error input before after does)

@@ -1,4 +1,5 @@
--- What whatever adds buffers was handed, and how it answered (docs/PROTOCOL.md, `add-buffer`).
+-- What whatever adds buffers, or tells how a relay stands, was handed, and how it answered
+-- (docs/PROTOCOL.md, `add-buffer` and `check`).
 use Rattle.std.specs.Prelude.{◌≡◌, ℕ, List, Option, Result}
 use denote.Ref.{Bor, MutBor}
 use Rattle.relay_conf.specs.declared.settings.Config.{Config}
@@ -10,9 +11,13 @@ abbrev pub Adding : Type 1
 Adding = Config → (folder : List ℕ) → Result (Unit {0}) ServeError
     → (before after : Option (List ℕ)) → Type 0
 
--- A call that adds buffers was handed this configuration, this folder and a writer with what was
--- written before, and gave this answer, and a writer with what was written after: `post` says so of
--- the call.
+-- what telling how the relay of a folder stands may come to, in the same way
+abbrev pub Standing : Type 1
+Standing = Adding
+
+-- A call that adds buffers, or tells how a relay stands, was handed this configuration, this folder
+-- and a writer with what was written before, and gave this answer, and a writer with what was
+-- written after: `post` says so of the call.
 pub record HandedTo {W : Type 0} (contents : W → Option (List ℕ))
     (post : Bor Config → Bor (List ℕ) → MutBor W → Result (Unit {0}) ServeError → MutBor W
     → Type 0)

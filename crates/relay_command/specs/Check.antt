@@ -2,7 +2,7 @@
 use Rattle.std.specs.Prelude.{◌≡◌, ◌≢◌, ◌⊎◌, ℕ, List, ◌++◌, codes, decimal, vec_len, Option}
 use Rattle.std.specs.Prelude.{Result, Ok, Err}
 use Rattle.std.specs.Global.{Vec}
-use Rattle.std.specs.Io.KnownBytes.{Appends, Keeps}
+use Rattle.std.specs.Io.KnownBytes.{Keeps}
 use Rattle.relay_conf.specs.Cycbuff.{cycbuff_of}
 use Rattle.relay_conf.specs.Faults.{ConfGives, code_of, name_of}
 use Rattle.relay_conf.specs.Lines.{lines_of}
@@ -129,16 +129,14 @@ counted config =
     ++ decimal (vec_len config.relay.peers) ++ codes " peers, "
     ++ decimal (vec_len config.relay.feeds) ++ codes " feeds\n"
 
--- the answer is that the configuration in the folder was told, or its error, and then nothing was
--- written; or it has none and the writer failed, with a front of what is told
-abbrev pub CheckGives : Result (Unit {0}) CheckError → (folder : List ℕ) → Option (List ℕ)
-    → Option (List ℕ) → Type 0
-CheckGives (Ok done) folder before after =
-    (config : Config) × IsIn folder config × Appends before after (counted config)
-CheckGives (Err Memory) folder before after = Keeps before after
-CheckGives (Err (Unreadable file)) folder before after =
+-- why the configuration in a folder wasn't told: memory ran out or it has an error, and then
+-- nothing was written; or it has none and the writer failed, with a front of what is told
+abbrev pub IsUnchecked : CheckError → (folder : List ℕ) → (before after : Option (List ℕ))
+    → Type 0
+IsUnchecked Memory folder before after = Keeps before after
+IsUnchecked (Unreadable file) folder before after =
     HasError folder (Unreadable file) × Keeps before after
-CheckGives (Err (Faulty file line code name)) folder before after =
+IsUnchecked (Faulty file line code name) folder before after =
     HasError folder (Faulty file line code name) × Keeps before after
-CheckGives (Err Unwritten) folder before after =
+IsUnchecked Unwritten folder before after =
     (config : Config) × IsIn folder config × GainsFront (counted config) before after

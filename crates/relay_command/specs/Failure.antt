@@ -59,6 +59,7 @@ status_of (Drill drill.Unreadable) = 3
 status_of (Drill drill.Unwritten) = 4
 status_of (Drill drill.Unseeded) = 4
 status_of (Drill drill.Device) = 4
+status_of (Drill drill.Unrepaired) = 4
 status_of (Token token.Length) = 3
 status_of (Token token.Marks) = 3
 status_of (Token token.Digit) = 3

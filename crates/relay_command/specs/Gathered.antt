@@ -2,7 +2,7 @@
 use Rattle.std.specs.Prelude.{◌≡◌, ℕ, List, [], Option, Result, Err}
 use Rattle.std.specs.Io.KnownBytes.{Keeps, append_known}
 use Rattle.clap.specs.Words.{Text}
-use Rattle.relay_command.specs.Adding.{Adding}
+use Rattle.relay_command.specs.Adding.{Adding, Standing}
 use Rattle.relay_command.specs.Ask.{Asking}
 use Rattle.relay_command.specs.Run.{RunGives}
 use Rattle.relay_command.specs.Serving.{Serving}
@@ -24,11 +24,12 @@ pub record HandsOn (ran result : Result (Unit {0}) Failure) (held left : List �
 
 -- What a run printed is what the device took, and behind it what is still held: nothing, unless
 -- standard output is told as unwritten.
-pub record RunsGathered (serving : Serving) (adding : Adding) (asking : Asking) (words : List Text)
-    (result : Result (Unit {0}) Failure) (input before device : Option (List ℕ)) (held : List ℕ)
+pub record RunsGathered (serving : Serving) (adding : Adding) (standing : Standing)
+    (asking : Asking) (words : List Text) (result : Result (Unit {0}) Failure)
+    (input before device : Option (List ℕ)) (held : List ℕ)
     : Type 0 where
   pub ran : Result (Unit {0}) Failure
   pub printed : Option (List ℕ)
-  pub gives : RunGives serving adding asking words ran input before printed
+  pub gives : RunGives serving adding standing asking words ran input before printed
   pub whole : Keeps printed (append_known device held)
   pub ends : EndsAs ran result held

@@ -1,13 +1,13 @@
 -- What a run of the program does (docs/PROTOCOL.md, Program).
 use Rattle.std.specs.Prelude.{◌≡◌, ◌≢◌, ℕ, Bool, List, codes, Option, Some, Result, Ok, Err}
-use Rattle.std.specs.Io.KnownBytes.{Keeps}
+use Rattle.std.specs.Io.KnownBytes.{Appends, Keeps}
 use Rattle.clap.specs.Words.{Text}
 use Rattle.relay_conf.specs.declared.settings.Config.{Config}
 use Rattle.relay_drill.specs.Drill.{DrillGives}
 use Rattle.relay_drill.specs.declared.fault.DrillError.{DrillError}
-use Rattle.relay_command.specs.Adding.{Adding}
+use Rattle.relay_command.specs.Adding.{Adding, Standing}
 use Rattle.relay_command.specs.Ask.{Asking, AsksIn}
-use Rattle.relay_command.specs.Check.{CheckGives, HasError, IsIn}
+use Rattle.relay_command.specs.Check.{HasError, IsIn, IsUnchecked, counted}
 use Rattle.relay_command.specs.CommandLine.{Asked, Drills, Checks, Explains, Tells, Serves}
 use Rattle.relay_command.specs.CommandLine.{Adds, Stops, Reports}
 use Rattle.relay_command.specs.CommandLine.{IsAskedBy, IsRefusedBy}
@@ -20,8 +20,10 @@ use Rattle.relay_command.specs.declared.ask.Request.TheVariants.{Stop, Report}
 use Rattle.relay_command.specs.declared.failure.Failure.{Failure}
 use Rattle.relay_command.specs.declared.failure.Failure.TheVariants.{Words, Check, Drill, Serve}
 use Rattle.relay_command.specs.declared.failure.Failure.TheVariants.{Token, Ask}
+use Rattle.relay_command.specs.declared.load.CheckError.TheVariants.{Unwritten}
 use Rattle.relay_adding.specs.Telling.{AddGives}
 use Rattle.relay_report.specs.Serve.{ServeGives}
+use Rattle.relay_report.specs.Written.{GainsFront}
 use Rattle.relay_report.specs.declared.fault.ServeError.{ServeError}
 
 -- what a script of this name answers with a configuration; `input` is what standard input has
@@ -57,12 +59,32 @@ DrillsFolder folder script (Err (Check error)) input before after =
     HasError folder error × Keeps before after
 DrillsFolder folder script (Err failure) input before after = ⊥
 
--- the configuration in a folder was told, or that failed so
-abbrev pub ChecksFolder : (folder : List ℕ) → Result (Unit {0}) Failure
+-- how much a configuration has was told, and behind it how the relay of the folder stands
+pub record TellsStanding (standing : Standing) (config : Config) (folder : List ℕ)
+    (result : Result (Unit {0}) ServeError) (before after : Option (List ℕ))
+    : Type 0 where
+  pub between : Option (List ℕ)
+  pub told : Appends before between (counted config)
+  pub stands : standing config folder result between after
+
+-- so it is with the configuration in the folder
+abbrev pub ChecksIn : Standing → (folder : List ℕ) → Result (Unit {0}) ServeError
     → (before after : Option (List ℕ)) → Type 0
-ChecksFolder folder (Ok done) before after = CheckGives (Ok done) folder before after
-ChecksFolder folder (Err (Check error)) before after = CheckGives (Err error) folder before after
-ChecksFolder folder (Err failure) before after = ⊥
+ChecksIn standing folder result before after =
+    (config : Config) × IsIn folder config
+    × TellsStanding standing config folder result before after
+
+-- the configuration in a folder was told, and how its relay stands, or that failed so; where the
+-- configuration wasn't told nobody looked at the relay
+abbrev pub ChecksFolder : Standing → (folder : List ℕ) → Result (Unit {0}) Failure
+    → (before after : Option (List ℕ)) → Type 0
+ChecksFolder standing folder (Ok done) before after =
+    ChecksIn standing folder (Ok done) before after
+ChecksFolder standing folder (Err (Serve error)) before after =
+    ChecksIn standing folder (Err error) before after
+ChecksFolder standing folder (Err (Check error)) before after =
+    IsUnchecked error folder before after
+ChecksFolder standing folder (Err failure) before after = ⊥
 
 -- what this text of a token stands for was told, or that failed so
 abbrev pub TellsText : (text : List ℕ) → Result (Unit {0}) Failure
@@ -124,30 +146,43 @@ AsksFolder asking folder request (Err failure) before after = ⊥
 
 -- what was asked for is done, or failed with a failure of its own; only a drill reads standard
 -- input
-abbrev pub Performs : Serving → Adding → Asking → Asked → Result (Unit {0}) Failure
+abbrev pub Performs : Serving → Adding → Standing → Asking → Asked → Result (Unit {0}) Failure
     → (input before after : Option (List ℕ)) → Type 0
-Performs serving adding asking (Drills folder script) result input before after =
+Performs serving adding standing asking (Drills folder script) result input before after =
     DrillsFolder folder script result input before after
-Performs serving adding asking (Checks folder) result input before after =
-    ChecksFolder folder result before after
-Performs serving adding asking (Explains folder question) result input before after =
+Performs serving adding standing asking (Checks folder) result input before after =
+    ChecksFolder standing folder result before after
+Performs serving adding standing asking (Explains folder question) result input before after =
     ExplainsFolder folder question result before after
-Performs serving adding asking (Tells text) result input before after =
+Performs serving adding standing asking (Tells text) result input before after =
     TellsText text result before after
-Performs serving adding asking (Serves folder sessions fresh) result input before after =
+Performs serving adding standing asking (Serves folder sessions fresh) result input before after =
     ServesFolder serving folder sessions fresh result before after
-Performs serving adding asking (Stops folder) result input before after =
+Performs serving adding standing asking (Stops folder) result input before after =
     AsksFolder asking folder Stop result before after
-Performs serving adding asking (Reports folder) result input before after =
+Performs serving adding standing asking (Reports folder) result input before after =
     AsksFolder asking folder Report result before after
-Performs serving adding asking (Adds folder) result input before after =
+Performs serving adding standing asking (Adds folder) result input before after =
     AddsFolder adding folder result before after
 
 -- what the words ask for is done or failed; or they ask for nothing, and nothing was written
-abbrev pub RunGives : Serving → Adding → Asking → List Text → Result (Unit {0}) Failure
+abbrev pub RunGives : Serving → Adding → Standing → Asking → List Text → Result (Unit {0}) Failure
     → (input before after : Option (List ℕ)) → Type 0
-RunGives serving adding asking words (Err (Words error)) input before after =
+RunGives serving adding standing asking words (Err (Words error)) input before after =
     IsRefusedBy words error × Keeps before after
-RunGives serving adding asking words result input before after =
+RunGives serving adding standing asking words result input before after =
     (asked : Asked) × IsAskedBy words asked
-    × Performs serving adding asking asked result input before after
+    × Performs serving adding standing asking asked result input before after
+
+-- STEP BY STEP
+
+-- so this configuration was told with how the relay of a folder stands, or that failed so
+abbrev pub TellsConfig : Standing → Config → (folder : List ℕ) → Result (Unit {0}) Failure
+    → (before after : Option (List ℕ)) → Type 0
+TellsConfig standing config folder (Ok done) before after =
+    TellsStanding standing config folder (Ok done) before after
+TellsConfig standing config folder (Err (Serve error)) before after =
+    TellsStanding standing config folder (Err error) before after
+TellsConfig standing config folder (Err (Check Unwritten)) before after =
+    GainsFront (counted config) before after
+TellsConfig standing config folder (Err failure) before after = ⊥

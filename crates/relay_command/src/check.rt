@@ -2,37 +2,62 @@
 ghost use Rattle.std.specs.Prelude.{◌≡◌, decimal};
 ghost use Rattle.relay_report.specs.Written.{Writes};
 ghost use Rattle.relay_command.specs.Check.{counted};
-ghost use Rattle.relay_command.specs.Run.{ChecksFolder};
+ghost use Rattle.relay_command.specs.Adding.{HandedTo};
+ghost use Rattle.relay_command.specs.Run.{ChecksFolder, TellsConfig};
 
 use crate::failure::Failure;
 use crate::load::{CheckError, load};
 use itoa::Buffer;
 use relay_conf::Config;
-use relay_report::{Unwritten, put_all};
+use relay_report::{ServeError, Unwritten, put_all};
 use std::alloc::Global;
 use std::fs::Files;
 use std::io::Write;
 
 /// Reads the configuration in a folder, or the built-in one where the folder is `K1`, and writes
-/// how much it has.
-pub fn check<R: Files, W: Write>(
+/// how much it has; then has it told how the relay of the folder stands.
+pub fn check<R: Files, W: Write, T>(
     rt: &R,
     alloc: Global,
     folder: &str,
     writer: &mut W,
+    stand: T,
 ) -> Result<(), Failure>
-    ensures { ChecksFolder folder.now result (W.contents writer.old) (W.contents writer.new) }
+where
+    T: FnOnce(&Config, &str, &mut W) -> Result<(), ServeError>,
+    requires { T.IsAlwaysCallable stand }
+    ensures { ChecksFolder (HandedTo W.contents (T.post stand)) folder.now result
+        (W.contents writer.old) (W.contents writer.new) }
 {
     match load(rt, alloc, folder) {
         Ok(config) => {
-            let printed = print_counts(writer, &config);
+            let told = tell_config(&config, folder, writer, stand);
             drop(config);
-            match printed {
-                Ok(()) => Ok(()),
-                Err(_) => Err(Failure::Check(CheckError::Unwritten)),
-            }
+            told
         }
         Err(error) => Err(Failure::Check(error)),
+    }
+}
+
+/// Writes how much a configuration has, and has it told how the relay of its folder stands.
+fn tell_config<W: Write, T>(
+    config: &Config,
+    folder: &str,
+    writer: &mut W,
+    stand: T,
+) -> Result<(), Failure>
+where
+    T: FnOnce(&Config, &str, &mut W) -> Result<(), ServeError>,
+    requires { T.IsAlwaysCallable stand }
+    ensures { TellsConfig (HandedTo W.contents (T.post stand)) config.now folder.now result
+        (W.contents writer.old) (W.contents writer.new) }
+{
+    match print_counts(writer, config) {
+        Ok(()) => match stand(config, folder, writer) {
+            Ok(()) => Ok(()),
+            Err(error) => Err(Failure::Serve(error)),
+        },
+        Err(_) => Err(Failure::Check(CheckError::Unwritten)),
     }
 }
 

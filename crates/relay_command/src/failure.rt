@@ -127,7 +127,7 @@ impl Failure {
             Failure::Token(_) => 3,
             Failure::Unwritten => 4,
             Failure::Drill(DrillError::Unwritten | DrillError::Unseeded) => 4,
-            Failure::Drill(DrillError::Device) => 4,
+            Failure::Drill(DrillError::Device | DrillError::Unrepaired) => 4,
             Failure::Serve(ServeError::File(_) | ServeError::Port(_)) => 4,
             Failure::Serve(ServeError::Control) => 4,
             Failure::Serve(ServeError::Start(_) | ServeError::Stop(_)) => 4,

@@ -73,9 +73,10 @@ fn unread(kind: ErrorKind) -> Unbegun
 /// to its end before a failure is told. `rt` has the files, and seeds the core's hasher; `serve` is
 /// asked to serve a relay on ports: with its configuration, the folder of its files, after how many
 /// connections each port ends, and whether all buffers are formatted. `add` is asked to add buffers
-/// to the relay that was stopped in a folder: with its configuration, and the folder. `ask` is asked
-/// what the relay tells that is served in a folder.
-pub fn run<S: Files + RandomSource, R: Read, W: Write + Drop, V, D, A>(
+/// to the relay that was stopped in a folder: with its configuration, and the folder. `stand` is
+/// asked to tell how the relay of a folder stands, by the same. `ask` is asked what the relay tells
+/// that is served in a folder.
+pub fn run<S: Files + RandomSource, R: Read, W: Write + Drop, V, D, T, A>(
     rt: &S,
     alloc: Global,
     words: &[String],
@@ -83,28 +84,33 @@ pub fn run<S: Files + RandomSource, R: Read, W: Write + Drop, V, D, A>(
     writer: &mut BufWriter<W>,
     serve: V,
     add: D,
+    stand: T,
     ask: A,
 ) -> Result<(), Failure>
 where
     V: FnOnce(&Config, &str, Option<u32>, bool, &mut BufWriter<W>) -> Result<(), ServeError>,
     D: FnOnce(&Config, &str, &mut BufWriter<W>) -> Result<(), ServeError>,
+    T: FnOnce(&Config, &str, &mut BufWriter<W>) -> Result<(), ServeError>,
     A: FnOnce(&str, Request) -> io::Result<Vec<u8>>,
     requires called { V.IsAlwaysCallable serve }
     requires added { D.IsAlwaysCallable add }
+    requires stood { T.IsAlwaysCallable stand }
     requires asked { A.IsAlwaysCallable ask }
     requires rightly { AnswersRightly (writer_contents W.contents) (V.post serve) }
     requires adds_rightly { AddsRightly (writer_contents W.contents) (D.post add) }
     ensures { RunsGathered (Handed (writer_contents W.contents) (V.post serve))
-        (HandedTo (writer_contents W.contents) (D.post add)) (Answered (A.post ask)) (map string_bytes words.now) result (R.remaining reader.old)
+        (HandedTo (writer_contents W.contents) (D.post add))
+        (HandedTo (writer_contents W.contents) (T.post stand)) (Answered (A.post ask))
+        (map string_bytes words.now) result (R.remaining reader.old)
         (writer_contents W.contents writer.old) (W.contents (writer_inner writer.new))
         (writer_buffer writer.new) }
 {
-    let ran = obey(rt, alloc, words, reader, writer, serve, add, ask);
+    let ran = obey(rt, alloc, words, reader, writer, serve, add, stand, ask);
     hand_on(ran, writer)
 }
 
 /// Does what the words ask for.
-fn obey<S: Files + RandomSource, R: Read, W: Write, V, D, A>(
+fn obey<S: Files + RandomSource, R: Read, W: Write, V, D, T, A>(
     rt: &S,
     alloc: Global,
     words: &[String],
@@ -112,25 +118,28 @@ fn obey<S: Files + RandomSource, R: Read, W: Write, V, D, A>(
     writer: &mut W,
     serve: V,
     add: D,
+    stand: T,
     ask: A,
 ) -> Result<(), Failure>
 where
     V: FnOnce(&Config, &str, Option<u32>, bool, &mut W) -> Result<(), ServeError>,
     D: FnOnce(&Config, &str, &mut W) -> Result<(), ServeError>,
+    T: FnOnce(&Config, &str, &mut W) -> Result<(), ServeError>,
     A: FnOnce(&str, Request) -> io::Result<Vec<u8>>,
     requires called { V.IsAlwaysCallable serve }
     requires added { D.IsAlwaysCallable add }
+    requires stood { T.IsAlwaysCallable stand }
     requires asked { A.IsAlwaysCallable ask }
     requires rightly { AnswersRightly W.contents (V.post serve) }
     requires adds_rightly { AddsRightly W.contents (D.post add) }
     ensures { RunGives (Handed W.contents (V.post serve)) (HandedTo W.contents (D.post add))
-        (Answered (A.post ask))
+        (HandedTo W.contents (T.post stand)) (Answered (A.post ask))
         (map string_bytes words.now) result (R.remaining reader.old) (W.contents writer.old)
         (W.contents writer.new) }
 {
     match read_words(alloc, words) {
         Ok(job) => {
-            let done = perform(rt, alloc, &job, reader, writer, serve, add, ask);
+            let done = perform(rt, alloc, &job, reader, writer, serve, add, stand, ask);
             drop(job);
             done
         }
@@ -139,7 +148,7 @@ where
 }
 
 /// Does what is asked for.
-fn perform<S: Files + RandomSource, R: Read, W: Write, V, D, A>(
+fn perform<S: Files + RandomSource, R: Read, W: Write, V, D, T, A>(
     rt: &S,
     alloc: Global,
     job: &Job,
@@ -147,25 +156,28 @@ fn perform<S: Files + RandomSource, R: Read, W: Write, V, D, A>(
     writer: &mut W,
     serve: V,
     add: D,
+    stand: T,
     ask: A,
 ) -> Result<(), Failure>
 where
     V: FnOnce(&Config, &str, Option<u32>, bool, &mut W) -> Result<(), ServeError>,
     D: FnOnce(&Config, &str, &mut W) -> Result<(), ServeError>,
+    T: FnOnce(&Config, &str, &mut W) -> Result<(), ServeError>,
     A: FnOnce(&str, Request) -> io::Result<Vec<u8>>,
     requires called { V.IsAlwaysCallable serve }
     requires added { D.IsAlwaysCallable add }
+    requires stood { T.IsAlwaysCallable stand }
     requires asked { A.IsAlwaysCallable ask }
     requires rightly { AnswersRightly W.contents (V.post serve) }
     requires adds_rightly { AddsRightly W.contents (D.post add) }
     ensures { Performs (Handed W.contents (V.post serve)) (HandedTo W.contents (D.post add))
-        (Answered (A.post ask))
+        (HandedTo W.contents (T.post stand)) (Answered (A.post ask))
         (asked job.now) result (R.remaining reader.old) (W.contents writer.old)
         (W.contents writer.new) }
 {
     match job {
         Job::Drill { folder, script } => drill_in(rt, alloc, folder, script, reader, writer),
-        Job::Check(folder) => check(rt, alloc, folder, writer),
+        Job::Check(folder) => check(rt, alloc, folder, writer, stand),
         Job::Explain { folder, question } => explain_folder(rt, alloc, folder, question, writer),
         Job::Token(text) => tell(text.as_bytes(), writer),
         Job::Serve {

@@ -18,6 +18,12 @@ IsWait kinds.TimedOut = Unit {0}
 IsWait kinds.Interrupted = Unit {0}
 IsWait kind = ⊥
 
+-- no socket is there, or nobody listens at it
+abbrev pub HasNobody : ErrorKind → Type 0
+HasNobody kinds.NotFound = Unit {0}
+HasNobody kinds.ConnectionRefused = Unit {0}
+HasNobody kind = ⊥
+
 -- It is an end in order that this word was answered by: a relay that was told to stop may end
 -- before it has read the word, and then the connection breaks.
 abbrev pub IsEnd : Word → ErrorKind → Type 0

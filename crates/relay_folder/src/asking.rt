@@ -1,7 +1,7 @@
 //! Asking a relay that is served.
-ghost use Rattle.std.specs.Prelude.{◌↔◌, IsTrue};
+ghost use Rattle.std.specs.Prelude.{◌≡◌, ◌↔◌, Err, IsTrue, Ok, false};
 ghost use Rattle.std.specs.IoError.{error_kind};
-ghost use Rattle.relay_folder.specs.Files.{IsEnd};
+ghost use Rattle.relay_folder.specs.Files.{HasNobody, IsEnd};
 
 use crate::socket_place::{NAME, path_in};
 use crate::words::Word;
@@ -18,6 +18,27 @@ pub fn ask<N: Net>(net: &N, alloc: Global, folder: &str, word: Word) -> io::Resu
     match tell(&stream, word) {
         Ok(()) => told_by(alloc, &stream, word),
         Err(error) => Err(error),
+    }
+}
+
+/// Whether a relay is served in a folder: whoever comes to its socket is heard. It is asked
+/// nothing. The error is that this isn't known, as where the socket is another user's.
+pub fn is_served<N: Net>(net: &N, alloc: Global, folder: &str) -> io::Result<bool> {
+    match connect(net, alloc, folder) {
+        Ok(_living) => Ok(true),
+        Err(error) => unheard(error),
+    }
+}
+
+/// What is told of a relay with which no connection could be made: that none is served, only where
+/// no socket is there, or nobody listens at it.
+fn unheard(error: io::Error) -> io::Result<bool>
+    ensures none { HasNobody (error_kind error) → result ≡ Ok false }
+    ensures told { ¬ HasNobody (error_kind error) → result ≡ Err error }
+{
+    match error.kind() {
+        ErrorKind::NotFound | ErrorKind::ConnectionRefused => Ok(false),
+        _ => Err(error),
     }
 }
 

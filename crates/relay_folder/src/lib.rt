@@ -25,13 +25,13 @@ mod socket_place;
 mod teller;
 mod words;
 
-pub use asking::ask;
+pub use asking::{ask, is_served};
 pub use control::Control;
 pub use history_place::HistoryPlace;
 pub use host::HostHistory;
 pub use host_journal::HostJournal;
 pub use journal_place::JournalPlace;
 pub use keeping::keep;
-pub use origin::{Origin, origin_of};
+pub use origin::{Origin, origin_of, take_away};
 pub use teller::Teller;
 pub use words::Word;

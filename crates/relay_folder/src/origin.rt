@@ -51,8 +51,8 @@ pub fn origin_of<P: HistoryPlace>(
     }
 }
 
-/// Takes a history away for good: no power cut brings it back.
-fn take_away<P: HistoryPlace>(place: &mut P) -> io::Result<()>
+/// Takes the text of a place away for good: no power cut brings it back.
+pub fn take_away<P: HistoryPlace>(place: &mut P) -> io::Result<()>
     ensures gone { P.honest place.old → OnOk result (P.kept place.new ≡ None) }
     ensures lasts { P.honest place.old → OnOk result (P.lasting place.new ≡ None ∷ []) }
     ensures refused { P.honest place.old

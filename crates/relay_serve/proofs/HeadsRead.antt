@@ -1,8 +1,7 @@
 -- The heads of buffers are read, one after the other.
 use Rattle.std.proofs.Common.{◌≡◌, ◌∙◌, ◌+◌, ◌<◌, ◌≤◌, ℕ, List, [], ◌∷◌, ◌++◌, None, Some, ap}
-use Rattle.std.proofs.Common.{arith, inl, inr, length, length-set, map, get_or, refl, slice_get}
-use Rattle.std.proofs.Common.{slice_set, subst, sym, vec_capacity}
-use Rattle.std.specs.Global.{Vec}
+use Rattle.std.proofs.Common.{arith, inl, inr, length, map, get_or, refl, slice_get}
+use Rattle.std.proofs.Common.{slice_set, sym}
 use Rattle.std.proofs.lemmas.Bool.{cases_eq}
 use Rattle.std.proofs.lemmas.List.{length-append}
 use Rattle.std.proofs.lemmas.Option.{same_Some, slice_get-get_or, slice_get_within}

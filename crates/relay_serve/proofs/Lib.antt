@@ -1,10 +1,12 @@
 mod AddFaults
 mod Counted
 mod FileFaults
+mod FirstHistory
 mod Founds
 mod HeadsRead
 mod Kept
 mod Listed
+mod Looks
 mod PeerSources
 mod Repairs
 mod Rounds

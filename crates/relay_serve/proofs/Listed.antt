@@ -1,7 +1,8 @@
 -- A binary search over ids that rise says whether an id is listed under its token.
-use Rattle.std.proofs.Common.{◌≡◌, ◌∙◌, ◌<◌, ◌≤◌, ℕ, zero, suc, ap, sym, refl, subst, arith, inl, inr}
+use Rattle.std.proofs.Common.{◌≡◌, ◌∙◌, ◌<◌, ◌≤◌, ℕ, zero, suc, ap, sym, refl, subst, arith, inl}
+use Rattle.std.proofs.Common.{inr}
 use Rattle.std.proofs.Common.{Bool, true, false, ◌&&◌, List, [], ◌∷◌, map, length, get_or}
-use Rattle.std.proofs.Common.{Ordering, Less, Equal, Greater, Option, Result, Ok, Err}
+use Rattle.std.proofs.Common.{Ordering, Less, Equal, Greater, Err}
 use Rattle.std.proofs.lemmas.Bool.{cases_eq, cases_lt}
 use Rattle.std.proofs.lemmas.Cmp.{nat_list_cmp_total}
 use Rattle.std.proofs.lemmas.List.{get_or-map, length-map}
@@ -11,11 +12,9 @@ use Rattle.std.proofs.lemmas.Map.Lookups.{exact_bytes}
 use Rattle.std.proofs.lemmas.Map.Text.{is_eq-slice_cmp}
 use Rattle.std.proofs.lemmas.Map.Views.{All-after_first}
 use Rattle.std.specs.Cmp.Lexicographic.{slice_cmp}
-use Rattle.std.specs.List.{list_any}
-use Rattle.std.specs.List.Sorted.{IsBinarySearchResult, IsNonDecreasingBy, IsSearchInRange}
+use Rattle.std.specs.List.Sorted.{IsBinarySearchResult, IsNonDecreasingBy}
 use Rattle.std.specs.List.Sorted.{IsStrictlySortedBy}
 use Rattle.std.specs.Ordering.{nat_cmp, is_eq, ordering_index, ordering_reverse}
-use Rattle.std.specs.Result.{MatchResult}
 use Rattle.std.specs.Str.{bytes_eq}
 use Rattle.id_history.specs.History.{KeptId, Rises}
 use Rattle.id_history.specs.Views.{id_view}
@@ -76,7 +75,8 @@ module _ (found : List kept.KeptId) (rises : Rises (map id_view found)) (one : k
   rise a b d before within =
       let ids = map (λ (x : KeptId). x.id) (map id_view found) in
       subst (λ y. by_octets (get_or found a d).id y ≡ Less) (id_at b d within)
-      (subst (λ x. by_octets x (get_or ids b d.id) ≡ Less) (id_at a d (omega (arith, before, within)))
+      (subst (λ x. by_octets x (get_or ids b d.id) ≡ Less)
+      (id_at a d (omega (arith, before, within)))
       (below by_octets ids a b d.id rises before (omega (
         arith,
         within,
@@ -153,7 +153,8 @@ module _ (found : List kept.KeptId) (rises : Rises (map id_view found)) (one : k
       by false is = is ∙ sym (none_is d (other is))
 
   -- where a search has found none there is none
-  pub nowhere : (i : ℕ) → IsBinarySearchResult (λ (x : kept.KeptId). by_octets x.id one.id) found (Err i)
+  pub nowhere : (i : ℕ) → IsBinarySearchResult (λ (x : kept.KeptId). by_octets x.id one.id) found
+      (Err i)
       → (d : kept.KeptId) → is_found (map id_view found) (id_view one) ≡ false
   nowhere i searched d =
       let parted = searched rises_by in

@@ -6,7 +6,10 @@ use Rattle.std.specs.IoError.{error_kind}
 use Rattle.block_shelf.specs.Each.{AreEach}
 use Rattle.block_shelf.specs.Starting.{IsUnwritten}
 use Rattle.relay_repair.proofs.FoundOver.{repairs_on}
-use Rattle.relay_serve.specs.Repairing.{IsOfRepair}
+use Rattle.relay_folder.specs.declared.history_place.HistoryPlace as places
+use Rattle.relay_journal.specs.declared.lines.JournalLines as lines
+use Rattle.relay_journal.specs.declared.lines.ToldJournal.{ToldJournal}
+use Rattle.relay_serve.specs.Repairing.{IsOfRepair, IsOfRepairWith}
 use Rattle.block_shelf.specs.declared.starting.StopFault.{StopFault}
 use Rattle.cyc_block.specs.declared.store.BlockStore.{Ghosts}
 use Rattle.relay_conf.specs.declared.settings.Config.{Config}
@@ -15,7 +18,7 @@ use Rattle.relay_core.specs.declared.stopped.NotStarted.TheVariants as nots
 use Rattle.relay_core.specs.declared.stopped.Stopped.{Stopped}
 use Rattle.relay_serve.specs.Adding.{IsHistoryFault}
 use Rattle.relay_serve.specs.Lives.{IsUnstartedAs}
-use Rattle.relay_serve.specs.Running.{IsRelayFault, IsServeFault, unbegun_as}
+use Rattle.relay_serve.specs.Running.{IsRelayFault, IsRunFault, IsServeFault, unbegun_as}
 use Rattle.relay_serve.specs.Starting.{IsRefusal}
 use Rattle.relay_report.specs.declared.fault.ServeError.{ServeError}
 use Rattle.relay_serve.proofs.ServeFaults.{relay_serves, run_serves}
@@ -58,6 +61,12 @@ history_serves config error (inl memory) = subst (IsServeFault config) (sym memo
 history_serves config error (inr (inl unread)) = subst (IsServeFault config) (sym unread) tt
 history_serves config error (inr (inr bad)) = subst (IsServeFault config) (sym bad) tt
 
+-- what a run ends for is a reason that a relay isn't served
+pub run_fault_serves : (config : Config) (error : ServeError) → IsRunFault error
+    → IsServeFault config error
+run_fault_serves config error fault =
+    relay_serves nothing_seen config [] error (run_serves nothing_seen config [] error fault)
+
 -- both facts of a value
 pub both_ok : {T E : Type 0} (r : Result T E) (P Q : T → Type 0) → IfOk r P → IfOk r Q
     → IfOk r (λ x. P x × Q x)
@@ -77,4 +86,18 @@ repair_on config text stopped are of = record {
     repairs_on config of.repairs.0 of.now of.back stopped.history.items are of.repairs.2,
   );
   uncalled = of.uncalled;
+}
+
+-- so is what one gives that goes by the last history with its journal folded in
+pub with_repair_on : {S P L : Type 0} {g : Ghosts S} {p : places.Ghosts P} {l : lines.Ghosts L}
+    {failed : Option ℕ} {old new : List S} (config : Config) (text : List ℕ) (stopped : Stopped S)
+    (before after : ToldJournal P L) → AreEach (IsUnwritten g failed) old new
+    → IsOfRepairWith g p l config text new stopped before after
+    → IsOfRepairWith g p l config text old stopped before after
+with_repair_on config text stopped before after are of = record {
+  read = of.read;
+  is_read = of.is_read;
+  last = of.last;
+  folded = of.folded;
+  repaired = repair_on config of.last stopped are of.repaired;
 }

@@ -1,5 +1,5 @@
 -- A round of flushes, one file after the other.
-use Rattle.std.proofs.Common.{◌≡◌, ◌∙◌, ◌+◌, ◌<◌, ◌∷◌, ◌++◌, [], ℕ, List, Bool, false, true, ap}
+use Rattle.std.proofs.Common.{◌≡◌, ◌∙◌, ◌<◌, ◌∷◌, ◌++◌, [], List, Bool, ap}
 use Rattle.std.proofs.Common.{append-nil, append_assoc, arith, get_or, length, refl, sym}
 use Rattle.relay_serve.specs.Syncing.{deeds_of, round_of}
 

@@ -1,5 +1,5 @@
 -- What a repair has given is what it gave once the heads that it wrote were read.
-use Rattle.std.proofs.Common.{◌≡◌, ◌∙◌, ℕ, List, None, Option, ap, subst, sym}
+use Rattle.std.proofs.Common.{◌∙◌, ℕ, List, None, Option, subst, sym}
 use Rattle.std.proofs.lemmas.Option.{none-some}
 use Rattle.block_shelf.specs.Each.{AreEach}
 use Rattle.block_shelf.specs.Starting.{IsUnwritten}

@@ -136,7 +136,8 @@ at_any g config stores (Some number) fault error e =
     (slice_get config.buffers.buffers.items number) refl e
 
 -- What a start is refused for is a reason that a relay isn't run,
-pub refusal_stays : {S : Type 0} (g : Ghosts S) (config : Config) (stores : List S) (number : Option ℕ)
+pub refusal_stays : {S : Type 0} (g : Ghosts S) (config : Config) (stores : List S)
+    (number : Option ℕ)
     (reason : StopFault) (error : ServeError) → IsRefusal config.buffers number reason error
     → IsRelayFault g config stores error
 refusal_stays g config stores number reasons.Memory error e =
@@ -229,7 +230,8 @@ finished_gives {S} {J} {L} {s} {j} config shared stores origin peers counts (Ok 
     let same = sym finishes.counted in
     record {
       totals = finishes.totals;
-      counted = subst (λ (n : Counted). IfOk (totals_in run.totals) (λ totals. CountsOf totals n)) same
+      counted = subst (λ (n : Counted). IfOk (totals_in run.totals) (λ totals. CountsOf totals n))
+          same
           finishes.numbers;
       ran = subst (Ran j config peers) same ran;
       start = tt;

@@ -1,5 +1,5 @@
 -- Stores whose devices were only had take what was written, one after the other.
-use Rattle.std.proofs.Common.{◌≡◌, ◌∙◌, ℕ, List, ap, refl, subst, sym, length-set, slice_set}
+use Rattle.std.proofs.Common.{◌∙◌, ℕ, List, ap, refl, subst, sym, length-set, slice_set}
 use Rattle.std.proofs.Common.{None, get_or, slice_get}
 use Rattle.std.proofs.lemmas.Option.{get_or_from_slice_get, none-some, same_Some}
 use Rattle.block_shelf.proofs.Shelving.{put_both}

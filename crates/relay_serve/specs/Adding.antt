@@ -4,6 +4,8 @@ use Rattle.std.specs.Str.Lossy.{utf8_lossy}
 use Rattle.std.specs.declared.io.ErrorKind.{ErrorKind}
 use Rattle.std.specs.declared.io.ErrorKind.TheVariants.{OutOfMemory}
 use Rattle.id_history.specs.History.{Kept}
+use Rattle.id_history.specs.declared.fault.HistoryError.{HistoryError}
+use Rattle.id_history.specs.declared.fault.HistoryError.TheVariants as errors
 use Rattle.relay_adding.specs.declared.flushing.Unadded.{Unadded}
 use Rattle.relay_adding.specs.declared.flushing.Unadded.TheVariants as unadded
 use Rattle.relay_conf.specs.declared.settings.Buffers.{Buffers}
@@ -32,6 +34,11 @@ IsStopOf config (Some text) stop = IsStopIn config text stop
 abbrev pub TellsNone : Config → Option (List ℕ) → ServeError → Type 0
 TellsNone config kept error =
     error ≡ faults.Start starts.BadHistory → (stop : ℕ) → IsStopOf config kept stop → ⊥
+
+-- why a text isn't read as a history is told so
+abbrev pub no_history_as : HistoryError → ServeError
+no_history_as errors.Memory = faults.Memory
+no_history_as errors.BadHistory = faults.Start starts.BadHistory
 
 -- memory was refused, or the history can't be had, or is none of this configuration
 abbrev pub IsHistoryFault : ServeError → Type 0

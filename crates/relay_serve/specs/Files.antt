@@ -48,5 +48,5 @@ abbrev pub WasEmptied : FileBlocks HostFile → Type 0
 WasEmptied store = IsEmptied (file_of store)
 
 -- no buffer was found in the file of a store
-abbrev pub WasBlank : FileBlocks HostFile → Type 0
+abbrev pub WasBlank : {F : Type 0} → FileBlocks F → Type 0
 WasBlank store = IsTrue (was_blank store)

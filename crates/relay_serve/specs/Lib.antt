@@ -4,7 +4,9 @@ pub mod Files
 pub mod Gates
 pub mod History
 pub mod Keeping
+pub mod LastHistory
 pub mod Lives
+pub mod Looking
 pub mod Moments
 pub mod Ports
 pub mod Reasons

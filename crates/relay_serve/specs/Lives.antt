@@ -114,7 +114,8 @@ pub record RunsRelay {S J : Type 0} (s : blocks.Ghosts S) (j : store_premises.Gh
     (config : Config) (stores : List S) (origin : Origin) (peers : List ℕ)
     (result : Result (Finished S) ServeError) : Type 0 where
   pub totals : IfOk result (λ run. IfOk (totals_in run.totals) (AreOf config))
-  pub counted : IfOk result (λ run. IfOk (totals_in run.totals) (λ totals. CountsOf totals run.counted))
+  pub counted : IfOk result
+      (λ run. IfOk (totals_in run.totals) (λ totals. CountsOf totals run.counted))
   pub ran : IfOk result (λ run. Ran j config peers run.counted)
   pub start : IfErr result (StartsAsTold s config stores origin)
   pub fault : IfErr result (IsRelayFault s config stores)

@@ -1,6 +1,6 @@
 -- What is told of what a repair has found (docs/OPERATING.md, What a stop keeps, and what a kill
 -- loses).
-use Rattle.std.specs.Prelude.{◌≡◌, ℕ, ◌+◌, ◌==◌, ◌&&◌, not, nat_lt, Bool, false, true, List, Option}
+use Rattle.std.specs.Prelude.{◌≡◌, ℕ, ◌+◌, ◌==◌, ◌&&◌, not, nat_lt, Bool, false, List, Option}
 use Rattle.std.specs.Prelude.{None, Some, ◌<◌, [], count_by, get_or, slice_get}
 use Rattle.std.specs.List.{list_any}
 use Rattle.std.specs.Str.{bytes_eq}
@@ -8,11 +8,12 @@ use Rattle.block_shelf.specs.Starting.{buffer_over}
 use Rattle.cyc_block.specs.Heads.{head_view}
 use Rattle.cyc_block.specs.declared.head.HeadNumbers.{HeadNumbers}
 use Rattle.cyc_block.specs.declared.store.BlockStore.{Ghosts}
+use Rattle.cyc_buffer.specs.Filled.{filled_by}
 use Rattle.cyc_buffer.specs.Stopped.{Says}
 use Rattle.id_history.specs.History.{Kept, KeptId}
 use Rattle.news_terms.specs.HeadBlocks.{HeadBlock}
 use Rattle.news_terms.specs.Places.{on_line}
-use Rattle.news_terms.specs.Token.{Token}
+use Rattle.news_terms.specs.Token.{Token, same_token}
 use Rattle.relay_conf.specs.declared.settings.Config.{Config}
 use Rattle.relay_core.specs.Desks.{Reads}
 use Rattle.relay_repair.specs.Telling.{IsLast}
@@ -28,17 +29,11 @@ is_of_buffer buffer (Some token) = token.buffer == buffer
 abbrev pub count_in : (buffer : ℕ) → List KeptId → ℕ
 count_in buffer ids = count_by (λ (one : KeptId). is_of_buffer buffer one.token) ids
 
--- two tokens are the same
-abbrev pub is_token : Token → Token → Bool
-is_token a b =
-    (a.class == b.class) && ((a.buffer == b.buffer) && ((a.cycle == b.cycle)
-    && ((a.first == b.first) && (a.length == b.length))))
-
--- so, where there is one: without one nothing is the same
+-- two tokens are the same; without one nothing is
 abbrev pub is_same_token : Option Token → Option Token → Bool
 is_same_token None b = false
 is_same_token (Some a) None = false
-is_same_token (Some a) (Some b) = is_token a b
+is_same_token (Some a) (Some b) = same_token a b
 
 -- an id is found again with its article: it stands among these, under the same token
 abbrev pub is_found : (found : List KeptId) → KeptId → Bool
@@ -46,14 +41,11 @@ is_found found one =
     list_any (λ (other : KeptId). bytes_eq other.id one.id && is_same_token other.token one.token)
     found
 
--- the front of the buffer whose head says this, on the line of its blocks
-abbrev pub front_by : HeadBlock → ℕ
-front_by head = on_line head.blocks head.cycle head.head
-
--- that front has passed what lies under the token (docs/PROTOCOL.md, Fronts and liveness)
+-- the front of the buffer whose head says this has passed what lies under the token
+-- (docs/PROTOCOL.md, Fronts and liveness)
 abbrev pub has_passed : HeadBlock → Token → Bool
 has_passed head token =
-    nat_lt (on_line head.blocks token.cycle token.first + head.blocks) (front_by head)
+    nat_lt (on_line head.blocks token.cycle token.first + head.blocks) (filled_by head).front
 
 -- so has this one, where there is one
 abbrev pub passed_by : Option HeadBlock → Token → Bool

@@ -10,10 +10,14 @@ use Rattle.relay_core.specs.declared.stopped.Stopped.{Stopped}
 use Rattle.relay_folder.specs.declared.history_place.HistoryPlace as places
 use Rattle.relay_folder.specs.declared.origin.Origin.{Origin}
 use Rattle.relay_folder.specs.declared.origin.Origin.TheVariants as origins
+use Rattle.relay_journal.specs.Reading.{IsJournalRead}
+use Rattle.relay_journal.specs.declared.lines.JournalLines as lines
+use Rattle.relay_journal.specs.declared.lines.ToldJournal.{ToldJournal}
 use Rattle.relay_remains.specs.Heads.{HaveEnded}
 use Rattle.relay_remains.specs.declared.heads.Standing.TheVariants as standings
 use Rattle.relay_repair.specs.Repairing.{Repairs}
 use Rattle.relay_serve.specs.Adding.{IsStopIn}
+use Rattle.relay_serve.specs.LastHistory.{IsLastWith}
 use Rattle.relay_serve.specs.Synced.{IsUncalled}
 
 -- the history that a text is, none where it is empty
@@ -60,16 +64,29 @@ pub record IsOfRepair {S : Type 0} (g : Ghosts S) (config : Config) (text : List
   pub repairs : Repairs g config stores (kept_text text) now back stopped.history.items
   pub uncalled : AreEach (IsUncalled g) back stopped.stores.items
 
--- What was left of a relay is gone on with as it is, unwritten, where it was stopped; where it
--- wasn't, with what a repair of it gives, which is kept.
-abbrev pub GoesOnFrom : {S H : Type 0} → (is_synced : S → Type 0) → Ghosts S → places.Ghosts H
-    → Config → (left : Stopped S) → (stopped : Stopped S) → (old new : H) → Type 0
-GoesOnFrom is_synced g h config left stopped old new =
+-- so they are of a repair that goes by this text of the last history with its journal folded in
+pub record IsOfRepairWith {S P L : Type 0} (g : Ghosts S) (p : places.Ghosts P)
+    (l : lines.Ghosts L) (config : Config) (text : List ℕ) (stores : List S)
+    (stopped : Stopped S) (before after : ToldJournal P L)
+    : Type 0 where
+  pub read : Option (List ℕ)
+  pub is_read : IsJournalRead p l read before after
+  pub last : List ℕ
+  pub folded : IsLastWith config text read last
+  pub repaired : IsOfRepair g config last stores stopped
+
+-- What was left of a relay is gone on with as it is, unwritten, where it was stopped, and its
+-- journal isn't read; where it wasn't, with what a repair of it gives, which is kept.
+abbrev pub GoesOnFrom : {S H P L : Type 0} → (is_synced : S → Type 0) → Ghosts S
+    → places.Ghosts H → places.Ghosts P → lines.Ghosts L → Config → (left stopped : Stopped S)
+    → (old new : H) → (before after : ToldJournal P L) → Type 0
+GoesOnFrom is_synced g h p l config left stopped old new before after =
     (IsUnstoppedBy g config left.history.items left.stores.items false
     × (stopped.history ≡ left.history)
-    × AreEach (IsUnwritten g None) left.stores.items stopped.stores.items × (new ≡ old))
+    × AreEach (IsUnwritten g None) left.stores.items stopped.stores.items × (new ≡ old)
+    × (after ≡ before))
     ⊎ (IsUnstoppedBy g config left.history.items left.stores.items true
-    × IsOfRepair g config left.history.items left.stores.items stopped
+    × IsOfRepairWith g p l config left.history.items left.stores.items stopped before after
     × IsKeptAs is_synced h stopped.history.items stopped.stores.items old new)
 
 -- what a relay begins over, as what was left of one
@@ -77,10 +94,15 @@ abbrev pub left_of : {S : Type 0} → Vec S → Vec ℕ → Stopped S
 left_of stores text = record { stores = stores; history = text }
 
 -- so a relay goes on that is not begun from nothing; one that is has nothing to go on from
-abbrev pub GoesOn : {S H : Type 0} → (is_synced : S → Type 0) → Ghosts S → places.Ghosts H
-    → Config → (before after : Origin) → (stores back : Vec S) → (old new : H) → Type 0
-GoesOn is_synced g h config origins.Formatted after stores back old new =
-    (after ≡ origins.Formatted) × (back ≡ stores) × (new ≡ old)
-GoesOn is_synced g h config (origins.Stopped text) origins.Formatted stores back old new = ⊥
-GoesOn is_synced g h config (origins.Stopped text) (origins.Stopped kept) stores back old new =
-    GoesOnFrom is_synced g h config (left_of stores text) (left_of back kept) old new
+abbrev pub GoesOn : {S H P L : Type 0} → (is_synced : S → Type 0) → Ghosts S → places.Ghosts H
+    → places.Ghosts P → lines.Ghosts L → Config → (from to : Origin) → (stores back : Vec S)
+    → (old new : H) → (before after : ToldJournal P L) → Type 0
+GoesOn is_synced g h p l config origins.Formatted to stores back old new before after =
+    (to ≡ origins.Formatted) × (back ≡ stores) × (new ≡ old) × (after ≡ before)
+GoesOn is_synced g h p l config (origins.Stopped text) origins.Formatted stores back old new before
+    after =
+    ⊥
+GoesOn is_synced g h p l config (origins.Stopped text) (origins.Stopped kept) stores back old new
+    before after =
+    GoesOnFrom is_synced g h p l config (left_of stores text) (left_of back kept) old new before
+    after

@@ -28,9 +28,9 @@ use std::net::Net;
 /// Makes the files of the buffers that were added to a relay's configuration behind the others
 /// since it was stopped, so that it starts again, and tells of each. No relay may be served in the
 /// folder: the socket by which one is asked is had first. Then the history is read, the files are
-/// opened and locked in the order of the buffers, and what they have is looked at. Those to be added
-/// are the last ones, whose files have no octet but 0; each buffer before them has something kept.
-/// What is told is written once the devices have what was made.
+/// opened and locked in the order of the buffers, and what they have is looked at. Those to be
+/// added are the last ones, whose files have no octet but 0; each buffer before them has something
+/// kept. What is told is written once the devices have what was made.
 pub fn add_on<R, W: Write>(
     rt: &R,
     alloc: Global,
@@ -79,7 +79,7 @@ where
 }
 
 /// Why the socket in the folder can't be had.
-fn unasked(kind: ErrorKind) -> ServeError
+pub(crate) fn unasked(kind: ErrorKind) -> ServeError
     ensures { result ≡ control_fault kind }
 {
     match kind {

@@ -3,13 +3,13 @@ ghost use Rattle.std.specs.Prelude.{◌≡◌, ◌⊎◌, All, IfErr, IfOk, IsTr
 ghost use Rattle.file_blocks.specs.Store.{count_of};
 ghost use Rattle.relay_folder.specs.Origin.{IsFormatted};
 ghost use Rattle.relay_serve.specs.Files.{IsFileFault, WasBlank, WasEmptied};
-ghost use Rattle.relay_serve.specs.History.{IsOriginFault};
+ghost use Rattle.relay_serve.specs.History.{IsForgotten, IsOriginFault};
 
 use crate::files::{are_blank, empty_files};
-use crate::history::begun_from;
+use crate::history::{begun_from, forget};
 use file_blocks::FileBlocks;
 use relay_conf::Buffers;
-use relay_folder::{HistoryPlace, Origin};
+use relay_folder::{HistoryPlace, JournalPlace, Origin};
 use relay_report::ServeError;
 use std::alloc::Global;
 
@@ -52,13 +52,15 @@ pub(crate) struct Beginning<S: Looked> {
     ghost emptied: { IsFormatted origin → ∥ All S.was_emptied stores.items ∥₁ },
 }
 
-/// Finds out what a relay begins from, and empties the files where that is nothing, once no history
-/// is kept. The error is want of memory, or that the history can't be read, or not be taken away
-/// where all is to be formatted, or the first file that can't be emptied.
-pub(crate) fn begin_over<H: HistoryPlace>(
+/// Finds out what a relay begins from, and empties the files where that is nothing, once neither a
+/// history nor a journal is kept. The error is want of memory, or that the history can't be read,
+/// or one of both not be taken away where all is to be formatted, or the first file that can't be
+/// emptied.
+pub(crate) fn begin_over<H: HistoryPlace, P: JournalPlace>(
     alloc: Global,
     settings: &Buffers,
     history: &mut H,
+    journal: &mut P,
     unbegun: Unbegun,
 ) -> Result<Beginning<FileBlocks>, ServeError>
     ensures blocks { IfOk result (λ begun. map count_of begun.stores.items
@@ -66,16 +68,24 @@ pub(crate) fn begin_over<H: HistoryPlace>(
     ensures stores { IfOk result (λ begun. ¬ IsFormatted begun.origin
         → begun.stores ≡ unbegun.stores) }
     ensures fresh { IfOk result (λ begun. begun.fresh ≡ unbegun.fresh) }
+    // No journal of an earlier life is read in one that begins from nothing.
+    ensures journal { IfOk result (λ begun. IsFormatted begun.origin
+        → IsForgotten ⟦<P as HistoryPlace>⟧ journal.old journal.new) }
+    ensures same { IfOk result (λ begun. ¬ IsFormatted begun.origin
+        → journal.new ≡ journal.old) }
     ensures fault { IfErr result (λ error. IsOriginFault error ⊎ IsFileFault settings.now error) }
 {
     let Unbegun { stores, fresh } = unbegun;
     let blank = are_blank(&stores);
     match begun_from(alloc, history, fresh, blank) {
-        Ok(Origin::Formatted) => Ok(Beginning {
-            stores: empty_files(alloc, settings, stores)?,
-            origin: Origin::Formatted,
-            fresh,
-        }),
+        Ok(Origin::Formatted) => {
+            forget(journal)?;
+            Ok(Beginning {
+                stores: empty_files(alloc, settings, stores)?,
+                origin: Origin::Formatted,
+                fresh,
+            })
+        }
         Ok(Origin::Stopped(text)) => Ok(Beginning {
             stores,
             origin: Origin::Stopped(text),

@@ -17,8 +17,8 @@ use std::time::Clock;
 /// How many of those who have asked while the relay ended wait for the end, at most.
 const LAST_ONES: usize = 64;
 
-/// Answers what is asked at the socket of a relay's folder: `report` is told what the relay tells of
-/// itself, `stop` has its ports end, and who asked for that hears no end before the program has
+/// Answers what is asked at the socket of a relay's folder: `report` is told what the relay tells
+/// of itself, `stop` has its ports end, and who asked for that hears no end before the program has
 /// ended. Meanwhile it goes the relay's rounds.
 #[derive(Drop)]
 pub(crate) struct Desk<'a> {

@@ -7,7 +7,7 @@ ghost use Rattle.file_blocks.specs.Host.{flushed_identity, held_identity};
 ghost use Rattle.file_blocks.specs.Store.{count_of, was_blank};
 
 use crate::reasons::reason_of;
-use file_blocks::{FileBlocks, FittedFile, Flusher, HeldFile, Unusable};
+use file_blocks::{FileBlocks, FittedFile, Flusher, HeldFile, RunFile, Unusable};
 use relay_conf::{BufferConf, Buffers};
 use relay_report::{LostFile, Reason, ServeError};
 use std::alloc::{AllocError, Global};
@@ -124,7 +124,11 @@ fn open_once_more<R: Files<File = File>>(
 }
 
 /// The path of the file of a buffer, or why it has none; no reason where memory was refused.
-fn path_of(alloc: Global, folder: &str, buffer: &BufferConf) -> Result<PathBuf, Option<Reason>> {
+pub(crate) fn path_of(
+    alloc: Global,
+    folder: &str,
+    buffer: &BufferConf,
+) -> Result<PathBuf, Option<Reason>> {
     match str::from_utf8(buffer.file.as_slice()) {
         Ok(file) => match Path::new(folder).join(alloc, file) {
             Ok(path) => Ok(path),
@@ -158,7 +162,7 @@ fn unheld<R: Files>(
 }
 
 /// Whether the file of a buffer is that of one of the first so many, whatever its name.
-fn is_of_earlier<R: Files>(
+pub(crate) fn is_of_earlier<R: Files>(
     rt: &R,
     alloc: Global,
     settings: &Buffers,
@@ -309,7 +313,7 @@ fn unfit_at(alloc: Global, settings: &Buffers, number: usize, refused: &Unusable
 }
 
 /// Whether no buffer was found in any of the files.
-pub(crate) fn are_blank(stores: &[FileBlocks]) -> bool
+pub(crate) fn are_blank<F: RunFile>(stores: &[FileBlocks<F>]) -> bool
     ensures { IsTrue result ↔ All WasBlank stores.now }
 {
     for store in stores {
@@ -342,7 +346,7 @@ pub(crate) fn unformatted(alloc: Global, settings: &Buffers, number: u8) -> Serv
 
 /// The fault of a buffer's file: its name as cycbuff.conf has it, with a mark in the place of what
 /// is no UTF-8, and why it can't be had, or want of memory for it.
-fn unusable(alloc: Global, buffer: &BufferConf, reason: Reason) -> ServeError
+pub(crate) fn unusable(alloc: Global, buffer: &BufferConf, reason: Reason) -> ServeError
     ensures name { IsFaultOf buffer.now result }
     ensures reason { HasReason reason result }
 {

@@ -1,6 +1,6 @@
 //! The heads of buffers that were repaired.
 ghost use Rattle.std.specs.Prelude.{◌≡◌, ◌≤◌, ◌+◌, [], length, map, IfErr, IfOk, OnOk, None};
-ghost use Rattle.std.specs.Prelude.{◌↔◌, IsTrue, vec_capacity};
+ghost use Rattle.std.specs.Prelude.{vec_capacity};
 ghost use Rattle.block_shelf.specs.Each.{AreEach};
 ghost use Rattle.block_shelf.specs.Starting.{IsUnwritten, buffer_over};
 ghost use Rattle.cyc_block.specs.Heads.{head_view};
@@ -10,8 +10,9 @@ ghost use Rattle.relay_serve.specs.Running.{IsServeFault};
 
 use crate::starting::refusal;
 use block_shelf::{StopFault, number_of};
-use cyc_block::{BLOCK_OCTETS, BlockStore, HeadNumbers, read_head_image};
+use cyc_block::{BLOCK_OCTETS, BlockStore, HeadNumbers};
 use relay_conf::Config;
+use relay_remains::numbers_of;
 use relay_report::ServeError;
 use std::alloc::Global;
 
@@ -52,20 +53,12 @@ fn head_in<S: BlockStore>(store: &mut S, place: usize) -> Result<HeadNumbers, St
     let blocks = store.count();
     let mut octets = [0; BLOCK_OCTETS];
     match store.read_head(0, &mut octets) {
-        Ok(()) => match read_head_image(&octets) {
-            Some(head) if is_of_buffer(&head, place, blocks) => Ok(head),
-            _ => Err(StopFault::NoHead),
+        Ok(()) => match numbers_of(&octets, place, blocks) {
+            Some(head) => Ok(head),
+            None => Err(StopFault::NoHead),
         },
         Err(_failed) => Err(StopFault::Device),
     }
-}
-
-/// Whether the head is that of the buffer at this place, with so many blocks.
-fn is_of_buffer(head: &HeadNumbers, place: usize, blocks: u32) -> bool
-    ensures { IsTrue result ↔ ((head.now.number ≡ place) × (head.now.blocks ≡ blocks)
-        × (head.now.first_cycle ≡ 0)) }
-{
-    usize::from(head.number) == place && head.blocks == blocks && head.first_cycle == 0
 }
 
 /// Why the head of the buffer at this place can't be read.

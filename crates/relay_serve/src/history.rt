@@ -2,12 +2,12 @@
 ghost use Rattle.std.specs.Prelude.{◌≡◌, ◌⊎◌, ◌∷◌, [], Some, IfErr, IfOk, IsTrue, OnErr, OnOk};
 ghost use Rattle.relay_folder.specs.Keeping.{IsNotKept, IsNotTakenAway};
 ghost use Rattle.relay_folder.specs.Origin.{begins_from, origin_view, IsFormatted};
-ghost use Rattle.relay_serve.specs.History.{IsOriginFault, kept_by};
+ghost use Rattle.relay_serve.specs.History.{IsForgotten, IsOriginFault, kept_by};
 ghost use Rattle.relay_serve.specs.Running.{IsStopFault};
 ghost use Rattle.relay_report.specs.declared.fault.ServeError.TheVariants as faults;
 ghost use Rattle.relay_report.specs.declared.keeping.StopFault.TheVariants as stops;
 
-use relay_folder::{HistoryPlace, Origin, keep, origin_of};
+use relay_folder::{HistoryPlace, Origin, keep, origin_of, take_away};
 use relay_report::{ServeError, StartFault, StopFault};
 use std::alloc::Global;
 use std::io::ErrorKind;
@@ -34,6 +34,20 @@ pub(crate) fn begun_from<P: HistoryPlace>(
 {
     match origin_of(alloc, place, fresh, blank) {
         Ok(origin) => Ok(origin),
+        Err(error) => Err(unread(error.kind())),
+    }
+}
+
+/// Takes the text of a place away for good, before all is formatted. The error is want of memory,
+/// or that it can't be taken away.
+pub(crate) fn forget<P: HistoryPlace>(place: &mut P) -> Result<(), ServeError>
+    ensures gone { OnOk result (IsForgotten P.HistoryPlace place.old place.new) }
+    ensures refused { P.honest place.old
+        → OnErr result (IsNotTakenAway P.HistoryPlace place.old place.new) }
+    ensures fault { IfErr result IsOriginFault }
+{
+    match take_away(place) {
+        Ok(()) => Ok(()),
         Err(error) => Err(unread(error.kind())),
     }
 }

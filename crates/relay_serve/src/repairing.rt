@@ -5,7 +5,8 @@ ghost use Rattle.std.specs.Prelude.{◌≤◌, [], Some, length, map, vec_capaci
 ghost use Rattle.relay_serve.specs.Adding.{IsHistoryFault};
 ghost use Rattle.relay_serve.specs.Recovered.{IsHeadIn};
 ghost use Rattle.relay_serve.specs.Repairing.{GoesOn, GoesOnFrom, IsKeptAs, IsLastStop};
-ghost use Rattle.relay_serve.specs.Repairing.{IsOfRepair, IsUnstoppedBy, kept_text};
+ghost use Rattle.relay_serve.specs.Repairing.{IsOfRepair, IsOfRepairWith, IsUnstoppedBy};
+ghost use Rattle.relay_serve.specs.Repairing.{kept_text};
 ghost use Rattle.relay_repair.specs.Telling.{octets_in};
 ghost use Rattle.block_shelf.specs.Each.{AreEach};
 ghost use Rattle.block_shelf.specs.Starting.{IsUnwritten};
@@ -19,6 +20,7 @@ use crate::clock::MachineClock;
 use crate::desk::Desk;
 use crate::found_heads::read_heads;
 use crate::keeping::keep_synced;
+use crate::last_history::last_history;
 use crate::recovered::{tell_recovered, tell_recovering};
 use crate::recovering::repair_beside;
 use crate::starting::refusal;
@@ -29,7 +31,8 @@ use cyc_block::{BlockStore, HeadNumbers};
 use live_session::Clock;
 use relay_conf::Config;
 use relay_core::Stopped;
-use relay_folder::{HistoryPlace, Origin};
+use relay_folder::{HistoryPlace, JournalPlace, Origin};
+use relay_journal::{JournalLines, ToldJournal};
 use relay_remains::{HeadFault, Standing, standing_of};
 use relay_report::ServeError;
 use std::alloc::Global;
@@ -40,17 +43,20 @@ use std::time;
 
 /// What a relay begins over, once one that was left without a stop is repaired: what is found of it
 /// is kept as what a stop leaves, and it begins from that. Any other begins as it was to.
-pub(crate) fn begin_again<S, H, R>(
+pub(crate) fn begin_again<S, H, P, L, R>(
     rt: &R,
     alloc: Global,
     config: &Config,
     history: &mut H,
+    journal: &mut ToldJournal<P, L>,
     beginning: Beginning<S>,
     desk: &Desk<'_>,
 ) -> Result<Beginning<S>, ServeError>
 where
     S: Synced + Looked + Drop,
     H: HistoryPlace,
+    P: JournalPlace,
+    L: JournalLines,
     R: Threads + Wait + time::Clock + Eprint + RandomSource + Sync,
     requires stores { map (λ store. length (S.blocks store)) beginning.stores.items
         ≡ map (λ buffer. buffer.blocks) config.now.buffers.buffers.items }
@@ -58,8 +64,8 @@ where
         ≡ map (λ buffer. buffer.blocks) config.now.buffers.buffers.items) }
     // One that was stopped goes on as it is, one that wasn't with what a repair gives.
     ensures goes { IfOk result (λ begun. GoesOn S.is_synced ⟦<S as BlockStore>⟧ H.HistoryPlace
-        config.now beginning.origin begun.origin beginning.stores begun.stores
-        history.old history.new) }
+        ⟦<P as HistoryPlace>⟧ L.JournalLines config.now beginning.origin begun.origin
+        beginning.stores begun.stores history.old history.new journal.old journal.new) }
     ensures fault { IfErr result (IsServeFault config.now) }
 {
     let Beginning {
@@ -78,7 +84,9 @@ where
                 stores,
                 history: text,
             };
-            let Stopped { stores, history } = go_on(rt, alloc, config, history, left, desk)?;
+            let Stopped { stores, history } = go_on(
+                rt, alloc, config, history, journal, left, desk,
+            )?;
             Ok(Beginning {
                 stores,
                 origin: Origin::Stopped(history),
@@ -90,17 +98,20 @@ where
 
 /// What a relay that wasn't begun from nothing goes on from: what was left of it, or what a repair
 /// of that has kept, where it wasn't stopped.
-fn go_on<S, H, R>(
+fn go_on<S, H, P, L, R>(
     rt: &R,
     alloc: Global,
     config: &Config,
     history: &mut H,
+    journal: &mut ToldJournal<P, L>,
     left: Stopped<S>,
     desk: &Desk<'_>,
 ) -> Result<Stopped<S>, ServeError>
 where
     S: Synced + Drop,
     H: HistoryPlace,
+    P: JournalPlace,
+    L: JournalLines,
     R: Threads + Wait + time::Clock + Eprint + RandomSource + Sync,
     requires stores { map (λ store. length (S.blocks store)) left.stores.items
         ≡ map (λ buffer. buffer.blocks) config.now.buffers.buffers.items }
@@ -108,7 +119,8 @@ where
         map (λ store. length (S.blocks store)) stopped.stores.items
         ≡ map (λ store. length (S.blocks store)) left.stores.items) }
     ensures goes { IfOk result (λ stopped. GoesOnFrom S.is_synced ⟦<S as BlockStore>⟧
-        H.HistoryPlace config.now left stopped history.old history.new) }
+        H.HistoryPlace ⟦<P as HistoryPlace>⟧ L.JournalLines config.now left stopped
+        history.old history.new journal.old journal.new) }
     ensures fault { IfErr result (IsServeFault config.now) }
 {
     let Stopped {
@@ -120,7 +132,9 @@ where
             stores,
             history: text,
         }),
-        Ok((stores, true)) => repaired(rt, alloc, config, history, stores, text, desk),
+        Ok((stores, true)) => {
+            repaired_with(rt, alloc, config, history, journal, stores, text, desk)
+        }
         Err(error) => {
             drop(text);
             Err(error)
@@ -156,7 +170,7 @@ fn looked_at<S: Synced + Drop>(
 
 /// Whether the heads say that the relay of this history was left without a stop. The error is that
 /// the text is no history, or the first head that no relay of this history has.
-fn is_unstopped<S: Synced>(
+pub(crate) fn is_unstopped<S: BlockStore>(
     alloc: Global,
     config: &Config,
     stores: &mut [S],
@@ -211,8 +225,48 @@ fn last_stop(alloc: Global, config: &Config, text: &[u8]) -> Result<u64, ServeEr
     stop_in(alloc, config, text)
 }
 
-/// Repairs the relay that was left on these stores, with this history of its last stop, and keeps
-/// what is found, telling of both. Whoever asks at the desk meanwhile is answered.
+/// Repairs the relay that was left on these stores, with this text of its last history and its
+/// journal, and keeps what is found.
+fn repaired_with<S, H, P, L, R>(
+    rt: &R,
+    alloc: Global,
+    config: &Config,
+    history: &mut H,
+    journal: &mut ToldJournal<P, L>,
+    stores: Vec<S>,
+    text: Vec<u8>,
+    desk: &Desk<'_>,
+) -> Result<Stopped<S>, ServeError>
+where
+    S: Synced + Drop,
+    H: HistoryPlace,
+    P: JournalPlace,
+    L: JournalLines,
+    R: Threads + Wait + time::Clock + Eprint + RandomSource + Sync,
+    requires stores { map (λ store. length (S.blocks store)) stores.items
+        ≡ map (λ buffer. buffer.blocks) config.now.buffers.buffers.items }
+    ensures stores { IfOk result (λ stopped.
+        map (λ store. length (S.blocks store)) stopped.stores.items
+        ≡ map (λ store. length (S.blocks store)) stores.items) }
+    ensures repaired { IfOk result (λ stopped. IsOfRepairWith ⟦<S as BlockStore>⟧
+        ⟦<P as HistoryPlace>⟧ L.JournalLines config.now text.items stores.items stopped
+        journal.old journal.new) }
+    ensures kept { IfOk result (λ stopped. IsKeptAs S.is_synced H.HistoryPlace
+        stopped.history.items stopped.stores.items history.old history.new) }
+    ensures fault { IfErr result (IsServeFault config.now) }
+{
+    tell_recovering(rt, stores.len(), text.len());
+    match last_history(rt, alloc, config, journal, text) {
+        Ok(last) => repaired(rt, alloc, config, history, stores, last, desk),
+        Err(error) => {
+            drop(stores);
+            Err(error)
+        }
+    }
+}
+
+/// Repairs the relay that was left on these stores, with this text of its last history, and keeps
+/// what is found, telling of it. Whoever asks at the desk meanwhile is answered.
 fn repaired<S, H, R>(
     rt: &R,
     alloc: Global,
@@ -239,7 +293,6 @@ where
 {
     // Room for the heads, before anything is written.
     let mut heads = Vec::with_capacity(alloc, stores.len())?;
-    tell_recovering(rt, stores.len(), text.len());
     let now = MachineClock::new(rt).now();
     let stopped = repair_beside(rt, alloc, config, stores, history_of(&text), now, desk)?;
     let stopped = with_heads(alloc, config, stopped, &mut heads)?;

@@ -21,6 +21,7 @@ use crate::run_totals::RunTotals;
 use crate::side_thread::{Figured, Served, start_beside};
 use block_shelf::BeginError;
 use cyc_block::BlockStore;
+use live_journal::PendingJournal;
 use live_store::{ArticleLog, StorePremises};
 use live_wire::Port;
 use relay_conf::Config;
@@ -67,6 +68,8 @@ pub(crate) struct Surroundings<'a, R> {
     pub gate: &'a CountingGate<'a>,
     /// What goes on beside it.
     pub side: &'a Desk<'a>,
+    /// What is said to its journal.
+    pub pending: &'a PendingJournal,
 }
 
 /// Runs a relay of this configuration over these stores, the i-th for buffer i: an end behind each
@@ -127,6 +130,7 @@ pub(crate) fn run_relay<
         all,
         surroundings.clock,
         surroundings.side,
+        surroundings.pending,
     );
     match counted {
         Ok(counted) => finish(rt, alloc, config, shared, counted),
@@ -199,7 +203,7 @@ fn unshared<S: BlockStore + Drop>(
 }
 
 /// The seed of the relay's tables.
-fn hasher_of<R: RandomSource>(rt: &R) -> Result<RandomState, ServeError>
+pub(crate) fn hasher_of<R: RandomSource>(rt: &R) -> Result<RandomState, ServeError>
     ensures fault { IfErr result IsRunFault }
 {
     match RandomState::new(rt) {
@@ -252,6 +256,7 @@ fn attended<
     all: Share<L>,
     clock: &'a MachineClock<'a, R>,
     side: &Desk<'_>,
+    pending: &'a PendingJournal,
 ) -> Result<Counted, ServeError>
     requires register { register.now ≡ J.register }
     requires holds { J.holds ≡ has_buffer serving.config.now.buffers }
@@ -262,7 +267,7 @@ fn attended<
         (map (λ peer_source. peer_source.peer) serving.entry.peer_sources.items) result }
 {
     let config = serving.config;
-    let own = Keeper::new(shared, register, &config.buffers, clock);
+    let own = Keeper::new(shared, register, &config.buffers, clock, pending);
     let keeper = &own;
     let served = Served::new(config, shared, clock);
     let run = move || -> Result<Counted, ServeError>

@@ -10,6 +10,7 @@ ghost use Rattle.relay_serve.specs.Watched.{store_in};
 
 use crate::begun::{Beginning, Unbegun, begin_over};
 use crate::clock::MachineClock;
+use crate::completing::complete_first;
 use crate::desk::Desk;
 use crate::files::{fit_files, hold_files};
 use crate::gate::CountingGate;
@@ -21,10 +22,12 @@ use crate::streams::fill_streams;
 use crate::syncing::{Syncing, open_syncing};
 use crate::watched::{Watched, watch};
 use file_blocks::FileBlocks;
+use live_journal::PendingJournal;
 use live_store::ArticleLog;
 use live_wire::{Port, Stop};
 use relay_conf::Config;
-use relay_folder::{Control, HistoryPlace, HostHistory, Origin};
+use relay_folder::{Control, HistoryPlace, HostHistory, HostJournal, JournalPlace, Origin};
+use relay_journal::{JournalLines, PrintedLines, ToldJournal};
 use relay_live::PeerSource;
 use relay_report::{ServeError, Totals, print_totals};
 use std::alloc::Global;
@@ -68,6 +71,10 @@ where
 {
     fill_streams(rt);
     let mut history = HostHistory::in_folder(rt, alloc, folder)?;
+    let mut journal = ToldJournal {
+        place: HostJournal::in_folder(rt, alloc, folder)?,
+        lines: PrintedLines::new(rt),
+    };
     let gate = CountingGate::new(alloc, &config.relay.peers)?;
     let stop = Stop::new();
     let asked = Asked {
@@ -83,8 +90,10 @@ where
         &stop,
         &gate,
         &mut history,
+        &mut journal,
         writer,
     );
+    drop(journal);
     drop(history);
     drop(gate);
     drop(stop);
@@ -112,7 +121,7 @@ struct Asked<'a> {
 
 /// Opens what a relay is served over, last the socket by which it is asked, runs the relay, and
 /// takes the socket away.
-fn open_and_run<R, H: HistoryPlace, W: Write>(
+fn open_and_run<R, H: HistoryPlace, P: JournalPlace, L: JournalLines, W: Write>(
     rt: &R,
     alloc: Global,
     config: &Config,
@@ -120,6 +129,7 @@ fn open_and_run<R, H: HistoryPlace, W: Write>(
     stop: &Stop,
     gate: &CountingGate<'_>,
     history: &mut H,
+    journal: &mut ToldJournal<P, L>,
     writer: &mut W,
 ) -> Result<(), ServeError>
 where
@@ -143,7 +153,9 @@ where
                 gate,
                 desk: &desk,
             };
-            let answer = begin_and_run(rt, alloc, config, unbegun, history, access, writer);
+            let answer = begin_and_run(
+                rt, alloc, config, unbegun, history, journal, access, writer,
+            );
             desk.close(rt, asked.folder);
             drop(desk);
             answer
@@ -205,12 +217,13 @@ struct Access<'a> {
 /// Finds out what the relay begins from, runs it, keeps its history once all that its stores were
 /// given is on their devices, and writes the report. Where there is no memory for the totals the
 /// history is kept all the same.
-fn begin_and_run<R, H: HistoryPlace, W: Write>(
+fn begin_and_run<R, H: HistoryPlace, P: JournalPlace, L: JournalLines, W: Write>(
     rt: &R,
     alloc: Global,
     config: &Config,
     unbegun: Unbegun,
     history: &mut H,
+    journal: &mut ToldJournal<P, L>,
     access: Access<'_>,
     writer: &mut W,
 ) -> Result<(), ServeError>
@@ -221,14 +234,15 @@ where
     requires few { length access.peer_sources.items < 2 ^ 62 }
     ensures { ServeGives config.now result (W.contents writer.old) (W.contents writer.new) }
 {
-    let begun = match begin_over(alloc, &config.buffers, history, unbegun) {
+    let place = &mut journal.place;
+    let begun = match begin_over(alloc, &config.buffers, history, place, unbegun) {
         Ok(begun) => begun,
         Err(error) => {
             drop(access);
             return Err(error);
         }
     };
-    let finished = run_begun(rt, alloc, config, begun, history, access)?;
+    let finished = run_begun(rt, alloc, config, begun, history, journal, access)?;
     let totals = keep_finished(history, finished)?;
     tell_counted(rt, &totals);
     let printed = print_totals(alloc, &totals, writer);
@@ -253,15 +267,16 @@ fn tell_start<R: Eprint>(rt: &R, origin: &Origin) {
     }
 }
 
-/// Runs the relay over what was opened, each store watched: one that was left without a stop is
-/// repaired first. Nothing says that a file of the machine is honest, so nothing is promised of
-/// what the stores give.
-fn run_begun<'a, R, H: HistoryPlace>(
+/// Runs the relay over what was opened, each store watched: a first start that was cut short is
+/// completed, and a relay that was left without a stop repaired first. Nothing says that a file of
+/// the machine is honest, so nothing is promised of what the stores give.
+fn run_begun<'a, R, H: HistoryPlace, P: JournalPlace, L: JournalLines>(
     rt: &'a R,
     alloc: Global,
     config: &'a Config,
     begun: Beginning<FileBlocks>,
     history: &mut H,
+    journal: &mut ToldJournal<P, L>,
     access: Access<'_>,
 ) -> Result<Finished<Watched<'a, FileBlocks, R>>, ServeError>
 where
@@ -273,7 +288,8 @@ where
     ensures fault { IfErr result (IsServeFault config.now) }
 {
     let watched = watch(rt, &config.buffers, begun)?;
-    let begun = begin_again(rt, alloc, config, history, watched, access.desk)?;
+    let completed = complete_first(alloc, config, watched)?;
+    let begun = begin_again(rt, alloc, config, history, journal, completed, access.desk)?;
     tell_start(rt, &begun.origin);
     run_watched(rt, alloc, config, begun, access)
 }
@@ -296,6 +312,8 @@ where
 {
     let register = ArticleLog::new(alloc)?;
     let clock = MachineClock::new(rt);
+    // Nothing writes what is said: there is no room for any of it.
+    let pending = PendingJournal::new(alloc, 0)?;
     run_relay::<Watched<'a, FileBlocks, R>, Brand, Brand, R>(
         rt,
         alloc,
@@ -310,6 +328,7 @@ where
             clock: &clock,
             gate: access.gate,
             side: access.desk,
+            pending: &pending,
         },
     )
 }

@@ -1,6 +1,7 @@
 //! The number of the stop that a relay's history is of.
 ghost use Rattle.std.specs.Prelude.{◌≡◌, IfErr, IfOk};
 ghost use Rattle.relay_serve.specs.Adding.{IsHistoryFault, IsStopIn, IsStopOf, TellsNone};
+ghost use Rattle.relay_serve.specs.Adding.{no_history_as};
 ghost use Rattle.std.specs.Prelude.{Some};
 
 use crate::history::unread;
@@ -42,7 +43,17 @@ pub(crate) fn stop_in(alloc: Global, config: &Config, text: &[u8]) -> Result<u64
             drop(history);
             Ok(stop)
         }
-        Err(HistoryError::Memory) => Err(ServeError::Memory),
-        Err(HistoryError::BadHistory) => Err(ServeError::Start(StartFault::BadHistory)),
+        Err(error) => Err(no_history(error)),
+    }
+}
+
+/// Why a text isn't read as a history: it is none, or memory was refused.
+pub(crate) fn no_history(error: HistoryError) -> ServeError
+    ensures error { result ≡ no_history_as error }
+    ensures fault { IsHistoryFault result }
+{
+    match error {
+        HistoryError::Memory => ServeError::Memory,
+        HistoryError::BadHistory => ServeError::Start(StartFault::BadHistory),
     }
 }

@@ -12,7 +12,9 @@ returns-in-Ok c =
     let order = λ (x : kept.KeptId). slice_cmp nat_cmp x.id c.args.one.now.id in
     c.is_same.ensures
     ∙ at_place c.args.found.now c.requires.rises c.args.one.now c.in-Ok.place c.in-Ok.ensures.bound
-    (c.in-Ok.ensures.position order (always_returns_same _ (λ a r. r ≡ order a.0.now) _ (λ a r q k. search rules))) c.index-found-place.result
+    (c.in-Ok.ensures.position order
+    (always_returns_same _ (λ a r. r ≡ order a.0.now) _ (λ a r q k. search rules)))
+    c.index-found-place.result
 
 -- or it is not
 pub returns-in-Err : goal.returns-in-Err
@@ -20,4 +22,6 @@ returns-in-Err c =
     let order = λ (x : kept.KeptId). slice_cmp nat_cmp x.id c.args.one.now.id in
     sym
     (nowhere c.args.found.now c.requires.rises c.args.one.now c.in-Err.field-0
-    (c.in-Err.ensures.position order (always_returns_same _ (λ a r. r ≡ order a.0.now) _ (λ a r q k. search rules))) c.args.one.now)
+    (c.in-Err.ensures.position order
+    (always_returns_same _ (λ a r. r ≡ order a.0.now) _ (λ a r q k. search rules)))
+    c.args.one.now)

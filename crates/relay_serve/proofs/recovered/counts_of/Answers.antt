@@ -1,4 +1,4 @@
-use Rattle.std.proofs.Common.{◌&&◌, arith, length, map}
+use Rattle.std.proofs.Common.{arith}
 use Rattle.std.proofs.lemmas.List.{get_or-replicate}
 use Rattle.id_history.specs.History.{KeptId}
 use Rattle.relay_serve.specs.Recovered.{is_of_buffer}
@@ -16,7 +16,8 @@ count_id-requires c = record {
       omega (
         arith,
         c.loop-one.invariant b within,
-        counted_few (λ (one : KeptId). is_of_buffer b one.token) c.args.ids.now c.loop-one.one-index,
+        counted_few (λ (one : KeptId). is_of_buffer b one.token) c.args.ids.now
+            c.loop-one.one-index,
         c.loop-one-test.true,
         c.loop-one.auto.one-index-end,
       );

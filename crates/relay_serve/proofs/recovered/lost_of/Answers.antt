@@ -1,4 +1,4 @@
-use Rattle.std.proofs.Common.{◌&&◌, arith, length, map}
+use Rattle.std.proofs.Common.{◌&&◌, arith, map}
 use Rattle.std.proofs.lemmas.List.{get_or-replicate}
 use Rattle.cyc_block.specs.Heads.{head_view}
 use Rattle.id_history.specs.Views.{id_view}
@@ -18,7 +18,9 @@ count_id-requires c = record {
       omega (
         arith,
         c.loop-one.invariant b within,
-        counted_few (λ (one : KeptId). is_of_buffer b one.token && is_lost (map head_view c.args.heads.now) (map id_view c.args.found.now) one) c.args.last.now c.loop-one.one-index,
+        counted_few (λ (one : KeptId). is_of_buffer b one.token && is_lost
+            (map head_view c.args.heads.now) (map id_view c.args.found.now) one) c.args.last.now
+            c.loop-one.one-index,
         c.loop-one-test.true,
         c.loop-one.auto.one-index-end,
       );

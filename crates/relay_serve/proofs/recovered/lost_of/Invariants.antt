@@ -8,4 +8,5 @@ use Rattle.relay_serve.proofs.recovered.lost_of.Given as goal
 abbrev pub invariant-loop-one : goal.invariant-loop-one
 invariant-loop-one l =
     (b : ℕ) → b < 256 → get_or l.counts b 0
-    ≡ lost_in (map head_view l.heads) (map id_view l.found) b (map id_view (take l.one-index l.last))
+    ≡ lost_in (map head_view l.heads) (map id_view l.found) b
+    (map id_view (take l.one-index l.last))

@@ -1,6 +1,6 @@
 use Rattle.std.proofs.Common.{inr, subst}
 use Rattle.std.proofs.lemmas.Result.{IfOk-weaker}
-use Rattle.relay_serve.proofs.Repairs.{both_ok, repair_on}
+use Rattle.relay_serve.proofs.Repairs.{both_ok, with_repair_on}
 use Rattle.relay_serve.specs.Repairing.{IsUnstoppedBy}
 use Rattle.relay_serve.proofs.repairing.go_on.Goals as goal
 
@@ -13,12 +13,13 @@ returns-in-Ok-default-true-clause-goes g c =
     (subst (λ text. IsUnstoppedBy g.S.BlockStore c.args.config.now text
     c.args.left.stores.items c.in-Ok-default-true.field-0-1) c.deref.ensures.value
     c.in-Ok-default-true.ensures.told) in
-    IfOk-weaker c.repaired.result _ _
+    IfOk-weaker c.repaired_with.result _ _
     (λ stopped both.
     inr (
       told,
-      repair_on c.args.config.now c.args.left.history.items stopped
-          c.in-Ok-default-true.ensures.unwritten both.0,
+      with_repair_on c.args.config.now c.args.left.history.items stopped c.args.journal.now
+          c.repaired_with.new.journal c.in-Ok-default-true.ensures.unwritten both.0,
       both.1,
     ))
-    (both_ok c.repaired.result _ _ c.repaired.ensures.repaired c.repaired.ensures.kept)
+    (both_ok c.repaired_with.result _ _ c.repaired_with.ensures.repaired
+    c.repaired_with.ensures.kept)

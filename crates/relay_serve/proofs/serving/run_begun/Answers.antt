@@ -13,14 +13,19 @@ watch-requires g c = record {
 }
 
 -- which, watched and in a file, has as many blocks as the file was opened for,
-pub begin_again-requires-clause-stores : goal.begin_again-requires-clause-stores
-begin_again-requires-clause-stores g c κs within =
-    watched_sizes _
-    ∙ ap (λ (stores : List (FileBlocks HostFile)). map count_of stores)
-    c.in_ok-watched.ensures.stores
-    ∙ c.requires.stores
+pub complete_first-requires : goal.complete_first-requires
+complete_first-requires g c = record {
+  stores = watched_sizes _
+      ∙ ap (λ (stores : List (FileBlocks HostFile)). map count_of stores)
+      c.in_ok-watched.ensures.stores
+      ∙ c.requires.stores;
+}
 
--- and so once it is repaired
+-- and so once it is completed,
+pub begin_again-requires-clause-stores : goal.begin_again-requires-clause-stores
+begin_again-requires-clause-stores g c κs within = c.in_ok-completed.ensures.stores
+
+-- or repaired
 pub run_watched-requires-clause-stores : goal.run_watched-requires-clause-stores
 run_watched-requires-clause-stores g c κs within =
     sym (watched_sizes _) ∙ c.in_ok-begun.ensures.stores

@@ -1,5 +1,5 @@
 use Rattle.std.proofs.Common.{◌≡◌, ◌∙◌, ◌+◌, ◌∷◌, ◌++◌, [], ap, append-nil, append_assoc, arith}
-use Rattle.std.proofs.Common.{get_or, length, length-append, refl, subst, sym}
+use Rattle.std.proofs.Common.{get_or, length-append, refl, subst, sym}
 use Rattle.relay_serve.specs.Syncing.{deeds_of, round_of}
 use Rattle.relay_serve.proofs.Rounds.{none_flushed, one_flushed}
 use Rattle.relay_serve.proofs.syncing.flush_round.Goals as goal
