@@ -1,16 +1,17 @@
 //! cnrelay, the incoming side of a Netnews transit server: it serves peers on ports, over files; it
 //! runs a drill, a script of events, over memory, and prints what the relay answers; it says how
-//! much a configuration has, or its first fault, and what a token stands for; it adds buffers to a
-//! relay that was stopped, and asks one that is served to end, or for its report.
+//! much a configuration has and how its relay stands, or its first fault, and what a token stands
+//! for; it adds buffers to a relay that was stopped, and asks one that is served to end, or for its
+//! report.
 //!
-//! What it does with its words is a promise of `relay_command`, and what serves and adds of
+//! What it does with its words is a promise of `relay_command`, and what serves, adds and looks of
 //! `relay_serve`. Here the calls of the one are handed the words, the streams and the files of the
 //! system, the calls of the other and what asks, and nothing is decided.
 #![tactic(auto)]
 
 use relay_command::{Failure, Request, exit_code, gathering, print_failure, program_words, run};
 use relay_folder::{Word, ask};
-use relay_serve::{add_on, serve_on};
+use relay_serve::{add_on, serve_on, stand_on};
 use std::alloc::Global;
 use std::env::Env;
 use std::fs::{File, Files};
@@ -58,6 +59,7 @@ where
             rt, alloc, config, folder, sessions, fresh, writer,
         ),
         move |config, folder, writer| add_on(rt, alloc, config, folder, writer),
+        move |config, folder, writer| stand_on(rt, alloc, config, folder, writer),
         move |folder, request| ask_there(rt, alloc, folder, request),
     );
     let (_device, _unwritten) = output.into_parts();

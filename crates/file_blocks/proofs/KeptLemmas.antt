@@ -25,7 +25,8 @@ pub in_file : {F : Type 0} (g : Ghosts F) (store : FileBlocks F) (first last : �
 in_file g store first last written j since until =
     sym
     (there_seen store.count store.gathered.first store.gathered.count j (g.held store.file)
-    store.gathered.octets.items store.gathered_within (λ after before. written j since until (after, before)))
+    store.gathered.octets.items store.gathered_within
+    (λ after before. written j since until (after, before)))
 
 -- a run that was written leaves nothing, and one that wasn't is as it was
 pub keeps_asked : {F A E : Type 0} (result : Result A E) (k : ℕ) (old new : FileBlocks F)

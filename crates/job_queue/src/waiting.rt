@@ -1,8 +1,8 @@
 //! Those who wait until others have brought something about, and are told of it.
 //!
 //! Who may wait announces it first, then looks a last time, and waits only where he found nothing.
-//! What is told of after the announcement ends the wait, also one that hasn't begun: so nothing that
-//! is brought about after the last look is missed. That order is one of types: a wait needs a
+//! What is told of after the announcement ends the wait, also one that hasn't begun: so nothing
+//! that is brought about after the last look is missed. That order is one of types: a wait needs a
 //! `Looked`, which a last look alone makes. So is that a change is told of, and told of once it is
 //! made: a `Change` is made by a step of a queue alone, and is neither copied nor let go.
 use crossbeam_utils::sync::{EventCount, Key};

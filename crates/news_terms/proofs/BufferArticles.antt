@@ -47,7 +47,8 @@ at_of_own buffer articles = from (first_at buffer) articles
     by_test at one later false is rest =
         rest at
         ∙ ap (λ a. fold (at_past buffer) a later) (sym (ap (λ (b : Bool).
-        if b then record { cycle = one.place.cycle; used = one.place.first + one.size } else at) is))
+        if b then record { cycle = one.place.cycle; used = one.place.first + one.size } else at)
+        is))
 
     from : (at : At) (articles : List Extent)
         → fold (at_past buffer) at (filter (is_in_buffer buffer) articles)

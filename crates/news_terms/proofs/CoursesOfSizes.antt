@@ -9,7 +9,8 @@ use Rattle.std.proofs.lemmas.List.Elements.{All-pop}
 use Rattle.std.proofs.lemmas.List.Sums.{fold-append}
 use Rattle.std.proofs.lemmas.Option.{slice_get_within}
 use Rattle.news_terms.specs.Fronts.{HasOwnNumbers, FitsGroup}
-use Rattle.news_terms.specs.Places.{Buffer, Group, Mode, Interleave, Sequential, Head, Place, Extent}
+use Rattle.news_terms.specs.Places.{Buffer, Group, Mode, Interleave, Sequential, Head, Place}
+use Rattle.news_terms.specs.Places.{Extent}
 use Rattle.news_terms.specs.Places.{next_place, extents, place_in_buffer}
 use Rattle.news_terms.specs.Picks.{Pick, pick_of, begins_in, placed_in, place_after}
 use Rattle.news_terms.specs.Positions.{Position, position_by, position_of, position_past, pick_at}
@@ -176,7 +177,8 @@ used_same group numbers some begun fit =
         → run_used mode (slice_get group.buffers (position_of group begun).index)
         (extents group begun)
         ≡ (position_of group begun).used
-    by_mode Interleave e index one there at = ap (λ m. (position_by m group.buffers begun).used) (sym e)
+    by_mode Interleave e index one there at = ap (λ m. (position_by m group.buffers begun).used)
+        (sym e)
     by_mode Sequential e index one there at =
         let here : slice_get group.buffers (position_of group begun).index ≡ Some one =
         ap (slice_get group.buffers) at ∙ there in

@@ -1,6 +1,7 @@
 -- The lines of buffers that were added, one after the other.
 use Rattle.std.proofs.Common.{◌≡◌, ◌∙◌, ◌++◌, ◌+◌, ◌<◌, ◌≤◌, ◌∷◌, [], ℕ, List, ap, append-nil}
-use Rattle.std.proofs.Common.{append_assoc, arith, codes, drop, get_or, length, length-drop, refl, sym}
+use Rattle.std.proofs.Common.{append_assoc, arith, codes, drop, get_or, length, length-drop, refl}
+use Rattle.std.proofs.Common.{sym}
 use Rattle.std.proofs.Common.{Err, Ok, Result}
 use Rattle.std.proofs.lemmas.List.{at_drop_all, at_drop_more}
 use Rattle.std.specs.Prelude.{OnOk, is_ok, if◌then◌else◌}

@@ -1,5 +1,6 @@
 -- What is left where a buffer is added, and why none is.
-use Rattle.std.proofs.Common.{◌≡◌, ◌∙◌, ℕ, ◌+◌, Bool, true, List, Some, Result, Ok, Err, IfErr, IfOk}
+use Rattle.std.proofs.Common.{◌≡◌, ◌∙◌, ℕ, ◌+◌, Bool, true, List, Some, Result, Ok, Err, IfErr}
+use Rattle.std.proofs.Common.{IfOk}
 use Rattle.std.proofs.Common.{ap, length, slice_get, subst, sym}
 use Rattle.std.specs.Prelude.{IsErr, IsErrAnd}
 use Rattle.cyc_block.specs.declared.store.BlockStore.{Ghosts}

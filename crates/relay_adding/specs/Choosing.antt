@@ -1,5 +1,6 @@
 -- Which buffers are to be added to a relay that was stopped (docs/PROTOCOL.md, `add-buffer`).
-use Rattle.std.specs.Prelude.{◌≡◌, ◌⊎◌, ℕ, ◌<◌, ◌≤◌, Bool, true, false, List, length, Some, slice_get}
+use Rattle.std.specs.Prelude.{◌≡◌, ◌⊎◌, ℕ, ◌<◌, ◌≤◌, Bool, true, false, List, length, Some}
+use Rattle.std.specs.Prelude.{slice_get}
 
 -- Of the buffers of which this says whether the file of each has zeros alone those from this number
 -- on are to be added: each of them has, each before them has something else, and of these there is

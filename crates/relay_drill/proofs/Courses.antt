@@ -1,21 +1,22 @@
 -- How far the code has come: one part after the other, and where it was broken off.
-use Rattle.std.proofs.Common.{◌≡◌, ℕ, true, List, [], ◌∷◌, ◌++◌, Option, Result}
+use Rattle.std.proofs.Common.{◌≡◌, ℕ, List, [], ◌∷◌, ◌++◌, Option, None, Some, Result}
 use Rattle.std.proofs.Common.{Ok, Err}
+use Rattle.std.specs.Prelude.{⊤}
 use Rattle.std.proofs.Common.{sym, subst, append_assoc, ◌∙◌}
 use Rattle.std.proofs.lemmas.Grind.{flat_map-append}
 use Rattle.std.specs.Io.KnownBytes.{Appends}
 use Rattle.std.specs.Result.{IsErr, IsErrAnd}
 use Rattle.cyc_block.specs.declared.store.BlockStore.{Ghosts}
-use Rattle.relay_core.specs.Arming.{AgreesStill}
+use Rattle.relay_core.specs.Arming.{StaysLeft}
 use Rattle.relay_core.specs.Sharing.{KeepsFrame}
 use Rattle.relay_core.specs.declared.system.System.{System}
 use Rattle.relay_model.specs.World.{World}
 use Rattle.relay_conf.specs.declared.settings.Config.{Config}
 use Rattle.relay_drill.specs.Fault.{FailGives, PlayGives}
-use Rattle.relay_drill.specs.Play.{Plays, Rests}
+use Rattle.relay_drill.specs.Play.{Plays, IsOpen, Rests}
 use Rattle.relay_drill.specs.Print.{Told, printed_all, told_text}
-use Rattle.relay_drill.specs.Progress.{Breaks, Goes, Halts, Performs, Under}
-use Rattle.relay_drill.specs.Todo.{Todo}
+use Rattle.relay_drill.specs.Progress.{Breaks, Goes, Halts, Kills, Performs, Under}
+use Rattle.relay_drill.specs.Todo.{Todo, Crashing}
 use Rattle.relay_drill.specs.declared.fault.DrillError.{DrillError}
 use Rattle.relay_drill.specs.declared.fault.DrillError.TheVariants as faults
 use Rattle.relay_drill.proofs.Plays.{plays_on}
@@ -31,46 +32,60 @@ both_gained first second before mid after one two =
     (appends_both before mid after (printed_all first) (printed_all second) one two)
 
 -- what an error says holds where what it says of each case does
-fail_map : (error : DrillError) {halted broken halted' broken' : Type 0} → (halted → halted')
-    → (broken → broken') → FailGives error halted broken → FailGives error halted' broken'
-fail_map faults.Memory halts breaks gives = halts gives
-fail_map faults.Unwritten halts breaks gives = breaks gives
-fail_map (faults.Line number) halts breaks gives = gives
-fail_map faults.Unreadable halts breaks gives = gives
-fail_map faults.Unseeded halts breaks gives = gives
-fail_map faults.Device halts breaks gives = gives
+pub fail_map : (error : DrillError) {halted broken killed halted' broken' killed' : Type 0}
+    → (halted → halted') → (broken → broken') → (killed → killed')
+    → FailGives error halted broken killed → FailGives error halted' broken' killed'
+fail_map faults.Memory halts breaks kills gives = halts gives
+fail_map faults.Unwritten halts breaks kills gives = breaks gives
+fail_map (faults.Line number) halts breaks kills gives = gives
+fail_map faults.Unreadable halts breaks kills gives = gives
+fail_map faults.Unseeded halts breaks kills gives = gives
+fail_map faults.Device halts breaks kills gives = gives
+fail_map faults.Unrepaired halts breaks kills gives = kills gives
 
 -- What an answer says holds where what it says of each case does.
-pub gives_map : (result : Result (Unit {0}) DrillError)
-    {done halted broken done' halted' broken' : Type 0} → (done → done') → (halted → halted')
-    → (broken → broken') → PlayGives result done halted broken
-    → PlayGives result done' halted' broken'
-gives_map (Ok fine) goes halts breaks gives = goes gives
-gives_map (Err error) goes halts breaks gives = fail_map error halts breaks gives
+pub gives_map : {A : Type 0} (result : Result A DrillError) {done done' : A → Type 0}
+    {halted broken killed halted' broken' killed' : Type 0} →
+    ((value : A) → done value → done' value)
+    → (halted → halted') → (broken → broken') → (killed → killed')
+    → PlayGives result done halted broken killed
+    → PlayGives result done' halted' broken' killed'
+gives_map (Ok value) goes halts breaks kills gives = goes value gives
+gives_map (Err error) goes halts breaks kills gives = fail_map error halts breaks kills gives
 
 -- what an answer says where another call's error is passed on
-error_gives : (error : DrillError) (result : Result (Unit {0}) DrillError)
-    (done halted broken : Type 0) → IsErr result → IsErrAnd result (λ e. e ≡ error)
-    → FailGives error halted broken → PlayGives result done halted broken
-error_gives error (Ok fine) done halted broken is e gives = absurd (cc is)
-error_gives error (Err passed) done halted broken is e gives =
-    let P : DrillError → Type 0 = λ it. FailGives it halted broken in
+pub error_gives : {A : Type 0} (error : DrillError) (result : Result A DrillError)
+    (done : A → Type 0) (halted broken killed : Type 0) → IsErr result
+    → IsErrAnd result (λ e. e ≡ error) → FailGives error halted broken killed
+    → PlayGives result done halted broken killed
+error_gives error (Ok value) done halted broken killed is e gives = absurd (cc is)
+error_gives error (Err passed) done halted broken killed is e gives =
+    let P : DrillError → Type 0 = λ it. FailGives it halted broken killed in
     subst P (sym e) gives
 
 module _ {S : Type 0} {g : Ghosts S} where
   -- Something was passed over without an event, by a relay that agrees with the same worlds.
   pub goes_past : (a b : Todo) (old new : System S g) (held : Option (List ℕ))
       → ((config : Config) (x : World) → Under config old x → Under config new x
-      × Plays config a x [] [] x b)
+      × Plays config a (Some x) [] [] (Some x) b)
       → Goes a b old new held held
-  goes_past a b old new held past config x under =
+  goes_past a b old new held past config None follows =
+      record {
+        events = [];
+        told = [];
+        world = None;
+        plays = IsOpen a [] [] b;
+        follows = tt;
+        gained = appends_none held;
+      }
+  goes_past a b old new held past config (Some x) under =
       let same = past config x under in
       record {
         events = [];
         told = [];
-        world = x;
+        world = Some x;
         plays = same.1;
-        under = same.0;
+        follows = same.0;
         gained = appends_none held;
       }
 
@@ -78,40 +93,40 @@ module _ {S : Type 0} {g : Ghosts S} where
   pub goes_none : (todo : Todo) (relay : System S g) (held : Option (List ℕ))
       → Goes todo todo relay relay held held
   goes_none todo relay held =
-      goes_past todo todo relay relay held (λ config x under. (under, Rests todo x))
+      goes_past todo todo relay relay held (λ config x under. (under, Rests todo (Some x)))
 
   -- Nothing was done, and no world can tell that the relay is another.
   pub goes_still : (todo : Todo) (old new : System S g) (held : Option (List ℕ))
-      → AgreesStill old new → KeepsFrame old new → Goes todo todo old new held held
+      → StaysLeft old new → KeepsFrame old new → Goes todo todo old new held held
   goes_still todo old new held still frame =
       goes_past todo todo old new held (λ config x under. (
         record {
           configured = under.configured ∙ sym frame.config;
-          agrees = still true x under.agrees;
+          agrees = still x under.agrees;
         },
-        Rests todo x,
+        Rests todo (Some x),
       ))
 
   -- One part was done, and then another.
   pub goes_on : (a b c : Todo) (old mid new : System S g) (before held after : Option (List ℕ))
       → Goes a b old mid before held → Goes b c mid new held after → Goes a c old new before after
-  goes_on a b c old mid new before held after first second config x under =
-      let one = first config x under in
-      let two = second config one.world one.under in
+  goes_on a b c old mid new before held after first second config x follows =
+      let one = first config x follows in
+      let two = second config one.world one.follows in
       record {
         events = one.events ++ two.events;
         told = one.told ++ two.told;
         world = two.world;
         plays = plays_on one.plays two.plays;
-        under = two.under;
+        follows = two.follows;
         gained = both_gained one.told two.told before held after one.gained two.gained;
       }
 
   -- What was done may have been halted there.
   pub halts_there : (a b : Todo) (old new : System S g) (before after : Option (List ℕ))
       → Goes a b old new before after → Halts a old before after
-  halts_there a b old new before after goes config x under =
-      let one = goes config x under in
+  halts_there a b old new before after goes config x follows =
+      let one = goes config x follows in
       record {
         events = one.events;
         told = one.told;
@@ -121,12 +136,28 @@ module _ {S : Type 0} {g : Ghosts S} where
         gained = one.gained;
       }
 
+  -- What was done may have been halted there, before a crash.
+  pub kills_there : (a : Todo) (moment : ℕ) (more : Todo) (old new : System S g)
+      (before after : Option (List ℕ)) → Goes a (Crashing moment more) old new before after
+      → Kills a old before after
+  kills_there a moment more old new before after goes config x follows =
+      let one = goes config x follows in
+      record {
+        events = one.events;
+        told = one.told;
+        world = one.world;
+        moment = moment;
+        more = more;
+        plays = one.plays;
+        gained = one.gained;
+      }
+
   -- One part was done, and then it was halted.
   pub halts_later : (a b : Todo) (old mid : System S g) (before held after : Option (List ℕ))
       → Goes a b old mid before held → Halts b mid held after → Halts a old before after
-  halts_later a b old mid before held after first second config x under =
-      let one = first config x under in
-      let two = second config one.world one.under in
+  halts_later a b old mid before held after first second config x follows =
+      let one = first config x follows in
+      let two = second config one.world one.follows in
       record {
         events = one.events ++ two.events;
         told = one.told ++ two.told;
@@ -136,12 +167,28 @@ module _ {S : Type 0} {g : Ghosts S} where
         gained = both_gained one.told two.told before held after one.gained two.gained;
       }
 
+  -- One part was done, and then it was halted before a crash.
+  pub kills_later : (a b : Todo) (old mid : System S g) (before held after : Option (List ℕ))
+      → Goes a b old mid before held → Kills b mid held after → Kills a old before after
+  kills_later a b old mid before held after first second config x follows =
+      let one = first config x follows in
+      let two = second config one.world one.follows in
+      record {
+        events = one.events ++ two.events;
+        told = one.told ++ two.told;
+        world = two.world;
+        moment = two.moment;
+        more = two.more;
+        plays = plays_on one.plays two.plays;
+        gained = both_gained one.told two.told before held after one.gained two.gained;
+      }
+
   -- One part was done, and then it was broken off.
   pub breaks_later : (a b : Todo) (old mid : System S g) (before held after : Option (List ℕ))
       → Goes a b old mid before held → Breaks b mid held after → Breaks a old before after
-  breaks_later a b old mid before held after first second config x under =
-      let one = first config x under in
-      let two = second config one.world one.under in
+  breaks_later a b old mid before held after first second config x follows =
+      let one = first config x follows in
+      let two = second config one.world one.follows in
       let P : List Told → Type 0 = λ told.
       Plays config a x (one.events ++ two.events) told two.world two.left in
       record {
@@ -163,9 +210,10 @@ module _ {S : Type 0} {g : Ghosts S} where
       → Goes a b old mid before held → Performs result b c mid new held after
       → Performs result a c old new before after
   performs_on result a b c old mid new before held after first =
-      gives_map result (goes_on a b c old mid new before held after first)
+      gives_map result (λ fine. goes_on a b c old mid new before held after first)
       (halts_later a b old mid before held after first)
       (breaks_later a b old mid before held after first)
+      (kills_later a b old mid before held after first)
 
   -- One part was done up to what is another name of what follows.
   pub goes_to : (a b b' : Todo) (old new : System S g) (before after : Option (List ℕ)) → b ≡ b'
@@ -181,16 +229,31 @@ module _ {S : Type 0} {g : Ghosts S} where
       goes_on a b' c old mid new before held after (goes_to a b b' old mid before held same first)
 
   -- One part was done up to what stands before another, and then a call's error was passed on.
+  pub fails_as : {A : Type 0} (error : DrillError) (result : Result A DrillError)
+      (done : A → Type 0) (a b b' : Todo) (old mid : System S g)
+      (before held after : Option (List ℕ)) → IsErr result → IsErrAnd result (λ e. e ≡ error)
+      → b ≡ b' → Goes a b old mid before held
+      → FailGives error (Halts b' mid held after) (Breaks b' mid held after)
+      (Kills b' mid held after)
+      → PlayGives result done (Halts a old before after) (Breaks a old before after)
+      (Kills a old before after)
+  fails_as error result done a b b' old mid before held after is e same first then =
+      let reached = goes_to a b b' old mid before held same first in
+      error_gives error result done _ _ _ is e
+      (fail_map error (halts_later a b' old mid before held after reached)
+      (breaks_later a b' old mid before held after reached)
+      (kills_later a b' old mid before held after reached) then)
+
+  -- So it was where what follows leaves the relay as another.
   pub fails_next : (error : DrillError) (result : Result (Unit {0}) DrillError) (a b b' d : Todo)
       (old mid last : System S g) (before held after : Option (List ℕ)) → IsErr result
       → IsErrAnd result (λ e. e ≡ error) → b ≡ b' → Goes a b old mid before held
       → FailGives error (Halts b' mid held after) (Breaks b' mid held after)
+      (Kills b' mid held after)
       → Performs result a d old last before after
-  fails_next error result a b b' d old mid last before held after is e same first then =
-      let reached = goes_to a b b' old mid before held same first in
-      error_gives error result _ _ _ is e
-      (fail_map error (halts_later a b' old mid before held after reached)
-      (breaks_later a b' old mid before held after reached) then)
+  fails_next error result a b b' d old mid last before held after is e same first =
+      fails_as error result (λ fine. Goes a d old last before after) a b b' old mid before held
+      after is e same first
 
   -- One part was done, and then memory ran out.
   pub wants_memory : (result : Result (Unit {0}) DrillError) (a b d : Todo)
@@ -198,8 +261,23 @@ module _ {S : Type 0} {g : Ghosts S} where
       → IsErrAnd result (λ e. e ≡ faults.Memory) → Goes a b old mid before after
       → Performs result a d old last before after
   wants_memory result a b d old mid last before after is e first =
-      error_gives faults.Memory result _ _ (Breaks a old before after) is e
+      error_gives faults.Memory result (λ fine. Goes a d old last before after) _
+      (Breaks a old before after) (Kills a old before after) is e
       (halts_there a b old mid before after first)
+
+  -- Nothing was done before a crash, and then a call failed so.
+  pub fails_at_crash : {A : Type 0} (error : DrillError) (result : Result A DrillError)
+      (done : A → Type 0) (moment : ℕ) (more : Todo) (old : System S g) (held : Option (List ℕ))
+      → IsErr result → IsErrAnd result (λ e. e ≡ error) → FailGives error ⊤ ⊥ ⊤
+      → PlayGives result done (Halts (Crashing moment more) old held held)
+      (Breaks (Crashing moment more) old held held) (Kills (Crashing moment more) old held held)
+  fails_at_crash error result done moment more old held is e fails =
+      let todo = Crashing moment more in
+      let none = goes_none todo old held in
+      error_gives error result done _ _ _ is e
+      (fail_map error {halted = ⊤} {broken = ⊥} {killed = ⊤}
+      (λ t. halts_there todo todo old old held held none) (λ b. absurd b)
+      (λ t. kills_there todo moment more old old held held none) fails)
 
   -- Writing failed.
   pub fails_unwritten : (result : Result (Unit {0}) DrillError) (a b : Todo)
@@ -207,4 +285,5 @@ module _ {S : Type 0} {g : Ghosts S} where
       → IsErrAnd result (λ e. e ≡ faults.Unwritten) → Breaks a old before after
       → Performs result a b old new before after
   fails_unwritten result a b old new before after is e breaks =
-      error_gives faults.Unwritten result _ (Halts a old before after) _ is e breaks
+      error_gives faults.Unwritten result (λ fine. Goes a b old new before after)
+      (Halts a old before after) _ (Kills a old before after) is e breaks

@@ -1,6 +1,6 @@
 -- What a drill answers, by what its parts answered.
 use Rattle.std.proofs.Common.{◌≡◌, ℕ, List, [], ◌∷◌, All, Option, Some, None, Result, Ok, Err, refl}
-use Rattle.std.proofs.Common.{subst, sym, true, arith, slice_get, zero, suc}
+use Rattle.std.proofs.Common.{subst, sym, arith, slice_get, zero, suc}
 use Rattle.std.specs.Prelude.{IfSome}
 use Rattle.std.specs.Option.{option_map, unwrap_or}
 use Rattle.std.specs.Result.{IsErr, IsErrAnd, IsOk}
@@ -8,13 +8,15 @@ use Rattle.block_shelf.specs.Filling.{failures_in}
 use Rattle.cyc_block.specs.declared.store.BlockStore.{Ghosts}
 use Rattle.relay_conf.specs.declared.cycbuff.BufferConf.{BufferConf}
 use Rattle.relay_conf.specs.declared.settings.Config.{Config}
-use Rattle.relay_core.specs.Agreement.{Agrees}
+use Rattle.relay_core.specs.Agreement.{AgreesLeft}
 use Rattle.relay_core.specs.Beginning.{BeginsOver}
 use Rattle.relay_core.specs.declared.system.System.{System}
-use Rattle.relay_model.specs.World.{World, empty_world}
-use Rattle.relay_drill.specs.Drill.{DrillGives, ScriptHalts, asked_by, first_world}
+use Rattle.relay_model.specs.World.{empty_world}
+use Rattle.relay_drill.specs.Drill.{DrillGives, ScriptHalts, asked_by}
+use Rattle.relay_drill.specs.Drill.{first_world}
 use Rattle.relay_drill.specs.Drill.{lines_of_script}
-use Rattle.relay_drill.specs.Fault.{PlayGives, ReadGives, ScriptGives, told_as, unbegun_as}
+use Rattle.relay_drill.specs.Fault.{FailGives, ReadGives, ScriptGives, told_as}
+use Rattle.relay_drill.specs.Fault.{unbegun_as}
 use Rattle.block_shelf.specs.declared.beginning.BeginError.{BeginError}
 use Rattle.block_shelf.specs.declared.beginning.BeginError.TheVariants as begins
 use Rattle.std.specs.IoError.{error_kind}
@@ -22,16 +24,17 @@ use Rattle.std.specs.declared.io.ErrorKind.{ErrorKind}
 use Rattle.std.specs.declared.io.ErrorKind.TheVariants.{OutOfMemory}
 use Rattle.std.proofs.Common.{◌⊎◌, inl, inr}
 use Rattle.relay_drill.specs.Play.{Rests}
-use Rattle.relay_drill.specs.Progress.{Broke, Halted, Performs, Under, Went}
+use Rattle.relay_drill.specs.Progress.{Broke, Halted, Killed, Leads, Under, Went}
 use Rattle.relay_drill.specs.Script.{Line}
 use Rattle.relay_drill.specs.Stores.{AreStoresOf}
-use Rattle.relay_drill.specs.Todo.{Todo, Done}
+use Rattle.relay_drill.specs.Todo.{Done}
 use Rattle.relay_drill.specs.declared.fault.DrillError.{DrillError}
 use Rattle.relay_drill.specs.declared.fault.DrillError.TheVariants.{Memory, Unreadable, Unwritten}
-use Rattle.relay_drill.specs.declared.fault.DrillError.TheVariants.{Unseeded, Device}
+use Rattle.relay_drill.specs.declared.fault.DrillError.TheVariants.{Unseeded, Device, Unrepaired}
 use Rattle.relay_drill.specs.declared.fault.DrillError.TheVariants as faults
 use Rattle.relay_drill.specs.declared.line.Line as code
-use Rattle.relay_drill.proofs.Courses.{gives_map}
+use Rattle.relay_drill.specs.declared.play.Life.{Life}
+use Rattle.relay_drill.proofs.Courses.{fail_map}
 use Rattle.relay_report.proofs.Writes.{appends_none, keeps_same}
 
 -- What holds of every text holds of a script that is known.
@@ -47,9 +50,9 @@ halted_at_once config (Ok lines) held =
     record {
       events = [];
       told = [];
-      world = first_world;
+      world = Some first_world;
       left = asked_by config lines;
-      plays = Rests (asked_by config lines) first_world;
+      plays = Rests (asked_by config lines) (Some first_world);
       gained = appends_none held;
     }
 halted_at_once config (Err number) held = keeps_same held
@@ -83,6 +86,7 @@ unread items config (faults.Line number) result script held is e read = absurd r
 unread items config Unwritten result script held is e read = absurd read
 unread items config Unseeded result script held is e read = absurd read
 unread items config Device result script held is e read = absurd read
+unread items config Unrepaired result script held is e read = absurd read
 
 -- A bad line ends the drill with nothing written.
 pub bad_line : {L : Type 0} (items : L → List code.Line) (config : Config) (error : DrillError)
@@ -102,6 +106,7 @@ bad_line items config Unreadable result script text held is e read gives = absur
 bad_line items config Unwritten result script text held is e read gives = absurd gives
 bad_line items config Unseeded result script text held is e read gives = absurd gives
 bad_line items config Device result script text held is e read gives = absurd gives
+bad_line items config Unrepaired result script text held is e read gives = absurd gives
 
 -- a relay that can't begin wants memory, or numbers to seed it with
 unbegun_or : (kind : ErrorKind) → (unbegun_as kind ≡ Memory) ⊎ (unbegun_as kind ≡ Unseeded)
@@ -165,31 +170,19 @@ module _ {S : Type 0} {g : Ghosts S} where
       λ i device. none_failed g.failures stores made.well device i in
       record {
         configured = sym begins.config_is;
-        agrees = subst (λ (failures : ℕ → ℕ). Agrees true relay (empty_world failures)) none
-            (begins.agrees true (λ is. made.honest));
+        agrees = subst (λ (failures : ℕ → ℕ). AgreesLeft relay (empty_world failures)) none
+            (begins.leaves made.fresh);
       }
 
-  -- What a call says of every world it says of this.
-  pub performs_at : (result : Result (Unit {0}) DrillError) (a b : Todo)
-      (old new : System S g) (before after : Option (List ℕ)) (config : Config) (x : World)
-      → Performs result a b old new before after → Under config old x
-      → PlayGives result (Went config a b x new before after) (Halted config a x before after)
-      (Broke config a x before after)
-  performs_at result a b old new before after config x performs under =
-      gives_map result (λ goes. goes config x under) (λ halts. halts config x under)
-      (λ breaks. breaks config x under) performs
-
-  -- Where the lines were read and then played, the answer of that is the drill's.
-  pub drill_gives : (config : Config) (new : System S g) (result : Result (Unit {0}) DrillError)
-      (script : Option (List ℕ)) (text : List ℕ) (lines : List Line)
-      (before after : Option (List ℕ)) → IfSome script (λ all. text ≡ all)
+  -- Where the lines were read and then played, what is said of every world is said of the first,
+  -- and is the drill's.
+  drill_ends : (config : Config) (new : System S g) (script : Option (List ℕ)) (text : List ℕ)
+      (lines : List Line) (before after : Option (List ℕ)) → IfSome script (λ all. text ≡ all)
       → lines_of_script config text ≡ Ok lines
-      → PlayGives result (Went config (asked_by config lines) Done first_world new
-      before after) (Halted config (asked_by config lines) first_world before after)
-      (Broke config (asked_by config lines) first_world before after)
-      → DrillGives config result script before after
-  drill_gives config new (Ok done) None text lines before after is says went = tt
-  drill_gives config new (Ok done) (Some all) text lines before after is says went =
+      → Went config (asked_by config lines) Done (Some first_world) new before after
+      → DrillGives config (Ok tt) script before after
+  drill_ends config new None text lines before after is says went = tt
+  drill_ends config new (Some all) text lines before after is says went =
       record {
         lines = lines;
         is_script = rw (← is) says;
@@ -199,19 +192,56 @@ module _ {S : Type 0} {g : Ghosts S} where
         played = went.plays;
         written = went.gained;
       }
-  drill_gives config new (Err Memory) None text lines before after is says halted = tt
-  drill_gives config new (Err Memory) (Some all) text lines before after is says halted =
-      let same : lines_of_script config all ≡ Ok lines = rw (← is) says in
-      let P : Result (List Line) ℕ → Type 0 = λ said. ScriptHalts config said before after in
-      subst P (sym same) halted
-  drill_gives config new (Err Unwritten) None text lines before after is says broke = tt
-  drill_gives config new (Err Unwritten) (Some all) text lines before after is says broke =
-      (lines, rw (← is) says, broke)
-  drill_gives config new (Err (faults.Line number)) script text lines before after is says went =
-      absurd went
-  drill_gives config new (Err Unreadable) script text lines before after is says went =
-      absurd went
-  drill_gives config new (Err Unseeded) script text lines before after is says went =
-      absurd went
-  drill_gives config new (Err Device) script text lines before after is says went =
-      absurd went
+
+-- So it is where something of that failed.
+drill_fails : (config : Config) (error : DrillError) (script : Option (List ℕ)) (text : List ℕ)
+    (lines : List Line) (before after : Option (List ℕ)) → IfSome script (λ all. text ≡ all)
+    → lines_of_script config text ≡ Ok lines
+    → FailGives error (Halted config (asked_by config lines) (Some first_world) before after)
+    (Broke config (asked_by config lines) (Some first_world) before after)
+    (Killed config (asked_by config lines) (Some first_world) before after)
+    → DrillGives config (Err error) script before after
+drill_fails config Memory None text lines before after is says halted = tt
+drill_fails config Memory (Some all) text lines before after is says halted =
+    let same : lines_of_script config all ≡ Ok lines = rw (← is) says in
+    let P : Result (List Line) ℕ → Type 0 = λ said. ScriptHalts config said before after in
+    subst P (sym same) halted
+drill_fails config Unrepaired None text lines before after is says killed = tt
+drill_fails config Unrepaired (Some all) text lines before after is says killed =
+    (lines, rw (← is) says, killed)
+drill_fails config Unwritten None text lines before after is says broke = tt
+drill_fails config Unwritten (Some all) text lines before after is says broke =
+    (lines, rw (← is) says, broke)
+drill_fails config (faults.Line number) script text lines before after is says went = absurd went
+drill_fails config Unreadable script text lines before after is says went = absurd went
+drill_fails config Unseeded script text lines before after is says went = absurd went
+drill_fails config Device script text lines before after is says went = absurd went
+
+-- What is said of every world that a life agreed with is said of the first world: all was done,
+pub drill_done : (config : Config) (result : Result Life DrillError) (script : Option (List ℕ))
+    (text : List ℕ) (lines : List Line) (life new : Life) (before after : Option (List ℕ))
+    → IfSome script (λ all. text ≡ all) → lines_of_script config text ≡ Ok lines
+    → Leads result (asked_by config lines) Done life before after
+    → Under config life.relay first_world → result ≡ Ok new
+    → DrillGives config (Ok tt) script before after
+drill_done config result script text lines life new before after is says leads under done =
+    let P : Result Life DrillError → Type 0 = λ it.
+    Leads it (asked_by config lines) Done life before after in
+    drill_ends config new.relay script text lines before after is says
+    (subst P done leads config (Some first_world) under)
+
+-- or something failed.
+pub drill_stops : (config : Config) (result : Result Life DrillError) (script : Option (List ℕ))
+    (text : List ℕ) (lines : List Line) (life : Life) (error : DrillError)
+    (before after : Option (List ℕ)) → IfSome script (λ all. text ≡ all)
+    → lines_of_script config text ≡ Ok lines
+    → Leads result (asked_by config lines) Done life before after
+    → Under config life.relay first_world → result ≡ Err error
+    → DrillGives config (Err error) script before after
+drill_stops config result script text lines life error before after is says leads under fails =
+    let P : Result Life DrillError → Type 0 = λ it.
+    Leads it (asked_by config lines) Done life before after in
+    drill_fails config error script text lines before after is says
+    (fail_map error (λ halts. halts config (Some first_world) under)
+    (λ breaks. breaks config (Some first_world) under)
+    (λ kills. kills config (Some first_world) under) (subst P fails leads))

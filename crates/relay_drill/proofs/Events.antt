@@ -1,13 +1,15 @@
 -- How far the code has come with one thing that is told: an event was done, or the relay reported,
 -- and that was written, or writing it failed.
-use Rattle.std.proofs.Common.{◌≡◌, ℕ, Bool, true, false, List, [], ◌∷◌, Option, if◌then◌else◌}
+use Rattle.std.proofs.Common.{◌≡◌, ℕ, Bool, true, false, List, [], ◌∷◌, Option, None, Some}
+use Rattle.std.proofs.Common.{if◌then◌else◌}
 use Rattle.std.proofs.Common.{sym, subst, append-nil, ◌∙◌}
 use Rattle.std.specs.Io.KnownBytes.{Appends}
 use Rattle.article_verdict.specs.Config.{terms_of}
 use Rattle.cyc_block.specs.declared.store.BlockStore.{Ghosts}
 use Rattle.relay_conf.specs.declared.settings.Config.{Config}
 use Rattle.relay_core.specs.Sharing.{KeepsFrame}
-use Rattle.relay_core.specs.Steps.{Steps}
+use Rattle.relay_core.proofs.Left.{left_agrees}
+use Rattle.relay_core.specs.Steps.{StepsLeft}
 use Rattle.relay_core.specs.Views.{output_view}
 use Rattle.relay_core.specs.declared.event.Output as code
 use Rattle.relay_core.specs.declared.system.System.{System}
@@ -17,10 +19,13 @@ use Rattle.relay_model.specs.World.{World, Output}
 use Rattle.relay_report.specs.Report.{ReportsOn}
 use Rattle.relay_drill.specs.Reporting.{Reports}
 use Rattle.relay_drill.specs.Play.{Plays, Rests, HasDone, HasTurned, IsClosed, HasOpened}
-use Rattle.relay_drill.specs.Play.{HasNotOpened, HasRestarted, HasReported, is_refused}
-use Rattle.relay_drill.specs.Print.{Told, Answered, Restarted, Reported, printed_all, told_text}
-use Rattle.relay_drill.specs.Progress.{Breaks, Goes, Under}
-use Rattle.relay_drill.specs.Todo.{Todo, Next, TurnOf, Restarting, Report, Opening}
+use Rattle.relay_drill.specs.Play.{HasCrashed, HasNotOpened, HasRestarted, HasReported, IsOpen}
+use Rattle.relay_drill.specs.Play.{is_refused}
+use Rattle.relay_drill.specs.Crashing.{RevivesTo}
+use Rattle.relay_drill.specs.Print.{Told, Answered, Restarted, Repaired, Reported, printed_all}
+use Rattle.relay_drill.specs.Print.{told_text}
+use Rattle.relay_drill.specs.Progress.{Breaks, Follows, Goes, Under}
+use Rattle.relay_drill.specs.Todo.{Todo, Next, TurnOf, Restarting, Crashing, Report, Opening}
 use Rattle.relay_report.specs.Written.{GainsFront}
 use Rattle.relay_drill.proofs.Courses.{goes_past}
 use Rattle.relay_report.proofs.Writes.{appends_none}
@@ -36,13 +41,13 @@ one_gained one before after gained =
 abbrev pub Does : run.Event → Output → Told → (a b : Todo) → Type 0
 Does event output one a b =
     (config : Config) (x mid : World) → Step (terms_of config) x event output mid
-    → Plays config a x (event ∷ []) (one ∷ []) mid b
+    → Plays config a (Some x) (event ∷ []) (one ∷ []) (Some mid) b
 
 -- The next event is done.
 pub does_next : (event : run.Event) (more : Todo) (output : Output)
     → Does event output (Answered output) (Next event more) more
 does_next event more output config x mid step =
-    HasDone event more x mid output [] [] mid more step (Rests more mid)
+    HasDone event more x mid output [] [] (Some mid) more step (Rests more (Some mid))
 
 -- A session is opened, or refused to open.
 pub does_open : (session peer : ℕ) (opened refused : Todo) (output : Output) (b : Bool)
@@ -59,65 +64,95 @@ does_open session peer opened refused output true told config x mid step =
 pub does_restart : (more : Todo) (output : Output)
     → Does run.Restart output (Restarted output) (Restarting more) more
 does_restart more output config x mid step =
-    HasRestarted more x mid output [] [] mid more step (Rests more mid)
+    HasRestarted more x mid output [] [] (Some mid) more step (Rests more (Some mid))
 
 module _ {S : Type 0} {g : Ghosts S} where
   -- From this world what stands between this and that was done, and one thing is told of it.
-  pub record Tells (config : Config) (a b : Todo) (x : World) (one : Told) (new : System S g)
+  pub record Tells (config : Config) (a b : Todo) (x : Option World) (one : Told)
+      (new : System S g)
       : Type 0 where
     pub events : List run.Event
-    pub after : World
-    pub under : Under config new after
+    pub after : Option World
+    pub follows : Follows config new after
     pub plays : Plays config a x events (one ∷ []) after b
 
   -- From whatever world the relay agreed with.
   abbrev pub Telling : (a b : Todo) → (old : System S g) → (one : Told) → (new : System S g)
       → Type 0
   Telling a b old one new =
-      (config : Config) (x : World) → Under config old x → Tells config a b x one new
+      (config : Config) (x : Option World) → Follows config old x → Tells config a b x one new
+
+  -- It is enough to say it of a world: nothing is said where there is none.
+  tells_of : (a b : Todo) (old : System S g) (one : Told) (new : System S g)
+      → ((config : Config) (x : World) → Under config old x → Tells config a b (Some x) one new)
+      → Telling a b old one new
+  tells_of a b old one new telling config None follows =
+      record {
+        events = [];
+        after = None;
+        follows = tt;
+        plays = IsOpen a [] (one ∷ []) b;
+      }
+  tells_of a b old one new telling config (Some x) under = telling config x under
 
   -- An event was done.
   pub tells_event : (event : run.Event) (a b : Todo) (old : System S g) (output : code.Output)
       (one : Told) (new : System S g) → Does event (output_view output) one a b
-      → Steps event old output new → KeepsFrame old new → Telling a b old one new
-  tells_event event a b old output one new does steps frame config x under =
+      → StepsLeft event old output new → KeepsFrame old new → Telling a b old one new
+  tells_event event a b old output one new does steps frame =
+      tells_of a b old one new (λ config x under.
       let from = steps x under.agrees in
       let P : Config → Type 0 = λ it. Step (terms_of it) x event (output_view output) from.after in
       record {
         events = event ∷ [];
-        after = from.after;
-        under = record {
+        after = Some from.after;
+        follows = record {
           configured = under.configured ∙ sym frame.config;
           agrees = from.agrees;
         };
         plays = does config x from.after (subst P (sym under.configured) from.is_step);
-      }
+      })
 
   -- The relay reported.
   pub tells_report : (more : Todo) (relay : System S g) (text : List ℕ) → Reports relay text
       → Telling (Report more) more relay (Reported text) relay
-  tells_report more relay text reports config x under =
+  tells_report more relay text reports =
+      tells_of (Report more) more relay (Reported text) relay (λ config x under.
       let P : Config → Type 0 = λ it. ReportsOn it x.state text in
       record {
         events = [];
-        after = x;
-        under = under;
-        plays = HasReported more x text [] [] x more
-            (subst P (sym under.configured) (reports true x under.agrees)) (Rests more x);
-      }
+        after = Some x;
+        follows = under;
+        plays = HasReported more x text [] [] (Some x) more
+            (subst P (sym under.configured) (reports true x (left_agrees relay x under.agrees)))
+            (Rests more (Some x));
+      })
+
+  -- The relay was killed, repaired and started.
+  pub tells_repaired : (moment : ℕ) (more : Todo) (old new : System S g)
+      → RevivesTo moment old new → Telling (Crashing moment more) more old Repaired new
+  tells_repaired moment more old new revives =
+      tells_of (Crashing moment more) more old Repaired new (λ config x under.
+      let found = revives config x under in
+      record {
+        events = [];
+        after = found.0;
+        follows = found.2;
+        plays = HasCrashed moment more x found.0 [] [] found.0 more found.1 (Rests more found.0);
+      })
 
   -- What is told was written.
   pub goes_told : (a b : Todo) (old : System S g) (one : Told) (new : System S g)
       (before after : Option (List ℕ)) → Telling a b old one new
       → Appends before after (told_text one) → Goes a b old new before after
-  goes_told a b old one new before after telling gained config x under =
-      let tells = telling config x under in
+  goes_told a b old one new before after telling gained config x follows =
+      let tells = telling config x follows in
       record {
         events = tells.events;
         told = one ∷ [];
         world = tells.after;
         plays = tells.plays;
-        under = tells.under;
+        follows = tells.follows;
         gained = one_gained one before after gained;
       }
 
@@ -125,8 +160,8 @@ module _ {S : Type 0} {g : Ghosts S} where
   pub breaks_told : (a b : Todo) (old : System S g) (one : Told) (new : System S g)
       (before after : Option (List ℕ)) → Telling a b old one new
       → GainsFront (told_text one) before after → Breaks a old before after
-  breaks_told a b old one new before after telling written config x under =
-      let tells = telling config x under in
+  breaks_told a b old one new before after telling written config x follows =
+      let tells = telling config x follows in
       record {
         events = tells.events;
         told = [];
@@ -149,21 +184,21 @@ module _ {S : Type 0} {g : Ghosts S} where
       goes_past (TurnOf session moment more) (Next (run.Turn session moment) more) relay relay held
       (λ config x under. (
         under,
-        HasTurned session moment more x [] [] x _ (runs config x under)
-            (Rests _ x),
+        HasTurned session moment more x [] [] (Some x) _ (runs config x under)
+            (Rests _ (Some x)),
       ))
   goes_turning session moment more relay held false closed =
       goes_past (TurnOf session moment more) more relay relay held
       (λ config x under. (
         under,
-        IsClosed session moment more x [] [] x _ (closed config x under)
-            (Rests more x),
+        IsClosed session moment more x [] [] (Some x) _ (closed config x under)
+            (Rests more (Some x)),
       ))
 
   -- An event that opens a session was done, and what it is answered was written.
   pub goes_open : (session peer : ℕ) (opened refused : Todo) (old new : System S g)
       (output : code.Output) (b : Bool) (before after : Option (List ℕ))
-      → is_refused (output_view output) ≡ b → Steps (run.Open session peer) old output new
+      → is_refused (output_view output) ≡ b → StepsLeft (run.Open session peer) old output new
       → KeepsFrame old new → Appends before after (told_text (Answered (output_view output)))
       → Goes (Opening session peer opened refused) (if b then refused else opened) old new before
       after

@@ -1,7 +1,10 @@
 pub mod Courses
+pub mod Crashes
 pub mod Drills
 pub mod Events
 pub mod Lines
+pub mod Lives
+pub mod OneLife
 pub mod Pieces
 pub mod Plays
 pub mod Prints

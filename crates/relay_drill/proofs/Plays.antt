@@ -1,20 +1,48 @@
 -- What was done of a script, one part after the other; and that it is a run of the relay.
-use Rattle.std.proofs.Common.{List, ◌++◌, refl}
+use Rattle.std.proofs.Common.{◌≡◌, true, List, ◌++◌, Option, None, Some, refl, subst, sym}
+use Rattle.std.proofs.lemmas.Bool.{and_parts, false≢true}
+use Rattle.std.proofs.lemmas.Option.{none-some}
 use Rattle.relay_model.specs.Run as run
-use Rattle.relay_model.specs.Run.{Run}
 use Rattle.relay_model.specs.World.{World}
 use Rattle.article_verdict.specs.Config.{terms_of}
 use Rattle.relay_conf.specs.declared.settings.Config.{Config}
+use Rattle.relay_drill.specs.Laws.{RunsOn, is_one_life}
 use Rattle.relay_drill.specs.Print.{Told, answers_of}
 use Rattle.relay_drill.specs.Play.{Plays, Rests, HasDone, HasTurned, IsClosed, HasOpened}
-use Rattle.relay_drill.specs.Play.{HasNotOpened, HasRestarted, HasReported}
+use Rattle.relay_drill.specs.Play.{HasCrashed, HasNotOpened, HasRestarted, HasReported, IsOpen}
 use Rattle.relay_drill.specs.Todo.{Todo}
 
+-- Where nothing is said, nothing is said later.
+pub stays_open : {config : Config} {a b : Todo} {x y : Option World} {events : List run.Event}
+    {told : List Told} → Plays config a x events told y b → x ≡ None → y ≡ None
+stays_open (Rests todo x) none = none
+stays_open (IsOpen todo events told left) none = refl
+stays_open (HasDone event more x mid output events told x' left step rest) none =
+    absurd (none-some x (sym none))
+stays_open (HasTurned s m more x events told x' left runs rest) none =
+    absurd (none-some x (sym none))
+stays_open (IsClosed s m more x events told x' left closed rest) none =
+    absurd (none-some x (sym none))
+stays_open (HasRestarted more x mid output events told x' left step rest) none =
+    absurd (none-some x (sym none))
+stays_open (HasCrashed moment more x mid events told x' left revives rest) none =
+    absurd (none-some x (sym none))
+stays_open (HasReported more x text events told x' left reports rest) none =
+    absurd (none-some x (sym none))
+stays_open (HasOpened s p opened refused x events output told x' left said rest) none =
+    absurd (none-some x (sym none))
+stays_open (HasNotOpened s p opened refused x events output told x' left said rest) none =
+    absurd (none-some x (sym none))
+
 -- Where one part was done, and then another of what it left, both were.
-pub plays_on : {config : Config} {a b c : Todo} {x y z : World} {events events' : List run.Event}
-    {told told' : List Told} → Plays config a x events told y b
+pub plays_on : {config : Config} {a b c : Todo} {x y z : Option World}
+    {events events' : List run.Event} {told told' : List Told} → Plays config a x events told y b
     → Plays config b y events' told' z c → Plays config a x (events ++ events') (told ++ told') z c
 plays_on (Rests todo x) next = next
+plays_on {config = config} {c = c} {events' = events'} {told' = told'}
+    (IsOpen todo events told left) next =
+    subst (λ (z : Option World). Plays config todo None (events ++ events') (told ++ told') z c)
+    (sym (stays_open next refl)) (IsOpen todo (events ++ events') (told ++ told') c)
 plays_on {c = c} {z = z} {events' = events'} {told' = told'}
     (HasDone event more x mid output events told x' left step rest) next =
     HasDone event more x mid output (events ++ events') (told ++ told') z c step
@@ -30,6 +58,10 @@ plays_on {c = c} {z = z} {events' = events'} {told' = told'}
     HasRestarted more x mid output (events ++ events') (told ++ told') z c step
     (plays_on rest next)
 plays_on {c = c} {z = z} {events' = events'} {told' = told'}
+    (HasCrashed moment more x mid events told x' left revives rest) next =
+    HasCrashed moment more x mid (events ++ events') (told ++ told') z c revives
+    (plays_on rest next)
+plays_on {c = c} {z = z} {events' = events'} {told' = told'}
     (HasReported more x text events told x' left reports rest) next =
     HasReported more x text (events ++ events') (told ++ told') z c reports (plays_on rest next)
 plays_on {c = c} {z = z} {events' = events'} {told' = told'}
@@ -41,19 +73,25 @@ plays_on {c = c} {z = z} {events' = events'} {told' = told'}
     HasNotOpened s p opened refused x (events ++ events') output (told ++ told') z c said
     (plays_on rest next)
 
--- What was done is a run of the relay.
-pub plays_run : {config : Config} {todo : Todo} {x : World} {events : List run.Event}
-    {told : List Told} {x' : World} {left : Todo} → Plays config todo x events told x' left
-    → Run (terms_of config) x events (answers_of told) x'
-plays_run (Rests todo x) = refl
-plays_run (HasDone event more x mid output events told x' left step rest) =
-    (mid, step, plays_run rest)
-plays_run (HasTurned s m more x events told x' left runs rest) = plays_run rest
-plays_run (IsClosed s m more x events told x' left closed rest) = plays_run rest
-plays_run (HasRestarted more x mid output events told x' left step rest) =
-    (mid, step, plays_run rest)
-plays_run (HasReported more x text events told x' left reports rest) = plays_run rest
-plays_run (HasOpened s p opened refused x events output told x' left said rest) =
-    plays_run rest
-plays_run (HasNotOpened s p opened refused x events output told x' left said rest) =
-    plays_run rest
+-- What was done of what has no crash is a run of the relay.
+pub plays_run : {config : Config} {todo : Todo} {x : Option World} {events : List run.Event}
+    {told : List Told} {y : Option World} {left : Todo} → Plays config todo x events told y left
+    → is_one_life todo ≡ true → RunsOn (terms_of config) x events (answers_of told) y
+plays_run (Rests todo None) one = tt
+plays_run (Rests todo (Some x)) one = (x, refl, refl)
+plays_run (IsOpen todo events told left) one = tt
+plays_run (HasDone event more x mid output events told x' left step rest) one =
+    let on = plays_run rest one in
+    (on.0, on.1, (mid, step, on.2))
+plays_run (HasTurned s m more x events told x' left runs rest) one = plays_run rest one
+plays_run (IsClosed s m more x events told x' left closed rest) one = plays_run rest one
+plays_run (HasRestarted more x mid output events told x' left step rest) one =
+    let on = plays_run rest one in
+    (on.0, on.1, (mid, step, on.2))
+plays_run (HasCrashed moment more x mid events told x' left revives rest) one =
+    absurd (false≢true one)
+plays_run (HasReported more x text events told x' left reports rest) one = plays_run rest one
+plays_run (HasOpened s p opened refused x events output told x' left said rest) one =
+    plays_run rest (and_parts (is_one_life opened) (is_one_life refused) one).0
+plays_run (HasNotOpened s p opened refused x events output told x' left said rest) one =
+    plays_run rest (and_parts (is_one_life opened) (is_one_life refused) one).1

@@ -1,19 +1,34 @@
 -- The stores of a drill, one after the other.
-use Rattle.std.proofs.Common.{◌≡◌, ◌+◌, ◌<◌, ◌∙◌, ℕ, List, [], ◌∷◌, ◌++◌, ap₂, get_or, length, map}
+use Rattle.std.proofs.Common.{◌≡◌, ◌+◌, ◌<◌, ◌∙◌, ℕ, List, [], ◌∷◌, ◌++◌, All, ap₂, get_or, length}
+use Rattle.std.proofs.Common.{map}
 use Rattle.std.proofs.Common.{sym, take}
 use Rattle.std.proofs.lemmas.List.{map_push, take_more}
 use Rattle.std.proofs.lemmas.List.Elements.{All-push}
+use Rattle.block_shelf.specs.Leaving.{IsFresh}
+use Rattle.cyc_block.specs.contracts.failing.FailAtBlockStore.TheImpl as failing
+use Rattle.cyc_block.specs.contracts.memory.MemoryBlocks.{the_row}
+use Rattle.cyc_block.specs.contracts.memory.MemoryBlocksBlockStore.TheImpl as memory
+use Rattle.cyc_block.specs.declared.failing.FailAt.{FailAt}
+use Rattle.cyc_block.specs.declared.memory.MemoryBlocks.{MemoryBlocks}
 use Rattle.cyc_block.specs.declared.store.BlockStore.{Ghosts}
 use Rattle.relay_conf.specs.declared.cycbuff.BufferConf.{BufferConf}
 use Rattle.relay_drill.specs.Stores.{AreStoresOf}
+
+-- what is seen of a store
+abbrev pub seen : Ghosts (FailAt MemoryBlocks)
+seen = failing.ghosts the_row memory.ghosts memory.dict
+
+-- Blocks in memory are honest, whatever was done with them.
+pub are_honest : (stores : List (FailAt MemoryBlocks)) → All seen.honest stores
+are_honest stores k d within = tt
 
 -- One more store is that of one more buffer.
 pub one_more_store : {S : Type 0} (g : Ghosts S) (buffers : List BufferConf) (at : ℕ)
     (buffer : BufferConf) (stores : List S) (store : S) → at < length buffers
     → buffer ≡ get_or buffers at buffer → AreStoresOf g (take at buffers) stores
-    → length (g.blocks store) ≡ buffer.blocks → g.honest store → g.failures store ≡ 0
+    → length (g.blocks store) ≡ buffer.blocks → IsFresh g store → g.failures store ≡ 0
     → AreStoresOf g (take (at + 1) buffers) (stores ++ store ∷ [])
-one_more_store g buffers at buffer stores store within is made blocks honest well =
+one_more_store g buffers at buffer stores store within is made blocks fresh well =
     let sizes : map (λ s. length (g.blocks s)) (stores ++ store ∷ [])
     ≡ map (λ (b : BufferConf). b.blocks) (take at buffers ++ buffer ∷ []) =
     map_push (λ s. length (g.blocks s)) stores store
@@ -21,6 +36,7 @@ one_more_store g buffers at buffer stores store within is made blocks honest wel
     ∙ sym (map_push (λ (b : BufferConf). b.blocks) (take at buffers) buffer) in
     record {
       sizes = rw (take_more buffers at buffer within, ← is) sizes;
-      honest = All-push g.honest stores store made.honest honest;
+      honest = All-push g.honest stores store made.honest fresh.honest;
+      fresh = All-push (IsFresh g) stores store made.fresh fresh;
       well = All-push (λ s. g.failures s ≡ 0) stores store made.well well;
     }

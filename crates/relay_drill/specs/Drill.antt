@@ -1,18 +1,18 @@
 -- What a drill writes (docs/PROTOCOL.md, The call `drill`).
-use Rattle.std.specs.Prelude.{◌≡◌, ℕ, List, map, vec_len, Option, IfSome, Result, Ok, Err}
+use Rattle.std.specs.Prelude.{◌≡◌, ℕ, List, map, vec_len, Option, Some, IfSome, Result, Ok, Err}
 use Rattle.std.specs.Io.KnownBytes.{Appends, Keeps}
 use Rattle.relay_conf.specs.declared.settings.Config.{Config}
 use Rattle.relay_model.specs.Run.{Event}
 use Rattle.relay_model.specs.World.{World, empty_world}
 use Rattle.relay_drill.specs.Play.{Plays}
 use Rattle.relay_drill.specs.Print.{Told, printed_all}
-use Rattle.relay_drill.specs.Progress.{Broke, Halted}
+use Rattle.relay_drill.specs.Progress.{Broke, Halted, Killed}
 use Rattle.std.specs.Result.{IsOk}
 use Rattle.relay_drill.specs.Script.{Line, Names, script_of}
 use Rattle.relay_drill.specs.Todo.{Todo, Done, first_stand, lines_ask}
 use Rattle.relay_drill.specs.declared.fault.DrillError.{DrillError}
 use Rattle.relay_drill.specs.declared.fault.DrillError.TheVariants.{Memory, Unreadable, Unwritten}
-use Rattle.relay_drill.specs.declared.fault.DrillError.TheVariants.{Unseeded, Device}
+use Rattle.relay_drill.specs.declared.fault.DrillError.TheVariants.{Unseeded, Device, Unrepaired}
 use Rattle.relay_drill.specs.declared.fault.DrillError.TheVariants as faults
 
 -- the names that a script may use
@@ -41,22 +41,29 @@ pub record Ran (config : Config) (script : List ℕ) (before after : Option (Lis
   pub is_script : lines_of_script config script ≡ Ok lines
   pub events : List Event
   pub told : List Told
-  pub world : World
-  pub played : Plays config (asked_by config lines) first_world events told world Done
+  pub world : Option World
+  pub played : Plays config (asked_by config lines) (Some first_world) events told world Done
   pub written : Appends before after (printed_all told)
 
 -- of a script that says these lines some was done, and all was written that this prints; of one
 -- with a bad line nothing was written
 abbrev pub ScriptHalts : Config → Result (List Line) ℕ → Option (List ℕ) → Option (List ℕ) → Type 0
 ScriptHalts config (Ok lines) before after =
-    Halted config (asked_by config lines) first_world before after
+    Halted config (asked_by config lines) (Some first_world) before after
 ScriptHalts config (Err number) before after = Keeps before after
 
 -- of a script that says these lines some was done, and a front was written of what this prints
 abbrev pub ScriptBreaks : Config → List ℕ → Option (List ℕ) → Option (List ℕ) → Type 0
 ScriptBreaks config script before after =
     (lines : List Line) × (lines_of_script config script ≡ Ok lines)
-    × Broke config (asked_by config lines) first_world before after
+    × Broke config (asked_by config lines) (Some first_world) before after
+
+-- of a script that says these lines all was done that stands before a crash, and all was written
+-- that this prints
+abbrev pub ScriptIsKilled : Config → List ℕ → Option (List ℕ) → Option (List ℕ) → Type 0
+ScriptIsKilled config script before after =
+    (lines : List Line) × (lines_of_script config script ≡ Ok lines)
+    × Killed config (asked_by config lines) (Some first_world) before after
 
 -- what the answer says of the script and of what the writer held before and holds after; that the
 -- relay wasn't seeded, or a device of its failed before, is said of a script without a bad line
@@ -67,6 +74,8 @@ DrillGives config (Ok done) script before after =
     IfSome script (λ text. Ran config text before after)
 DrillGives config (Err Memory) script before after =
     IfSome script (λ text. ScriptHalts config (lines_of_script config text) before after)
+DrillGives config (Err Unrepaired) script before after =
+    IfSome script (λ text. ScriptIsKilled config text before after)
 DrillGives config (Err (faults.Line number)) script before after =
     IfSome script (λ text. lines_of_script config text ≡ Err number) × Keeps before after
 DrillGives config (Err Unreadable) script before after = Keeps before after

@@ -6,6 +6,10 @@ use Rattle.std.specs.declared.io.ErrorKind.{ErrorKind}
 use Rattle.std.specs.declared.io.ErrorKind.TheVariants.{OutOfMemory}
 use Rattle.std.specs.IoError.{error_kind}
 use Rattle.block_shelf.specs.declared.beginning.BeginError.{BeginError}
+use Rattle.block_shelf.specs.declared.starting.StopFault.{StopFault}
+use Rattle.block_shelf.specs.declared.starting.StopFault.TheVariants as stops
+use Rattle.relay_core.specs.declared.stopped.NotStarted.{NotStarted}
+use Rattle.relay_core.specs.declared.stopped.NotStarted.TheVariants as nots
 use Rattle.block_shelf.specs.declared.beginning.BeginError.TheVariants as begins
 use Rattle.relay_drill.specs.declared.fault.DrillError.{DrillError}
 use Rattle.relay_drill.specs.declared.fault.DrillError.TheVariants as faults
@@ -14,7 +18,7 @@ use Rattle.relay_drill.specs.declared.script.Keyword.TheVariants as keywords
 use Rattle.relay_drill.specs.declared.line.Line.{Line}
 use Rattle.relay_drill.specs.declared.line.Line.TheVariants.{Open, Bring, Split, Turn, Write}
 use Rattle.relay_drill.specs.declared.line.Line.TheVariants.{Rounds, Break, Expire, Fail, Restart}
-use Rattle.relay_drill.specs.declared.line.Line.TheVariants.{Report}
+use Rattle.relay_drill.specs.declared.line.Line.TheVariants.{Crash, Report}
 use Rattle.relay_drill.specs.Script as script
 
 -- a keyword as the format has it
@@ -30,6 +34,7 @@ keyword_view keywords.Break = script.BREAK
 keyword_view keywords.Expire = script.EXPIRE
 keyword_view keywords.Fail = script.FAIL
 keyword_view keywords.Restart = script.RESTART
+keyword_view keywords.Crash = script.CRASH
 keyword_view keywords.Report = script.REPORT
 
 -- the keyword that is spelled so, of these
@@ -50,6 +55,7 @@ line_view (Break session) = script.Breaks session
 line_view (Expire shard moment) = script.Expires shard moment
 line_view (Fail buffer call) = script.Fails buffer call
 line_view Restart = script.Restarts
+line_view Crash = script.Crashes
 line_view Report = script.Reports
 
 -- the answer is the line that the words say, or None where they are bad, unless memory ran out
@@ -69,21 +75,24 @@ ScriptGives items (Err faults.Unreadable) says = ⊥
 ScriptGives items (Err faults.Unwritten) says = ⊥
 ScriptGives items (Err faults.Unseeded) says = ⊥
 ScriptGives items (Err faults.Device) says = ⊥
+ScriptGives items (Err faults.Unrepaired) says = ⊥
 
--- the error says that it was halted for want of memory, or that it was broken off since the writer
--- failed
-abbrev pub FailGives : DrillError → (halted broken : Type 0) → Type 0
-FailGives faults.Memory halted broken = halted
-FailGives faults.Unwritten halted broken = broken
-FailGives (faults.Line number) halted broken = ⊥
-FailGives faults.Unreadable halted broken = ⊥
-FailGives faults.Unseeded halted broken = ⊥
-FailGives faults.Device halted broken = ⊥
+-- the error says that it was halted for want of memory, that it was broken off since the writer
+-- failed, or that the relay was killed, and isn't repaired
+abbrev pub FailGives : DrillError → (halted broken killed : Type 0) → Type 0
+FailGives faults.Memory halted broken killed = halted
+FailGives faults.Unwritten halted broken killed = broken
+FailGives (faults.Line number) halted broken killed = ⊥
+FailGives faults.Unreadable halted broken killed = ⊥
+FailGives faults.Unseeded halted broken killed = ⊥
+FailGives faults.Device halted broken killed = ⊥
+FailGives faults.Unrepaired halted broken killed = killed
 
 -- the answer says that all is done, or why it isn't
-abbrev pub PlayGives : Result (Unit {0}) DrillError → (done halted broken : Type 0) → Type 0
-PlayGives (Ok fine) done halted broken = done
-PlayGives (Err error) done halted broken = FailGives error halted broken
+abbrev pub PlayGives : {A : Type 0} → Result A DrillError → (done : A → Type 0)
+    → (halted broken killed : Type 0) → Type 0
+PlayGives (Ok value) done halted broken killed = done value
+PlayGives (Err error) done halted broken killed = FailGives error halted broken killed
 
 -- the answer is all that the reader has left, where that is known; without it memory ran out or the
 -- reader failed
@@ -95,11 +104,25 @@ ReadGives items (Err (faults.Line number)) left = ⊥
 ReadGives items (Err faults.Unwritten) left = ⊥
 ReadGives items (Err faults.Unseeded) left = ⊥
 ReadGives items (Err faults.Device) left = ⊥
+ReadGives items (Err faults.Unrepaired) left = ⊥
 
 -- why the host can't let a relay begin: memory ran out, or it has no random numbers
 abbrev pub unbegun_as : ErrorKind → DrillError
 unbegun_as OutOfMemory = faults.Memory
 unbegun_as kind = faults.Unseeded
+
+-- what a drill is told by whose relay isn't repaired and started: want of memory by its own name
+abbrev pub unseeded_as : ErrorKind → DrillError
+unseeded_as OutOfMemory = faults.Memory
+unseeded_as kind = faults.Unrepaired
+
+abbrev pub unstarted_as : StopFault → DrillError
+unstarted_as stops.Memory = faults.Memory
+unstarted_as fault = faults.Unrepaired
+
+abbrev pub unrepaired_as : {S : Type 0} → NotStarted S → DrillError
+unrepaired_as (nots.Host why stores) = unseeded_as (error_kind why)
+unrepaired_as (nots.Refused refused) = unstarted_as refused.error
 
 -- what a drill is told by whose relay doesn't begin: why the host couldn't let it, or that a device
 -- failed

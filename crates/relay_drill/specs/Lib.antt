@@ -1,9 +1,12 @@
+pub mod Crashing
 pub mod Drill
 pub mod Fault
+pub mod Laws
 pub mod Play
 pub mod Print
 pub mod Progress
 pub mod Reporting
+pub mod Reviving
 pub mod Script
 pub mod Stores
 pub mod Text

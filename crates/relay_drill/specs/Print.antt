@@ -52,17 +52,23 @@ restart_text (Sent session octets) = printed (Sent session octets)
 restart_text (Ended session octets) = printed (Ended session octets)
 restart_text (Refuses fault) = printed (Refuses fault)
 
--- what a drill tells: what an event is answered, what a Restart is, or the report of the relay as
--- it is
+-- what is printed of a relay that was killed, and repaired
+abbrev pub repaired_text : List ℕ
+repaired_text = printed_line (codes "repaired")
+
+-- what a drill tells: what an event is answered, what a Restart is, that the relay was repaired
+-- behind a crash, or the report of the relay as it is
 pub data Told : Type 0 where
   Answered : (output : Output) → Told
   Restarted : (output : Output) → Told
+  Repaired : Told
   Reported : (text : List ℕ) → Told
 
 -- what is printed of it; a report as it stands
 abbrev pub told_text : Told → List ℕ
 told_text (Answered output) = printed output
 told_text (Restarted output) = restart_text output
+told_text Repaired = repaired_text
 told_text (Reported text) = text
 
 -- what is printed, one after the other
@@ -74,4 +80,5 @@ abbrev pub answers_of : List Told → List Output
 answers_of [] = []
 answers_of (Answered output ∷ told) = output ∷ answers_of told
 answers_of (Restarted output ∷ told) = output ∷ answers_of told
+answers_of (Repaired ∷ told) = answers_of told
 answers_of (Reported text ∷ told) = answers_of told

@@ -1,86 +1,125 @@
 -- How far the code has come with a script: what contracts of private functions say.
-use Rattle.std.specs.Prelude.{◌≡◌, ℕ, true, List, [], ◌∷◌, ◌++◌, Option, option_map, Result}
+use Rattle.std.specs.Prelude.{◌≡◌, ℕ, List, [], ◌∷◌, ◌++◌, Option, None, Some, option_map}
+use Rattle.std.specs.Prelude.{Result}
 use Rattle.std.specs.Io.KnownBytes.{Appends}
 use Rattle.cyc_block.specs.declared.store.BlockStore.{Ghosts}
 use Rattle.relay_conf.specs.declared.settings.Config.{Config}
-use Rattle.relay_core.specs.Agreement.{Agrees}
+use Rattle.relay_core.specs.Agreement.{AgreesLeft}
 use Rattle.relay_core.specs.declared.system.System.{System}
 use Rattle.relay_model.specs.Run.{Event}
 use Rattle.relay_model.specs.World.{World}
 use Rattle.relay_drill.specs.declared.fault.DrillError.{DrillError}
 use Rattle.relay_drill.specs.declared.line.PieceSize.{PieceSize}
+use Rattle.relay_drill.specs.declared.play.Life.{Life}
 use Rattle.relay_drill.specs.declared.play.Stand.{Stand}
 use Rattle.relay_drill.specs.Fault.{PlayGives}
 use Rattle.relay_drill.specs.Play.{Plays}
 use Rattle.relay_drill.specs.Print.{Told, printed_all, told_text}
 use Rattle.relay_drill.specs.Todo as todo
-use Rattle.relay_drill.specs.Todo.{Todo}
+use Rattle.relay_drill.specs.Todo.{Todo, Crashing}
 use Rattle.relay_report.specs.Written.{GainsFront}
 
--- the relay has this configuration, and agrees with this world
+-- the relay has this configuration, and agrees with this world; a crash may leave its stores
 pub record Under {S : Type 0} {g : Ghosts S} (config : Config) (relay : System S g) (x : World)
     : Type 0 where
   pub configured : config ≡ relay.config
-  pub agrees : Agrees true relay x
+  pub agrees : AgreesLeft relay x
+
+-- it does with the world that there is; where nothing is said any more there is none
+abbrev pub Follows : {S : Type 0} {g : Ghosts S} → Config → System S g → Option World → Type 0
+Follows config relay None = Unit {0}
+Follows config relay (Some x) = Under config relay x
 
 -- From this world what stands before this was done, the relay agrees with the world after it, and
 -- the writer gained what that prints.
-pub record Went {S : Type 0} {g : Ghosts S} (config : Config) (from to : Todo) (x : World)
+pub record Went {S : Type 0} {g : Ghosts S} (config : Config) (from to : Todo) (x : Option World)
     (relay : System S g) (before after : Option (List ℕ))
     : Type 0 where
   pub events : List Event
   pub told : List Told
-  pub world : World
+  pub world : Option World
   pub plays : Plays config from x events told world to
-  pub under : Under config relay world
+  pub follows : Follows config relay world
   pub gained : Appends before after (printed_all told)
 
 -- From this world some of it was done, and the writer gained all that this prints.
-pub record Halted (config : Config) (from : Todo) (x : World) (before after : Option (List ℕ))
+pub record Halted (config : Config) (from : Todo) (x : Option World)
+    (before after : Option (List ℕ))
     : Type 0 where
   pub events : List Event
   pub told : List Told
-  pub world : World
+  pub world : Option World
   pub left : Todo
   pub plays : Plays config from x events told world left
   pub gained : Appends before after (printed_all told)
 
 -- From this world some of it was done, and the writer gained what that prints up to the last thing
 -- told, and of this one a front.
-pub record Broke (config : Config) (from : Todo) (x : World) (before after : Option (List ℕ))
+pub record Broke (config : Config) (from : Todo) (x : Option World)
+    (before after : Option (List ℕ))
     : Type 0 where
   pub events : List Event
   pub told : List Told
   pub last : Told
-  pub world : World
+  pub world : Option World
   pub left : Todo
   pub plays : Plays config from x events (told ++ last ∷ []) world left
   pub mid : Option (List ℕ)
   pub gained : Appends before mid (printed_all told)
   pub written : GainsFront (told_text last) mid after
 
+-- From this world all was done that stands before a crash, and the writer gained all that this
+-- prints.
+pub record Killed (config : Config) (from : Todo) (x : Option World)
+    (before after : Option (List ℕ))
+    : Type 0 where
+  pub events : List Event
+  pub told : List Told
+  pub world : Option World
+  pub moment : ℕ
+  pub more : Todo
+  pub plays : Plays config from x events told world (Crashing moment more)
+  pub gained : Appends before after (printed_all told)
+
 -- from whatever world the relay agreed with
 abbrev pub Goes : {S : Type 0} {g : Ghosts S} → (from to : Todo) → (old new : System S g)
     → (before after : Option (List ℕ)) → Type 0
 Goes from to old new before after =
-    (config : Config) (x : World) → Under config old x → Went config from to x new before after
+    (config : Config) (x : Option World) → Follows config old x
+    → Went config from to x new before after
 
 abbrev pub Halts : {S : Type 0} {g : Ghosts S} → (from : Todo) → (old : System S g)
     → (before after : Option (List ℕ)) → Type 0
 Halts from old before after =
-    (config : Config) (x : World) → Under config old x → Halted config from x before after
+    (config : Config) (x : Option World) → Follows config old x
+    → Halted config from x before after
 
 abbrev pub Breaks : {S : Type 0} {g : Ghosts S} → (from : Todo) → (old : System S g)
     → (before after : Option (List ℕ)) → Type 0
 Breaks from old before after =
-    (config : Config) (x : World) → Under config old x → Broke config from x before after
+    (config : Config) (x : Option World) → Follows config old x
+    → Broke config from x before after
+
+abbrev pub Kills : {S : Type 0} {g : Ghosts S} → (from : Todo) → (old : System S g)
+    → (before after : Option (List ℕ)) → Type 0
+Kills from old before after =
+    (config : Config) (x : Option World) → Follows config old x
+    → Killed config from x before after
 
 -- the answer says that all was done that stands before this, or that it was broken off
 abbrev pub Performs : {S : Type 0} {g : Ghosts S} → Result (Unit {0}) DrillError
     → (from to : Todo) → (old new : System S g) → (before after : Option (List ℕ)) → Type 0
 Performs result from to old new before after =
-    PlayGives result (Goes from to old new before after) (Halts from old before after)
-    (Breaks from old before after)
+    PlayGives result (λ fine. Goes from to old new before after) (Halts from old before after)
+    (Breaks from old before after) (Kills from old before after)
+
+-- so it does of a relay that is handed on
+abbrev pub Leads : Result Life DrillError → (from to : Todo) → (old : Life)
+    → (before after : Option (List ℕ)) → Type 0
+Leads result from to old before after =
+    PlayGives result (λ new. Goes from to old.relay new.relay before after)
+    (Halts from old.relay before after) (Breaks from old.relay before after)
+    (Kills from old.relay before after)
 
 -- how a drill stands, in the definitions
 abbrev pub stand_view : Stand → todo.Stand
@@ -88,4 +127,5 @@ stand_view stand =
     record {
       sessions = stand.sessions.items;
       piece = option_map (λ (size : PieceSize). size.octets) stand.piece;
+      moment = stand.moment;
     }

@@ -30,6 +30,8 @@ pub data Line : Type 0 where
   Fails : (buffer call : ℕ) → Line
   -- the relay is closed and started again
   Restarts : Line
+  -- the relay is killed, repaired and started
+  Crashes : Line
   -- the report is printed
   Reports : Line
 
@@ -51,6 +53,7 @@ pub data Keyword : Type 0 where
   EXPIRE : Keyword
   FAIL : Keyword
   RESTART : Keyword
+  CRASH : Keyword
   REPORT : Keyword
 
 -- the keyword that the word is
@@ -67,6 +70,7 @@ keyword_of word =
     else if bytes_eq word (codes "expire") then Some EXPIRE
     else if bytes_eq word (codes "fail") then Some FAIL
     else if bytes_eq word (codes "restart") then Some RESTART
+    else if bytes_eq word (codes "crash") then Some CRASH
     else if bytes_eq word (codes "report") then Some REPORT
     else None
 
@@ -118,7 +122,7 @@ expire_line two = both Expires (number two.0) (number two.1)
 abbrev pub fail_line : List (List ℕ) → List ℕ × List ℕ → Option Line
 fail_line buffers two = both Fails (place_of buffers two.0) (number_within 1 1000000 two.1)
 
--- `restart` and `report`: the line of a keyword that no word follows
+-- `restart`, `crash` and `report`: the line of a keyword that no word follows
 abbrev pub line_alone : Line → List (List ℕ) → Option Line
 line_alone line [] = Some line
 line_alone line (word ∷ more) = None
@@ -136,6 +140,7 @@ line_with names after BREAK = option_and_then break_line (one_of after)
 line_with names after EXPIRE = option_and_then expire_line (two_of after)
 line_with names after FAIL = option_and_then (fail_line names.buffers) (two_of after)
 line_with names after RESTART = line_alone Restarts after
+line_with names after CRASH = line_alone Crashes after
 line_with names after REPORT = line_alone Reports after
 
 -- what these words say; None is a bad line

@@ -4,7 +4,7 @@ use Rattle.std.specs.Prelude.{ℕ, zero, suc, ◌+◌, ◌++◌, List, [], ◌�
 use Rattle.std.specs.Prelude.{None, Some}
 use Rattle.relay_model.specs.Run.{Event, Bytes, Turn, Write, Break, Expire}
 use Rattle.relay_drill.specs.Script.{Line, Opens, Brings, Splits, Turns, Writes, Rounds, Breaks}
-use Rattle.relay_drill.specs.Script.{Expires, Fails, Restarts, Reports}
+use Rattle.relay_drill.specs.Script.{Expires, Fails, Restarts, Crashes, Reports}
 
 -- what is still to be done
 pub data Todo : Type 0 where
@@ -16,6 +16,8 @@ pub data Todo : Type 0 where
   TurnOf : (session moment : ℕ) (more : Todo) → Todo
   -- the relay is closed and started again, and then more
   Restarting : (more : Todo) → Todo
+  -- the relay is killed, and repaired at this moment, and then more
+  Crashing : (moment : ℕ) (more : Todo) → Todo
   -- the report of the relay as it is, and then more
   Report : (more : Todo) → Todo
   -- a session opens; what follows hangs on whether that is refused
@@ -33,19 +35,28 @@ abbrev pub pieces_of : Option ℕ → List ℕ → List (List ℕ)
 pieces_of None octets = pieces_in (length octets) (length octets) octets
 pieces_of (Some size) octets = pieces_in (length octets) size octets
 
--- how a drill stands: the sessions that it opened, in rising order, and the octets of a piece,
--- where octets are split
+-- how a drill stands: the sessions that it opened since the last crash, in rising order, the octets
+-- of a piece, where octets are split, and the moment that a line named last
 pub record Stand : Type 0 where
   pub sessions : List ℕ
   pub piece : Option ℕ
+  pub moment : ℕ
 
--- nothing is open, and nothing is split
+-- nothing is open, nothing is split, and no moment was named
 abbrev pub first_stand : Stand
-first_stand = record { sessions = []; piece = None }
+first_stand = record { sessions = []; piece = None; moment = 0 }
 
 -- one more session was opened
 abbrev pub with_session : Stand → ℕ → Stand
 with_session stand session = record stand { sessions = stand.sessions ++ session ∷ [] }
+
+-- a line names this moment
+abbrev pub at_moment : Stand → ℕ → Stand
+at_moment stand moment = record stand { moment = moment }
+
+-- nobody is here after a crash
+abbrev pub deserted : Stand → Stand
+deserted stand = record stand { sessions = [] }
 
 -- the pieces come, one after the other
 abbrev pub bring_each : (session : ℕ) → List (List ℕ) → (more : Todo) → Todo
@@ -81,14 +92,18 @@ line_asks groups (Opens session peer) stand next =
 line_asks groups (Brings session octets) stand next =
     bring_each session (pieces_of stand.piece octets) (next stand)
 line_asks groups (Splits size) stand next = next (record stand { piece = Some size })
-line_asks groups (Turns session moment) stand next = Next (Turn session moment) (next stand)
-line_asks groups (Writes group moment) stand next = Next (Write group moment) (next stand)
+line_asks groups (Turns session moment) stand next =
+    Next (Turn session moment) (next (at_moment stand moment))
+line_asks groups (Writes group moment) stand next =
+    Next (Write group moment) (next (at_moment stand moment))
 line_asks groups (Rounds count moment) stand next =
-    round_each groups moment stand.sessions count (next stand)
+    round_each groups moment stand.sessions count (next (at_moment stand moment))
 line_asks groups (Breaks session) stand next = Next (Break session) (next stand)
-line_asks groups (Expires shard moment) stand next = Next (Expire shard moment) (next stand)
+line_asks groups (Expires shard moment) stand next =
+    Next (Expire shard moment) (next (at_moment stand moment))
 line_asks groups (Fails buffer call) stand next = next stand
 line_asks groups Restarts stand next = Restarting (next stand)
+line_asks groups Crashes stand next = Crashing stand.moment (next (deserted stand))
 line_asks groups Reports stand next = Report (next stand)
 
 -- what the lines of a script ask for, one after the other

@@ -25,6 +25,9 @@ pub enum DrillError {
     Unseeded,
     /// A device failed while the head block of its buffer was written. Nothing ran.
     Device,
+    /// The relay was killed, and could not be repaired and started: a device failed, or the system
+    /// had no random numbers. What was written before stands.
+    Unrepaired,
 }
 
 impl Display for DrillError {
@@ -38,6 +41,7 @@ impl Display for DrillError {
             DrillError::Unwritten => "stdout: unwritten",
             DrillError::Unseeded => "relay: no random numbers to be had",
             DrillError::Device => "relay: a device failed",
+            DrillError::Unrepaired => "relay: not repaired",
         };
         formatter.write_str(told)
     }

@@ -11,6 +11,7 @@ mod line;
 mod play;
 mod print;
 mod report;
+mod reviving;
 mod script;
 mod whole;
 mod words;

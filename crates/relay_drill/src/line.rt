@@ -32,6 +32,8 @@ pub enum Line {
     Fail(usize, u64),
     /// `restart`: the relay is closed and started again.
     Restart,
+    /// `crash`: the relay is killed, repaired and started.
+    Crash,
     /// `report`: the report is printed.
     Report,
 }

@@ -1,25 +1,28 @@
 //! Doing what the lines of a script ask of the relay, and printing what it answers.
-ghost use Rattle.std.specs.Prelude.{◌≡◌, ◌<◌, length, map};
+ghost use Rattle.std.specs.Prelude.{◌≡◌, ◌<◌, ℕ, List, Option, length, map, IfErr, IfOk};
 ghost use Rattle.relay_core.specs.Views.{event_view, output_view};
 ghost use Rattle.relay_model.specs.Run as run;
+ghost use Rattle.relay_drill.specs.declared.fault.DrillError.TheVariants as faults;
 ghost use Rattle.relay_drill.specs.Fault.{line_view};
 ghost use Rattle.relay_drill.specs.Play as played;
-ghost use Rattle.relay_drill.specs.Progress.{Performs, stand_view};
+ghost use Rattle.relay_drill.specs.Progress.{Goes, Leads, Performs, stand_view};
 ghost use Rattle.relay_drill.specs.Todo as todo;
-ghost use Rattle.relay_drill.specs.Todo.{Todo, bring_each, line_asks, lines_ask, pieces_in};
-ghost use Rattle.relay_drill.specs.Todo.{pieces_of, round_each, turn_each, with_session};
-ghost use Rattle.relay_drill.specs.Todo.{write_each};
+ghost use Rattle.relay_drill.specs.Todo.{Todo, bring_each, deserted, line_asks, lines_ask};
+ghost use Rattle.relay_drill.specs.Todo.{pieces_in, pieces_of, round_each, turn_each};
+ghost use Rattle.relay_drill.specs.Todo.{with_session, write_each};
 
 use crate::fault::DrillError;
 use crate::line::{Line, PieceSize};
-use crate::print::{print, print_restart};
+use crate::print::{print, print_repaired, print_restart};
 use crate::report::report;
+use crate::reviving::revive;
 use cyc_block::{BlockStore, FailAt, MemoryBlocks};
 use line_words::Octets;
 use relay_core::{Event, Output, System};
 use relay_report::put;
 use std::alloc::Global;
 use std::io::Write;
+use std::random::RandomSource;
 
 /// Blocks in memory, any call of which can be made to fail.
 pub type Store = FailAt<MemoryBlocks>;
@@ -27,59 +30,175 @@ pub type Store = FailAt<MemoryBlocks>;
 /// The relay over such blocks.
 pub type Relay = System<Store>;
 
+/// The relay from its beginning or from a crash on.
+pub struct Life {
+    pub relay: Relay,
+    /// The history of its last stop, if there was one: a repair's, or a restart's.
+    pub history: Option<Vec<u8>>,
+}
+
+impl Life {
+    /// Lets the relay go.
+    pub fn let_go(self) {
+        let Life { relay, history } = self;
+        relay.let_go();
+        drop(history);
+    }
+}
+
 /// How a drill stands.
 #[derive(Drop)]
 pub struct Stand {
-    /// The sessions that were opened, in rising order.
+    /// The sessions that were opened since the last crash, in rising order.
     pub sessions: Vec<u64>,
     /// The octets of a piece, where octets are split.
     pub piece: Option<PieceSize>,
+    /// The moment that a line named last.
+    pub moment: u64,
 }
 
-/// Does what the lines of a script ask, one after the other, of a relay with so many groups.
+/// Does what the lines of a script ask, one after the other, of a relay with so many groups. `rt`
+/// seeds the hashers of a relay that is started behind a crash.
 pub fn play<W: Write>(
+    rt: &impl RandomSource,
     alloc: Global,
-    relay: &mut Relay,
+    life: Life,
     groups: usize,
     lines: &[Line],
     writer: &mut W,
-) -> Result<(), DrillError>
-    ensures { Performs result
+) -> Result<Life, DrillError>
+    ensures { Leads result
         (lines_ask groups (map line_view lines.now) todo.first_stand) todo.Done
-        relay.old relay.new (W.contents writer.old) (W.contents writer.new) }
+        life (W.contents writer.old) (W.contents writer.new) }
 {
+    let mut living = life;
     let mut stand = Stand {
         sessions: Vec::new(alloc),
         piece: None,
+        moment: 0,
     };
     for line in lines {
-        play_one(alloc, relay, groups, &mut stand, line, writer)?;
+        living = play_one(rt, alloc, living, groups, &mut stand, line, writer)?;
     }
-    Ok(())
+    Ok(living)
 }
 
-/// Does what a line of a script asks: `fail` over devices that are armed, all else over any.
+/// Does what a line of a script asks: `crash` and `fail` of a relay over devices that are armed,
+/// all else of any.
 fn play_one<W: Write>(
+    rt: &impl RandomSource,
     alloc: Global,
-    relay: &mut Relay,
+    life: Life,
     groups: usize,
     stand: &mut Stand,
     line: &Line,
     writer: &mut W,
-) -> Result<(), DrillError>
-    ensures { (next : todo.Stand → Todo) → Performs result
+) -> Result<Life, DrillError>
+    ensures { (next : todo.Stand → Todo) → Leads result
         (line_asks groups (line_view line.now) (stand_view stand.old) next)
         (next (stand_view stand.new))
-        relay.old relay.new (W.contents writer.old) (W.contents writer.new) }
+        life (W.contents writer.old) (W.contents writer.new) }
 {
-    if let Line::Fail(buffer, call) = line {
-        relay.arm(*buffer, *call);
-        return Ok(());
+    match line {
+        Line::Crash => crash(rt, alloc, life, stand, writer),
+        Line::Fail(buffer, call) => Ok(armed(life, *buffer, *call)),
+        _ => play_on(alloc, life, groups, stand, line, writer),
     }
-    play_line(alloc, relay, groups, stand, line, writer)
 }
 
-/// Does what a line of a script asks. What `fail` asks is no event, and was done before.
+/// From here call number k of this buffer's device fails.
+fn armed(life: Life, buffer: usize, call: u64) -> Life
+    ensures { (more : Todo) (held : Option (List ℕ))
+        → Goes more more life.relay result.relay held held }
+{
+    let mut life = life;
+    life.relay.arm(buffer, call);
+    life
+}
+
+/// Does what a line asks of a relay over any devices.
+fn play_on<W: Write>(
+    alloc: Global,
+    life: Life,
+    groups: usize,
+    stand: &mut Stand,
+    line: &Line,
+    writer: &mut W,
+) -> Result<Life, DrillError>
+    ensures { (next : todo.Stand → Todo) → Leads result
+        (line_asks groups (line_view line.now) (stand_view stand.old) next)
+        (next (stand_view stand.new))
+        life (W.contents writer.old) (W.contents writer.new) }
+{
+    let mut life = life;
+    let stop = life.relay.stop();
+    match play_line(alloc, &mut life.relay, groups, stand, line, writer) {
+        Ok(()) => noted(life, stop),
+        Err(error) => {
+            life.let_go();
+            Err(error)
+        }
+    }
+}
+
+/// Where the relay was closed since this stop, its history is noted, as a stop writes it.
+fn noted(life: Life, stop: u64) -> Result<Life, DrillError>
+    ensures relay { IfOk result (λ noted. noted.relay ≡ life.relay) }
+    ensures memory { IfErr result (λ error. error ≡ faults.Memory) }
+{
+    if life.relay.stop() == stop {
+        return Ok(life);
+    }
+    match life.relay.history() {
+        Ok(history) => Ok(with_history(life, history)),
+        Err(_error) => {
+            life.let_go();
+            Err(DrillError::Memory)
+        }
+    }
+}
+
+/// The same with this history of the last stop.
+fn with_history(life: Life, history: Vec<u8>) -> Life
+    ensures { result.relay ≡ life.relay }
+{
+    let Life {
+        relay,
+        history: before,
+    } = life;
+    drop(before);
+    Life {
+        relay,
+        history: Some(history),
+    }
+}
+
+/// The relay is killed, and repaired and started at the moment that a line named last: nobody is
+/// here then.
+fn crash<W: Write>(
+    rt: &impl RandomSource,
+    alloc: Global,
+    life: Life,
+    stand: &mut Stand,
+    writer: &mut W,
+) -> Result<Life, DrillError>
+    ensures { (next : todo.Stand → Todo) → Leads result
+        (todo.Crashing stand.old.moment (next (deserted (stand_view stand.old))))
+        (next (stand_view stand.new))
+        life (W.contents writer.old) (W.contents writer.new) }
+{
+    let life = revive(rt, alloc, life, stand.moment)?;
+    stand.sessions = Vec::new(alloc);
+    match print_repaired(writer) {
+        Ok(()) => Ok(life),
+        Err(_error) => {
+            life.let_go();
+            Err(DrillError::Unwritten)
+        }
+    }
+}
+
+/// Does what a line of a script asks. What `crash` and `fail` ask is asked elsewhere.
 fn play_line<S: BlockStore, W: Write>(
     alloc: Global,
     relay: &mut System<S>,
@@ -103,12 +222,26 @@ fn play_line<S: BlockStore, W: Write>(
             stand.piece = Some(size);
             Ok(())
         }
-        Line::Turn(session, now) => perform(relay, Event::Turn { session, now }, writer),
-        Line::Write(group, now) => perform(relay, Event::Write { group, now }, writer),
-        Line::Rounds(count, now) => rounds(relay, groups, &stand.sessions, count, now, writer),
+        Line::Turn(session, now) => {
+            stand.moment = now;
+            perform(relay, Event::Turn { session, now }, writer)
+        }
+        Line::Write(group, now) => {
+            stand.moment = now;
+            perform(relay, Event::Write { group, now }, writer)
+        }
+        Line::Rounds(count, now) => {
+            stand.moment = now;
+            rounds(relay, groups, &stand.sessions, count, now, writer)
+        }
         Line::Break(session) => perform(relay, Event::Break { session }, writer),
-        Line::Expire(shard, now) => perform(relay, Event::Expire { shard, now }, writer),
+        Line::Expire(shard, now) => {
+            stand.moment = now;
+            perform(relay, Event::Expire { shard, now }, writer)
+        }
         Line::Fail(_, _) => Ok(()),
+        // Devices of no kind are repaired here.
+        Line::Crash => Err(DrillError::Unrepaired),
         Line::Restart => restart(relay, writer),
         Line::Report => print_report(alloc, relay, writer),
     }

@@ -2,8 +2,8 @@
 ghost use Rattle.std.specs.Prelude.{◌≡◌, ◌<◌, ◌∷◌, length};
 ghost use Rattle.relay_core.specs.Views.{fault_view, output_view};
 ghost use Rattle.relay_drill.specs.Print as terms;
-ghost use Rattle.relay_drill.specs.Print.{lines_of, printed, restart_text, session_line};
-ghost use Rattle.relay_drill.specs.Print.{session_lines};
+ghost use Rattle.relay_drill.specs.Print.{lines_of, printed, repaired_text, restart_text};
+ghost use Rattle.relay_drill.specs.Print.{session_line, session_lines};
 ghost use Rattle.relay_report.specs.Written.{Writes};
 
 use itoa::Buffer;
@@ -37,6 +37,13 @@ pub fn print_restart<W: Write>(writer: &mut W, output: &Output) -> Result<(), Un
         Output::Quiet => put(writer, b"restarted\n"),
         Output::Sent(_, _) | Output::Ended(_, _) | Output::Refused(_) => print(writer, output),
     }
+}
+
+/// Prints that the relay was killed, and repaired.
+pub fn print_repaired<W: Write>(writer: &mut W) -> Result<(), Unwritten>
+    ensures { Writes result repaired_text (W.contents writer.old) (W.contents writer.new) }
+{
+    put(writer, b"repaired\n")
 }
 
 /// The code and the name of a fault (docs/PROTOCOL.md, Errors of the core).

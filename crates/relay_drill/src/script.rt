@@ -56,11 +56,12 @@ enum Keyword {
     Expire,
     Fail,
     Restart,
+    Crash,
     Report,
 }
 
 /// How each keyword is spelled.
-const KEYWORDS: [(&[u8], Keyword); 12] = [
+const KEYWORDS: [(&[u8], Keyword); 13] = [
     (b"open", Keyword::Open),
     (b"send", Keyword::Send),
     (b"raw", Keyword::Raw),
@@ -72,6 +73,7 @@ const KEYWORDS: [(&[u8], Keyword); 12] = [
     (b"expire", Keyword::Expire),
     (b"fail", Keyword::Fail),
     (b"restart", Keyword::Restart),
+    (b"crash", Keyword::Crash),
     (b"report", Keyword::Report),
 ];
 
@@ -92,6 +94,7 @@ fn read_line(alloc: Global, config: &Config, line: &[u8]) -> Result<Option<Line>
         Some(Keyword::Expire) => Ok(expire(rest)),
         Some(Keyword::Fail) => Ok(fail(&config.buffers.buffers, rest)),
         Some(Keyword::Restart) => Ok(alone(Line::Restart, rest)),
+        Some(Keyword::Crash) => Ok(alone(Line::Crash, rest)),
         Some(Keyword::Report) => Ok(alone(Line::Report, rest)),
         None => Ok(None),
     }
@@ -251,7 +254,7 @@ fn fail(buffers: &[BufferConf], rest: Option<&[u8]>) -> Option<Line>
     Some(Line::Fail(buffer, call))
 }
 
-/// `restart` and `report`, by what follows the keyword: nothing.
+/// `restart`, `crash` and `report`, by what follows the keyword: nothing.
 fn alone(line: Line, rest: Option<&[u8]>) -> Option<Line>
     ensures { option_map line_view result
         ≡ line_alone (line_view line) (parts_after 32 rest.entry) }

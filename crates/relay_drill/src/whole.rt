@@ -8,7 +8,7 @@ ghost use Rattle.relay_drill.specs.Stores.{AreStoresOf};
 ghost use Rattle.relay_drill.specs.declared.whole.Unread.TheVariants as reasons;
 
 use crate::fault::DrillError;
-use crate::play::{Store, play};
+use crate::play::{Life, Store, play};
 use crate::script::read_script;
 use block_shelf::BeginError;
 use cyc_block::{BlockStore, FailAt, MemoryBlocks};
@@ -57,10 +57,18 @@ pub fn drill<R: Read, W: Write>(
     };
     let groups = config.buffers.groups.len();
     match System::new(rt, alloc, config, stores) {
-        Ok(mut relay) => {
-            let played = play(alloc, &mut relay, groups, &lines, writer);
-            relay.let_go();
-            played
+        Ok(relay) => {
+            let life = Life {
+                relay,
+                history: None,
+            };
+            match play(rt, alloc, life, groups, &lines, writer) {
+                Ok(life) => {
+                    life.let_go();
+                    Ok(())
+                }
+                Err(error) => Err(error),
+            }
         }
         Err(error) => Err(refused(error)),
     }

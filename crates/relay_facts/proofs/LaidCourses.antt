@@ -39,7 +39,8 @@ pub laid_begun : (w : Terms) → IsSound w → (begun : ℕ → Course) → AreL
 laid_begun w sound begun laid g size group there fits h other at =
     put_at_both (IsLaid other) begun g (begun_in (slice_get w.groups g) (begun g) size) h
     (λ e.
-    let same : group ≡ other = same_Some group other (sym there ∙ ap (slice_get w.groups) (sym e) ∙ at)
+    let same : group ≡ other = same_Some group other
+    (sym there ∙ ap (slice_get w.groups) (sym e) ∙ at)
     in
     subst (λ (one : Group). IsLaid one (begun_in (slice_get w.groups g) (begun g) size)) same
     (subst (IsLaid group) (sym (begun_in_is w.groups g group (begun g) size there))

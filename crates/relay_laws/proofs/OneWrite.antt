@@ -1,6 +1,7 @@
 -- A Write in which no device fails leads to one world.
 use Rattle.std.proofs.Common.{◌≡◌, ◌∙◌, ◌<◌, ◌++◌, ◌∷◌, [], ℕ, ◌+◌, true, false, nat_lt}
-use Rattle.std.proofs.Common.{nat_le, slice_get, List, Option, Some, None, refl, sym, ap, subst, arith}
+use Rattle.std.proofs.Common.{nat_le, slice_get, List, Option, Some, None, refl, sym, ap, subst}
+use Rattle.std.proofs.Common.{arith}
 use Rattle.std.proofs.Common.{if◌then◌else◌}
 use Rattle.std.proofs.lemmas.Bool.{le-leb, lt-ltb, le-ltb, lt-leb}
 use Rattle.news_terms.specs.Places.{Place, last_cycle}
@@ -12,7 +13,8 @@ use Rattle.relay_model.specs.World.{Forgotten, IsKept, HasFailed, with_failures}
 use Rattle.relay_model.specs.World as world
 use Rattle.relay_model.specs.Writers.{Writes, NoJob, Pops, HasBegun, FindsWorn, WritesBlock}
 use Rattle.relay_model.specs.Writers.{FailsToWrite, HasStored, Settles, Closes, Forgets, TellsKept}
-use Rattle.relay_model.specs.Writers.{TellsFailed, begun_in, job_size, place_for, token_at, with_stage}
+use Rattle.relay_model.specs.Writers.{TellsFailed, begun_in, job_size, place_for, token_at}
+use Rattle.relay_model.specs.Writers.{with_stage}
 use Rattle.relay_model.specs.Writers.{gaining, writer_at, popped, answered}
 
 -- the world after a begin, or after it was found worn

@@ -78,8 +78,8 @@ writes_done g (event ∷ events) (output ∷ outputs) =
 abbrev pub RestartsNone : Event → Output → Type 0
 RestartsNone event output = event ≡ Restart → output ≢ Quiet
 
--- a run of any events in which no Restart is done, in each world of which before the last the writer
--- of this group has a job, and in which it finds no fault
+-- a run of any events in which no Restart is done, in each world of which before the last the
+-- writer of this group has a job, and in which it finds no fault
 abbrev pub RunOfJob : Terms → (g : ℕ) → World → List Event → List Output → World → Type 0
 RunOfJob w g x [] [] x' = x' ≡ x
 RunOfJob w g x (event ∷ events) (output ∷ outputs) x' =

@@ -3,7 +3,8 @@ ghost use Rattle.std.specs.Prelude.{◌≡◌, ◌≢◌, ◌+◌, ◌<◌, ◌�
 ghost use Rattle.relay_model.specs.Run.{Event, Step, Restart, Write};
 ghost use Rattle.relay_model.specs.State.{Job};
 ghost use Rattle.relay_model.specs.Terms.{Terms};
-ghost use Rattle.relay_model.specs.World.{World, Fault, Output, Quiet, Refuses, Idle, Popped, IsKept};
+ghost use Rattle.relay_model.specs.World.{World, Fault, Output, Quiet, Refuses, Idle, Popped};
+ghost use Rattle.relay_model.specs.World.{IsKept};
 ghost use Rattle.relay_model.specs.World.{with_failures};
 ghost use Rattle.relay_model.specs.Writers.{Writes, job_size};
 ghost use Rattle.relay_facts.specs.Sound.{IsSound};
@@ -39,10 +40,10 @@ pub fn writes_of_a_job()
         → x'.work.writer g ≢ Idle }
 {}
 
-/// In every run, whatever other events stand between but a Restart that is done, refused ones too, a
-/// job of n blocks without a fault takes n + 5 Writes of its group that find it, from its pop to its
-/// answer, and fewer before the answer. The answer is that it was kept, to the session that brought
-/// it.
+/// In every run, whatever other events stand between but a Restart that is done, refused ones too,
+/// a job of n blocks without a fault takes n + 5 Writes of its group that find it, from its pop to
+/// its answer, and fewer before the answer. The answer is that it was kept, to the session that
+/// brought it.
 pub fn writes_along_a_run()
     ensures left { (w : Terms) (x x' : World) (g : ℕ) (events : List Event)
         (outputs : List Output) → RunOfJob w g x events outputs x'

@@ -14,7 +14,7 @@ returns-then-refused g c = λ next.
     goes_open c.args.session c.args.peer (next (with_session stand c.args.session)) (next stand)
     c.args.relay.now c.step-output.new.self c.step-output.result true
     (g.W.Write.contents c.args.writer.now) (g.W.Write.contents c.print-printed.new.writer)
-    (sym c.is_refused-refused.ensures ∙ c.if-refused.true) c.step-output.ensures.steps
+    (sym c.is_refused-refused.ensures ∙ c.if-refused.true) c.step-output.ensures.leaves
     c.step-output.ensures.frame c.in_ok-printed.ensures
 
 pub returns : goal.returns
@@ -29,7 +29,7 @@ returns g c = λ next.
     (goes_open c.args.session c.args.peer opened (next stand) c.args.relay.now
     c.step-output.new.self c.step-output.result false (g.W.Write.contents c.args.writer.now)
     (g.W.Write.contents c.print-printed.new.writer)
-    (sym c.is_refused-refused.ensures ∙ c.if-refused.false) c.step-output.ensures.steps
+    (sym c.is_refused-refused.ensures ∙ c.if-refused.false) c.step-output.ensures.leaves
     c.step-output.ensures.frame c.in_ok-printed.ensures)
 
 pub returns-in_err-printed : goal.returns-in_err-printed
@@ -42,7 +42,7 @@ returns-in_err-printed g c = λ next.
     (breaks_told _ _ _ _ _ _ _ (tells_event _ _ _ c.args.relay.now c.step-output.result
     (Answered output) c.step-output.new.self (does_open c.args.session c.args.peer opened
     (next stand) output (is_refused output) refl)
-    c.step-output.ensures.steps c.step-output.ensures.frame) c.in_err-printed.ensures)
+    c.step-output.ensures.leaves c.step-output.ensures.frame) c.in_err-printed.ensures)
 
 pub returns-in_err-push : goal.returns-in_err-push
 returns-in_err-push g c = λ next.
@@ -52,5 +52,5 @@ returns-in_err-push g c = λ next.
     (goes_open c.args.session c.args.peer (next (with_session stand c.args.session)) (next stand)
     c.args.relay.now c.step-output.new.self c.step-output.result false
     (g.W.Write.contents c.args.writer.now) (g.W.Write.contents c.print-printed.new.writer)
-    (sym c.is_refused-refused.ensures ∙ c.if-refused.false) c.step-output.ensures.steps
+    (sym c.is_refused-refused.ensures ∙ c.if-refused.false) c.step-output.ensures.leaves
     c.step-output.ensures.frame c.in_ok-printed.ensures)

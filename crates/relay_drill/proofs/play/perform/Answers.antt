@@ -8,7 +8,7 @@ returns g c = λ more.
     goes_told _ _ _ _ _ _ _ (tells_event (event_view c.args.event) _ more c.args.relay.now
     c.step-output.result _ c.step-output.new.self
     (does_next (event_view c.args.event) more (output_view c.step-output.result))
-    c.step-output.ensures.steps c.step-output.ensures.frame)
+    c.step-output.ensures.leaves c.step-output.ensures.frame)
     c.in_ok-printed.ensures
 
 pub returns-in_err-printed : goal.returns-in_err-printed
@@ -18,5 +18,5 @@ returns-in_err-printed g c = λ more.
     (breaks_told _ _ _ _ _ _ _ (tells_event (event_view c.args.event) _ more c.args.relay.now
     c.step-output.result _ c.step-output.new.self
     (does_next (event_view c.args.event) more (output_view c.step-output.result))
-    c.step-output.ensures.steps c.step-output.ensures.frame)
+    c.step-output.ensures.leaves c.step-output.ensures.frame)
     c.in_err-printed.ensures)

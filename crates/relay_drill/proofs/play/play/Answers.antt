@@ -1,18 +1,17 @@
 use Rattle.relay_drill.specs.Progress.{stand_view}
-use Rattle.relay_drill.specs.Todo.{Done}
-use Rattle.relay_drill.proofs.Courses.{fails_next, goes_next, goes_none, goes_to}
+use Rattle.relay_drill.proofs.Courses.{fails_as, goes_next, goes_none, goes_to}
 use Rattle.relay_drill.proofs.Todos.{line_next, line_last}
 use Rattle.relay_drill.proofs.play.play.Goals as goal
 
 pub loop-line-init : goal.loop-line-init
-loop-line-init g c = rw c.new.ensures.items (goes_none _ c.args.relay.now _)
+loop-line-init g c = rw c.new.ensures.items (goes_none _ c.args.life.relay _)
 
 pub loop-line-preserved : goal.loop-line-preserved
 loop-line-preserved g c =
     goes_next _ _ _ _ _ _ _ _ _ _
     (line_next c.args.groups c.loop-line.line-index c.args.lines.now c.line-item.result
     (stand_view c.loop-line.stand) c.loop-line-test.true c.line-item.is)
-    c.loop-line.invariant (c.in_ok-play_one.ensures _)
+    c.loop-line.invariant (c.in_ok-living.ensures _)
 
 pub returns : goal.returns
 returns g c =
@@ -21,10 +20,10 @@ returns g c =
     (stand_view c.loop-line.stand) c.loop-line-test.false)
     c.loop-line.invariant
 
-pub returns-in_err-play_one : goal.returns-in_err-play_one
-returns-in_err-play_one g c =
-    fails_next _ c.from_residual.result _ _ _ Done _ _ _ _ _ _ c.from_residual.ensures.0
+pub returns-in_err-living : goal.returns-in_err-living
+returns-in_err-living g c =
+    fails_as _ c.from_residual.result _ _ _ _ _ _ _ _ _ c.from_residual.ensures.0
     c.from_residual.ensures.1
     (line_next c.args.groups c.loop-line.line-index c.args.lines.now c.line-item.result
     (stand_view c.loop-line.stand) c.loop-line-test.true c.line-item.is)
-    c.loop-line.invariant (c.in_err-play_one.ensures _)
+    c.loop-line.invariant (c.in_err-living.ensures _)

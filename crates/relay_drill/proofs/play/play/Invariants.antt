@@ -8,4 +8,4 @@ abbrev pub invariant-loop-line : goal.invariant-loop-line
 invariant-loop-line g l =
     Goes (lines_ask l.groups (map line_view l.lines) first_stand)
     (lines_ask l.groups (map line_view (drop l.line-index l.lines)) (stand_view l.stand))
-    l.fn.relay l.relay (g.W.Write.contents l.fn.writer) (g.W.Write.contents l.writer)
+    l.fn.life.relay l.living.relay (g.W.Write.contents l.fn.writer) (g.W.Write.contents l.writer)

@@ -1,8 +1,9 @@
-use Rattle.std.proofs.Common.{◌<◌, ◌∙◌, length, sym, subst, List, Ok, ℕ}
+use Rattle.std.proofs.Common.{◌<◌, ◌∙◌, length, sym, subst, List, Err, Ok, ℕ}
 use Rattle.relay_drill.specs.Progress.{Performs, stand_view}
-use Rattle.relay_drill.specs.Todo.{bring_each}
-use Rattle.relay_drill.proofs.Courses.{goes_none}
+use Rattle.relay_drill.specs.Todo.{at_moment, bring_each, deserted}
+use Rattle.relay_drill.proofs.Courses.{goes_none, kills_there}
 use Rattle.relay_drill.proofs.Lines.{done_for}
+use Rattle.relay_drill.specs.declared.fault.DrillError.TheVariants.{Unrepaired}
 use Rattle.relay_drill.proofs.play.play_line.Goals as goal
 
 -- octets that are lent twice are as many both times
@@ -40,18 +41,19 @@ returns-in-Split g c = λ next.
 pub returns-in-Turn : goal.returns-in-Turn
 returns-in-Turn g c = λ next.
     done_for _ _ _ _ _ _ c.args.groups c.args.line.now _ (stand_view c.args.stand.now) next
-    c.in-Turn.is (c.perform.ensures (next (stand_view c.args.stand.now)))
+    c.in-Turn.is (c.perform.ensures (next (at_moment (stand_view c.args.stand.now) c.in-Turn.now)))
 
 pub returns-in-Write : goal.returns-in-Write
 returns-in-Write g c = λ next.
     done_for _ _ _ _ _ _ c.args.groups c.args.line.now _ (stand_view c.args.stand.now) next
-    c.in-Write.is (c.perform-in-Write.ensures (next (stand_view c.args.stand.now)))
+    c.in-Write.is (c.perform-in-Write.ensures
+    (next (at_moment (stand_view c.args.stand.now) c.in-Write.now)))
 
 pub returns-in-Rounds : goal.returns-in-Rounds
 returns-in-Rounds g c = λ next.
     let rounds = rw c.deref-in-Rounds.ensures.value at c.rounds.ensures in
     done_for _ _ _ _ _ _ c.args.groups c.args.line.now _ (stand_view c.args.stand.now) next
-    c.in-Rounds.is (rounds (next (stand_view c.args.stand.now)))
+    c.in-Rounds.is (rounds (next (at_moment (stand_view c.args.stand.now) c.in-Rounds.now)))
 
 pub returns-in-Break : goal.returns-in-Break
 returns-in-Break g c = λ next.
@@ -61,7 +63,8 @@ returns-in-Break g c = λ next.
 pub returns-in-Expire : goal.returns-in-Expire
 returns-in-Expire g c = λ next.
     done_for _ _ _ _ _ _ c.args.groups c.args.line.now _ (stand_view c.args.stand.now) next
-    c.in-Expire.is (c.perform-in-Expire.ensures (next (stand_view c.args.stand.now)))
+    c.in-Expire.is (c.perform-in-Expire.ensures
+    (next (at_moment (stand_view c.args.stand.now) c.in-Expire.now)))
 
 pub returns-in-Fail : goal.returns-in-Fail
 returns-in-Fail g c = λ next.
@@ -81,3 +84,13 @@ returns-in-Report g c = λ next.
     done_for _ _ _ _ _ _ c.args.groups c.args.line.now _ (stand_view c.args.stand.now) next
     c.in-Report.is
     (c.print_report.ensures (next (stand_view c.args.stand.now)))
+
+pub returns-in-Crash : goal.returns-in-Crash
+returns-in-Crash g c = λ next.
+    let stand = stand_view c.args.stand.now in
+    done_for (Err Unrepaired) c.args.relay.now c.args.relay.now
+    (g.W.Write.contents c.args.writer.now) (g.W.Write.contents c.args.writer.now) (next stand)
+    c.args.groups c.args.line.now _ stand next
+    c.in-Crash.is
+    (kills_there _ stand.moment (next (deserted stand)) c.args.relay.now c.args.relay.now _ _
+    (goes_none _ c.args.relay.now _))

@@ -81,6 +81,13 @@ returns-in-Some-Restart c =
     c.keyword_of.ensures (c.in-Some-Restart.is ∙ ap Some c.in-Some-Restart.field-0-is)
     (line_gives c.alone.result _ c.alone.ensures)
 
+pub returns-in-Some-Crash : goal.returns-in-Some-Crash
+returns-in-Some-Crash c =
+    keyword_gives (names_of c.args.config.now) c.args.line.now c.cut.result.0.now
+    (parts_after 32 c.cut.result.1) c.keyword_of.result _ (Ok c.alone-in-Some-Crash.result)
+    c.cut.ensures c.keyword_of.ensures (c.in-Some-Crash.is ∙ ap Some c.in-Some-Crash.field-0-is)
+    (line_gives c.alone-in-Some-Crash.result _ c.alone-in-Some-Crash.ensures)
+
 pub returns-in-Some-Report : goal.returns-in-Some-Report
 returns-in-Some-Report c =
     keyword_gives (names_of c.args.config.now) c.args.line.now c.cut.result.0.now

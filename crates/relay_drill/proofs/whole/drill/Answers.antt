@@ -1,11 +1,12 @@
-use Rattle.std.proofs.Common.{◌≡◌, ℕ, List, Global, map, Err, Ok, refl, subst, vec_items}
-use Rattle.relay_drill.specs.Drill.{first_world, lines_of_script}
+use Rattle.std.proofs.Common.{◌≡◌, ℕ, List, Global, map, Err, None, Ok, refl, subst, vec_items}
+use Rattle.relay_drill.specs.Drill.{lines_of_script}
 use Rattle.relay_drill.specs.Fault.{line_view}
-use Rattle.relay_drill.specs.Progress.{Performs}
+use Rattle.relay_drill.specs.Progress.{Leads}
 use Rattle.relay_drill.specs.Todo.{Done, first_stand, lines_ask}
 use Rattle.relay_drill.specs.declared.line.Line.{Line}
-use Rattle.relay_drill.proofs.Drills.{bad_line, begun, drill_gives, memory_at_once, unbegun}
-use Rattle.relay_drill.proofs.Drills.{performs_at, unread}
+use Rattle.relay_drill.specs.declared.play.Life.{Life}
+use Rattle.relay_drill.proofs.Drills.{bad_line, begun, drill_done, drill_stops, memory_at_once}
+use Rattle.relay_drill.proofs.Drills.{unbegun, unread}
 use Rattle.relay_drill.proofs.whole.drill.Goals as goal
 
 pub returns-in-Err : goal.returns-in-Err
@@ -31,29 +32,46 @@ returns g c =
     (map line_view c.in-Ok-read_script.lines.items) c.refused.ensures c.in-Ok.ensures
     (rw (← c.deref.ensures.value) c.in-Ok-read_script.ensures)
 
-pub returns-in-Ok-new : goal.returns-in-Ok-new
-returns-in-Ok-new g c =
-    let lines = map line_view c.in-Ok-read_script.lines.items in
-    let text = c.in-Ok.script.items in
+pub returns-in-Ok-play : goal.returns-in-Ok-play
+returns-in-Ok-play g c =
     let before = g.W.Write.contents c.args.writer.now in
-    let after = g.W.Write.contents c.play-played.new.writer in
+    let after = g.W.Write.contents c.play.new.writer in
+    let life : Life = record { relay = c.in-Ok-new.relay; history = None } in
     let says : lines_of_script c.args.config c.in-Ok.script.items
     ≡ Ok (map line_view c.in-Ok-read_script.lines.items) =
     rw (← c.deref.ensures.value) c.in-Ok-read_script.ensures in
-    let Q : List Line → Type 0 = λ read. Performs c.play-played.result
-    (lines_ask c.len-groups.result (map line_view read) first_stand) Done c.in-Ok-new.relay
-    c.play-played.new.relay (g.W.Write.contents c.args.writer.now)
-    (g.W.Write.contents c.play-played.new.writer) in
-    let R : ℕ → Type 0 = λ groups. Performs c.play-played.result
-    (lines_ask groups (map line_view c.in-Ok-read_script.lines.items) first_stand) Done
-    c.in-Ok-new.relay
-    c.play-played.new.relay (g.W.Write.contents c.args.writer.now)
-    (g.W.Write.contents c.play-played.new.writer) in
-    drill_gives c.args.config c.play-played.new.relay c.play-played.result
-    (g.R.Read.remaining c.args.reader.now) text lines before after c.in-Ok.ensures says
-    (performs_at c.play-played.result _ Done c.in-Ok-new.relay c.play-played.new.relay before after
-    c.args.config first_world
-    (subst R c.len-groups.ensures (subst Q c.deref-in-Ok-new.ensures.value c.play-played.ensures))
+    let Q : List Line → Type 0 = λ read. Leads c.play.result
+    (lines_ask c.len-groups.result (map line_view read) first_stand) Done life before after in
+    let R : ℕ → Type 0 = λ groups. Leads c.play.result
+    (lines_ask groups (map line_view c.in-Ok-read_script.lines.items) first_stand) Done life
+    before after in
+    drill_done c.args.config c.play.result (g.R.Read.remaining c.args.reader.now)
+    c.in-Ok.script.items
+    (map line_view c.in-Ok-read_script.lines.items) life c.in-Ok-play.life before after
+    c.in-Ok.ensures
+    says
+    (subst R c.len-groups.ensures (subst Q c.deref-in-Ok-new.ensures.value c.play.ensures))
     (begun c.args.config _ c.in-Ok-new_stores.stores.items c.in-Ok-new.relay
-    c.in-Ok-new_stores.ensures.stores
-    c.in-Ok-new.ensures.begins))
+    c.in-Ok-new_stores.ensures.stores c.in-Ok-new.ensures.begins) c.in-Ok-play.is
+
+pub returns-in-Ok-new : goal.returns-in-Ok-new
+returns-in-Ok-new g c =
+    let before = g.W.Write.contents c.args.writer.now in
+    let after = g.W.Write.contents c.play.new.writer in
+    let life : Life = record { relay = c.in-Ok-new.relay; history = None } in
+    let says : lines_of_script c.args.config c.in-Ok.script.items
+    ≡ Ok (map line_view c.in-Ok-read_script.lines.items) =
+    rw (← c.deref.ensures.value) c.in-Ok-read_script.ensures in
+    let Q : List Line → Type 0 = λ read. Leads c.play.result
+    (lines_ask c.len-groups.result (map line_view read) first_stand) Done life before after in
+    let R : ℕ → Type 0 = λ groups. Leads c.play.result
+    (lines_ask groups (map line_view c.in-Ok-read_script.lines.items) first_stand) Done life
+    before after in
+    drill_stops c.args.config c.play.result (g.R.Read.remaining c.args.reader.now)
+    c.in-Ok.script.items
+    (map line_view c.in-Ok-read_script.lines.items) life c.in-Err-play.error before after
+    c.in-Ok.ensures
+    says
+    (subst R c.len-groups.ensures (subst Q c.deref-in-Ok-new.ensures.value c.play.ensures))
+    (begun c.args.config _ c.in-Ok-new_stores.stores.items c.in-Ok-new.relay
+    c.in-Ok-new_stores.ensures.stores c.in-Ok-new.ensures.begins) c.in-Err-play.is
