@@ -55,7 +55,7 @@ Printed = namedtuple("Printed", "out err events most statuses")
 NOTHING = Printed([], [], [], [], [0])
 
 # The lines that tell what happens while a relay is served (docs/OPERATING.md, Lines).
-EVENT = re.compile(r"(serving|recovering|recovered|starting|closed|failed|waiting)( \w+=\S*)+|stopping|stopped")
+EVENT = re.compile(r"(serving|recovering|recovered|starting|closed|failed|left|waiting)( \w+=\S*)+|stopping|stopped")
 
 # The lines that say what of a file.
 FILES = ("file", "folder", "pipe", "link", "symlink", "mode", "cut", "poke", "remove", "missing",
@@ -436,7 +436,9 @@ class Row:
         out, err = program.told(program.out), program.told(program.err)
         status = program.process.returncode
         is_told = re.fullmatch(r"\w+\.conf:\d+: \d+ \w+", "\n".join(err))
-        if (status, len(out), err) != (0, 1, []) and not (status == 2 and is_told and not out):
+        is_unbegun = out[1:] == ["relay: nothing kept yet: a start begins"]
+        is_taken = status == 0 and not err and is_unbegun
+        if not is_taken and not (status == 2 and is_told and not out):
             raise Wrong(f"check ended with {status}: {out} {err}")
         self.told = out[0] if out else err[0]
         return err
