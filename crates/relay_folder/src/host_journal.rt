@@ -4,6 +4,7 @@ ghost use Rattle.relay_folder.specs.Place.{Nothing};
 
 use crate::history_place::HistoryPlace;
 use crate::host::{HostHistory, is_file_at};
+use crate::journal_file::JournalFile;
 use crate::journal_place::JournalPlace;
 use crate::socket_place::path_in;
 use std::alloc::{AllocError, Global};
@@ -24,8 +25,6 @@ pub struct HostJournal<'a, R> {
     path: PathBuf,
     /// The file, as one that is replaced.
     text: HostHistory<'a, R>,
-    /// The file, as one behind whose end octets are put, once some were.
-    end: Option<File>,
 }
 
 // Written out, so that no crate above proves anew how each part is let go.
@@ -35,7 +34,6 @@ impl<R> Drop for HostJournal<'_, R> {
             rt: _,
             path: _,
             text: _,
-            end: _,
         } = self;
     }
 }
@@ -49,12 +47,7 @@ impl<'a, R> HostJournal<'a, R> {
     ) -> Result<HostJournal<'a, R>, AllocError> {
         let path = path_in(alloc, folder, NAME)?;
         let text = HostHistory::named(rt, alloc, folder, NAME, BESIDE)?;
-        Ok(HostJournal {
-            rt,
-            path,
-            text,
-            end: None,
-        })
+        Ok(HostJournal { rt, path, text })
     }
 }
 
@@ -73,7 +66,6 @@ impl<R: Files<File = File>> HistoryPlace for HostJournal<'_, R> {
     }
 
     fn remove(&mut self) -> io::Result<()> {
-        self.end = None;
         self.text.remove()
     }
 
@@ -90,8 +82,6 @@ impl<R: Files<File = File>> HistoryPlace for HostJournal<'_, R> {
     }
 
     fn put_in_place(&mut self) -> io::Result<()> {
-        // What was opened is the file that another takes the place of.
-        self.end = None;
         self.text.put_in_place()
     }
 
@@ -101,14 +91,11 @@ impl<R: Files<File = File>> HistoryPlace for HostJournal<'_, R> {
 }
 
 impl<R: Files<File = File>> JournalPlace for HostJournal<'_, R> {
-    fn append(&mut self, octets: &[u8]) -> io::Result<()> {
-        let mut file = match self.end.take() {
-            Some(file) => file,
-            None => end_of(self.rt, self.path.as_str())?,
-        };
-        let written = file.write_all(octets);
-        self.end = Some(file);
-        written
+    type Open = HostJournalFile;
+
+    fn open(&mut self) -> io::Result<HostJournalFile> {
+        let file = end_of(self.rt, self.path.as_str())?;
+        Ok(HostJournalFile { file })
     }
 }
 
@@ -119,5 +106,32 @@ fn end_of<R: Files<File = File>>(rt: &R, path: &str) -> io::Result<File> {
         Ok(true) => OpenOptions::new().append(true).open(rt, path),
         Ok(false) => Err(io::Error::from(ErrorKind::NotFound)),
         Err(error) => Err(error),
+    }
+}
+
+/// The file `relay.log`, open.
+#[derive(Drop)]
+pub struct HostJournalFile {
+    file: File,
+}
+
+impl JournalFile for HostJournalFile {
+    // As of a history's file: nothing is promised, so contracts see no octet of it.
+    ghost text = { λ file. [] };
+
+    ghost lasting = { λ file. [] };
+
+    ghost honest = { λ file. ⊥ };
+
+    fn cut(&mut self) -> io::Result<()> {
+        self.file.set_len(0)
+    }
+
+    fn append(&mut self, octets: &[u8]) -> io::Result<()> {
+        self.file.write_all(octets)
+    }
+
+    fn flush(&mut self) -> io::Result<()> {
+        self.file.sync_data()
     }
 }

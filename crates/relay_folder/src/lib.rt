@@ -7,7 +7,8 @@
 //!
 //! It all stands over any `HistoryPlace`, of which contracts say what it holds; `HostHistory` is
 //! the one of the machine. The file `relay.log` beside it (docs/FORMATS.md, Journal file) is one
-//! too, behind whose end octets are put: `JournalPlace`, and `HostJournal` of the machine.
+//! too, whose file is opened to put octets behind its end: `JournalPlace`, and `HostJournal` of the
+//! machine.
 //!
 //! The socket in a relay's folder by which whoever may write to it tells the relay to stop, or asks
 //! what it holds (docs/PROTOCOL.md, `stop` and `report`).
@@ -18,6 +19,7 @@ mod control;
 mod history_place;
 mod host;
 mod host_journal;
+mod journal_file;
 mod journal_place;
 mod keeping;
 mod origin;
@@ -29,7 +31,8 @@ pub use asking::{ask, is_served};
 pub use control::Control;
 pub use history_place::HistoryPlace;
 pub use host::HostHistory;
-pub use host_journal::HostJournal;
+pub use host_journal::{HostJournal, HostJournalFile};
+pub use journal_file::JournalFile;
 pub use journal_place::JournalPlace;
 pub use keeping::keep;
 pub use origin::{Origin, origin_of, take_away};
