@@ -1,15 +1,16 @@
 -- How a journal is written while its relay is served (docs/FORMATS.md, Journal file).
-use Rattle.std.specs.Prelude.{◌≡◌, ℕ, ◌∷◌, ◌++◌, ◌||◌, Bool, false, true, not, List, []}
-use Rattle.std.specs.Prelude.{MatchBool, Some, zero, suc}
+use Rattle.std.specs.Prelude.{◌≡◌, ℕ, ◌+◌, ◌-◌, ◌^◌, min, ◌∷◌, ◌++◌, ◌&&◌, ◌||◌, Bool, false, true}
+use Rattle.std.specs.Prelude.{not, List, [], MatchBool, length, nat_le, nat_lt}
+use Rattle.std.specs.Prelude.{Option, None, Some, zero, suc}
 use Rattle.std.specs.List.{flat_map}
 use Rattle.relay_folder.specs.Behind.{IsBehind}
-use Rattle.relay_folder.specs.Keeping.{IsNotKept}
-use Rattle.relay_folder.specs.declared.history_place.HistoryPlace as places
+use Rattle.relay_folder.specs.declared.journal_file.JournalFile as files
 use Rattle.relay_log.specs.Journal.{Entry, entry_octets, journal_octets}
 use Rattle.relay_journal.specs.declared.lines.JournalLine.{JournalLine}
-use Rattle.relay_journal.specs.declared.lines.JournalLine.TheVariants.{LeftOut, Unwritten}
+use Rattle.relay_journal.specs.declared.lines.JournalLine.TheVariants.{LeftOut, Unflushed}
+use Rattle.relay_journal.specs.declared.lines.JournalLine.TheVariants.{Unwritten}
 use Rattle.relay_journal.specs.declared.lines.JournalLines as lines
-use Rattle.relay_journal.specs.declared.lines.ToldJournal.{ToldJournal}
+use Rattle.relay_journal.specs.declared.writing.BegunJournal.{BegunJournal}
 use Rattle.relay_journal.specs.declared.writing.JournalWriter.{JournalWriter}
 
 -- what is told of a call that has failed or not: a failure, where none is told already
@@ -18,81 +19,106 @@ told_of_write true false = Unwritten ∷ []
 told_of_write true true = []
 told_of_write false is_told = []
 
--- a journal is begun, and all that was put behind it since stands there
-abbrev pub begun_in : {P L : Type 0} → JournalWriter P L → Bool
-begun_in writer = writer.is_begun
+-- entries can be put behind the journal: it is begun, all that was put behind it stands there, and
+-- that is less than 256 MB
+abbrev pub is_ready : {F L : Type 0} → JournalWriter F L → Bool
+is_ready writer = writer.is_begun && nat_lt writer.written 268435456
 
--- A call has failed: no journal counts as begun, and that is told where no failure is.
-pub record Fails {P L : Type 0} (l : lines.Ghosts L) (old new : JournalWriter P L) : Type 0 where
-  pub told : l.told new.journal.lines ≡ l.told old.journal.lines ++ told_of_write true old.is_told
-  pub is_told : new.is_told ≡ true
-  pub begun : new.is_begun ≡ false
-  pub place : new.journal.place ≡ old.journal.place
-  pub front : new.front ≡ old.front
-
--- A writer that goes by this stop has begun no journal yet, and told nothing.
-pub record IsNewWriter {P L : Type 0} (journal : ToldJournal P L) (stop : ℕ)
-    (writer : JournalWriter P L)
+-- A writer that is new has the file and the text of a journal that was begun, without entries, and
+-- told nothing.
+pub record IsNewWriter {F L : Type 0} (begun : BegunJournal F) (told : L)
+    (writer : JournalWriter F L)
     : Type 0 where
-  pub journal_is : writer.journal ≡ journal
-  pub front : writer.front.items ≡ journal_octets stop []
-  pub unbegun : writer.is_begun ≡ false
+  pub file : writer.file ≡ begun.file
+  pub front : writer.front ≡ begun.front
+  pub lines : writer.lines ≡ told
+  pub written : writer.written ≡ 0
+  pub begun_is : writer.is_begun ≡ true
   pub untold : writer.is_told ≡ false
 
--- A new journal was begun: its text, which a power cut leaves too, is that of one without entries.
--- Or this has failed, and was told where no failure was: then what was kept before is kept, or the
--- new text is, of which a power cut may leave nothing.
-pub record Begins {P L : Type 0} (p : places.Ghosts P) (l : lines.Ghosts L)
-    (old new : JournalWriter P L)
+-- A call has failed: no journal counts as begun, and that is told where no failure is.
+pub record Fails {F L : Type 0} (l : lines.Ghosts L) (old new : JournalWriter F L) : Type 0 where
+  pub told : l.told new.lines ≡ l.told old.lines ++ told_of_write true old.is_told
+  pub is_told : new.is_told ≡ true
+  pub begun : new.is_begun ≡ false
+  pub file : new.file ≡ old.file
+  pub front : new.front ≡ old.front
+  pub written : new.written ≡ old.written
+
+-- A new journal was begun in the file: its text is that of one without entries. Or this has failed,
+-- and was told where no failure was.
+pub record Begins {F L : Type 0} (f : files.Ghosts F) (l : lines.Ghosts L)
+    (old new : JournalWriter F L)
     : Type 0 where
   pub failed : Bool
   pub begun : new.is_begun ≡ not failed
-  pub told : l.told new.journal.lines
-      ≡ l.told old.journal.lines ++ told_of_write failed old.is_told
+  pub told : l.told new.lines ≡ l.told old.lines ++ told_of_write failed old.is_told
   pub is_told : new.is_told ≡ (failed || old.is_told)
-  pub kept : p.honest old.journal.place → failed ≡ false
-      → p.kept new.journal.place ≡ Some old.front.items
-  pub lasts : p.honest old.journal.place → failed ≡ false
-      → p.lasting new.journal.place ≡ Some old.front.items ∷ []
-  pub unkept : p.honest old.journal.place → failed ≡ true
-      → IsNotKept p old.front.items old.journal.place new.journal.place
-  pub honest : p.honest old.journal.place → p.honest new.journal.place
+  pub text : f.honest old.file → failed ≡ false → f.text new.file ≡ old.front.items
+  pub written : failed ≡ false → new.written ≡ 0
+  pub honest : f.honest old.file → f.honest new.file
   pub front : new.front ≡ old.front
 
--- a new journal was begun, where all that was put behind one didn't stand there
-abbrev pub MakesReady : {P L : Type 0} → places.Ghosts P → lines.Ghosts L
-    → (old new : JournalWriter P L) → Type 0
-MakesReady p l old new = MatchBool old.is_begun (new ≡ old) (Begins p l old new)
+-- a new journal was begun, where nothing could be put behind the one that was there
+abbrev pub MakesReady : {F L : Type 0} → files.Ghosts F → lines.Ghosts L
+    → (old new : JournalWriter F L) → Type 0
+MakesReady f l old new = MatchBool (is_ready old) (new ≡ old) (Begins f l old new)
 
 -- These octets were put behind a journal that was begun: where that was the text of some entries of
 -- a stop, and the octets are those of others, it is the text of the ones and then the others, each
 -- once. Or this has failed, and was told where no failure was: then any octets may stand behind
--- what was kept, and the journal has to be begun anew.
-pub record Puts {P L : Type 0} (p : places.Ghosts P) (l : lines.Ghosts L) (octets : List ℕ)
-    (old new : JournalWriter P L)
+-- what was there, and the journal has to be begun anew.
+pub record Puts {F L : Type 0} (f : files.Ghosts F) (l : lines.Ghosts L) (octets : List ℕ)
+    (old new : JournalWriter F L)
     : Type 0 where
   pub failed : Bool
   pub begun : new.is_begun ≡ not failed
-  pub told : l.told new.journal.lines
-      ≡ l.told old.journal.lines ++ told_of_write failed old.is_told
+  pub told : l.told new.lines ≡ l.told old.lines ++ told_of_write failed old.is_told
   pub is_told : new.is_told ≡ failed
-  pub kept : p.honest old.journal.place → failed ≡ false → (stop : ℕ) → (entries more : List Entry)
-      → p.kept old.journal.place ≡ Some (journal_octets stop entries)
+  pub text : f.honest old.file → failed ≡ false → (stop : ℕ) → (entries more : List Entry)
+      → f.text old.file ≡ journal_octets stop entries
       → octets ≡ flat_map entry_octets more
-      → p.kept new.journal.place ≡ Some (journal_octets stop (entries ++ more))
-  pub behind : p.honest old.journal.place → failed ≡ true
-      → IsBehind (p.kept old.journal.place) (p.kept new.journal.place)
-  pub honest : p.honest old.journal.place → p.honest new.journal.place
+      → f.text new.file ≡ journal_octets stop (entries ++ more)
+  pub behind : f.honest old.file → failed ≡ true → IsBehind (f.text old.file) (f.text new.file)
+  pub written : failed ≡ false
+      → new.written ≡ min (old.written + length octets) (2 ^ 64 - 1)
+  pub honest : f.honest old.file → f.honest new.file
   pub front : new.front ≡ old.front
 
--- Octets are written: behind the journal that was begun, and where none was, or a call has failed
--- since, behind a new one, which is begun first; where that fails nothing is put anywhere.
-pub record Writes {P L : Type 0} (p : places.Ghosts P) (l : lines.Ghosts L) (octets : List ℕ)
-    (old new : JournalWriter P L)
+-- Octets are written: behind the journal that is there, and where that is full, or a call has
+-- failed since it was begun, behind a new one, which is begun first; where that fails nothing is
+-- put anywhere.
+pub record Writes {F L : Type 0} (f : files.Ghosts F) (l : lines.Ghosts L) (octets : List ℕ)
+    (old new : JournalWriter F L)
     : Type 0 where
-  pub begun : JournalWriter P L
-  pub ready : MakesReady p l old begun
-  pub puts : MatchBool begun.is_begun (Puts p l octets begun new) (new ≡ begun)
+  pub begun : JournalWriter F L
+  pub ready : MakesReady f l old begun
+  pub puts : MatchBool begun.is_begun (Puts f l octets begun new) (new ≡ begun)
+
+-- it is time for a flush: so many seconds after the last one, where any is asked for
+abbrev pub is_due : (flushed : ℕ) → (every : Option ℕ) → (now : ℕ) → Bool
+is_due flushed None now = false
+is_due flushed (Some every) now = nat_le (flushed + every) now
+
+-- what is told of a flush that has failed or not
+abbrev pub told_of_flush : (failed : Bool) → List JournalLine
+told_of_flush true = Unflushed ∷ []
+told_of_flush false = []
+
+-- The device has all that is in the file, so that a power cut leaves just that; or this has failed,
+-- and was told. All else stays.
+pub record Flushes {F L : Type 0} (f : files.Ghosts F) (l : lines.Ghosts L)
+    (old new : JournalWriter F L)
+    : Type 0 where
+  pub failed : Bool
+  pub told : l.told new.lines ≡ l.told old.lines ++ told_of_flush failed
+  pub lasts : f.honest old.file → failed ≡ false → f.lasting new.file ≡ f.text old.file ∷ []
+  pub text : f.honest old.file → f.text new.file ≡ f.text old.file
+  pub honest : f.honest old.file → f.honest new.file
+  pub front : new.front ≡ old.front
+  pub written : new.written ≡ old.written
+  pub begun : new.is_begun ≡ old.is_begun
+  pub is_told : new.is_told ≡ old.is_told
 
 -- what is told of so many entries that were left out: nothing of none
 abbrev pub told_of_left : (count : ℕ) → List JournalLine
@@ -100,25 +126,26 @@ told_of_left zero = []
 told_of_left (suc n) = LeftOut (suc n) ∷ []
 
 -- That so many entries were left out is told, where any was; all else stays.
-pub record TellsLeft {P L : Type 0} (l : lines.Ghosts L) (count : ℕ) (old new : JournalWriter P L)
+pub record TellsLeft {F L : Type 0} (l : lines.Ghosts L) (count : ℕ) (old new : JournalWriter F L)
     : Type 0 where
-  pub told : l.told new.journal.lines ≡ l.told old.journal.lines ++ told_of_left count
-  pub place : new.journal.place ≡ old.journal.place
+  pub told : l.told new.lines ≡ l.told old.lines ++ told_of_left count
+  pub file : new.file ≡ old.file
   pub front : new.front ≡ old.front
+  pub written : new.written ≡ old.written
   pub begun : new.is_begun ≡ old.is_begun
   pub is_told : new.is_told ≡ old.is_told
 
 -- octets are written where there are any; whether there are
-abbrev pub WritesSome : {P L : Type 0} → places.Ghosts P → lines.Ghosts L → (octets : List ℕ)
-    → (old new : JournalWriter P L) → (wrote : Bool) → Type 0
-WritesSome p l [] old new wrote = (wrote ≡ false) × (new ≡ old)
-WritesSome p l (octet ∷ octets) old new wrote =
-    (wrote ≡ true) × Writes p l (octet ∷ octets) old new
+abbrev pub WritesSome : {F L : Type 0} → files.Ghosts F → lines.Ghosts L → (octets : List ℕ)
+    → (old new : JournalWriter F L) → (wrote : Bool) → Type 0
+WritesSome f l [] old new wrote = (wrote ≡ false) × (new ≡ old)
+WritesSome f l (octet ∷ octets) old new wrote =
+    (wrote ≡ true) × Writes f l (octet ∷ octets) old new
 
 -- A batch was written: its octets where it has any, and then how many entries it lacks was told.
-pub record WritesBatch {P L : Type 0} (p : places.Ghosts P) (l : lines.Ghosts L)
-    (octets : List ℕ) (left_out : ℕ) (old new : JournalWriter P L) (wrote : Bool)
+pub record WritesBatch {F L : Type 0} (f : files.Ghosts F) (l : lines.Ghosts L)
+    (octets : List ℕ) (left_out : ℕ) (old new : JournalWriter F L) (wrote : Bool)
     : Type 0 where
-  pub written : JournalWriter P L
-  pub writes : WritesSome p l octets old written wrote
+  pub written : JournalWriter F L
+  pub writes : WritesSome f l octets old written wrote
   pub tells : TellsLeft l left_out written new

@@ -1,12 +1,13 @@
 //! The journal of a relay is written while it is served, beside whoever refuses and stores
 //! articles.
-ghost use Rattle.std.specs.Prelude.{◌≡◌, ◌+◌, ◌-◌, ◌^◌, min, nat_le, if◌then◌else◌};
+ghost use Rattle.std.specs.Prelude.{◌≡◌, if◌then◌else◌};
+ghost use Rattle.relay_journal.specs.Writing as terms;
 ghost use Rattle.relay_journal.specs.Writing.{WritesBatch, WritesSome};
 
-use crate::lines::{JournalLines, ToldJournal};
+use crate::lines::JournalLines;
 use crate::writing::JournalWriter;
 use live_journal::{Batch, PendingJournal};
-use relay_folder::{HistoryPlace, JournalPlace};
+use relay_folder::JournalFile;
 use std::alloc::{AllocError, Global};
 use std::sync::Wait;
 use std::sync::atomic::{AtomicBool, Ordering};
@@ -16,10 +17,6 @@ use std::time::{Clock, Duration};
 /// How many octets of entries wait at most until they are put behind the journal.
 pub const ROOM: usize = 4_194_304;
 
-/// How many octets of entries are put behind a journal until a new one is begun, so that a start
-/// has memory for what it reads.
-const MOST_OCTETS: u64 = 268_435_456;
-
 /// For how many milliseconds nobody looks what was said, where nothing was.
 const LONG_NAP: u64 = 100;
 
@@ -28,72 +25,88 @@ const SHORT_NAP: u64 = 10;
 
 /// What writes a relay's journal while it is served.
 #[derive(Drop)]
-pub struct Journaling<'a, P, L> {
-    writer: JournalWriter<P, L>,
+pub struct Journaling<'a, F, L> {
+    writer: JournalWriter<F, L>,
     /// What is said to it.
     pending: &'a PendingJournal,
     /// What is said to while a batch is written.
     spare: Batch,
+    /// After how many seconds at most what was written is flushed, if it is.
+    every: Option<u64>,
 }
 
-impl<'a, P: JournalPlace + Drop, L: JournalLines + Drop> Journaling<'a, P, L> {
-    /// What writes journals of this stop of what is said there. All memory is taken here.
+impl<'a, F: JournalFile + Drop, L: JournalLines + Drop> Journaling<'a, F, L> {
+    /// What writes what is said there, and has the device take it that often in seconds, if at all.
+    /// All memory is taken here.
     pub fn new(
         alloc: Global,
-        journal: ToldJournal<P, L>,
-        stop: u64,
+        writer: JournalWriter<F, L>,
         pending: &'a PendingJournal,
-    ) -> Result<Journaling<'a, P, L>, AllocError> {
-        let writer = JournalWriter::new(alloc, journal, stop)?;
+        every: Option<u64>,
+    ) -> Result<Journaling<'a, F, L>, AllocError> {
         let spare = Batch::new(alloc, ROOM)?;
         Ok(Journaling {
             writer,
             pending,
             spare,
+            every,
         })
     }
 
-    /// What is said to it.
-    pub fn pending(&self) -> &'a PendingJournal {
-        self.pending
-    }
-
-    /// Begins a journal, and writes what is said, batch after batch, until the relay has ended and
-    /// all is written that was said before. One that is full is followed by a new one.
+    /// Writes what is said, batch after batch, until the relay has ended and all is written that
+    /// was said before.
     pub fn go_on<R: Wait + Clock>(self, rt: &R, end: &AtomicBool) {
         let Journaling {
             mut writer,
             pending,
             spare,
+            every,
         } = self;
-        writer.begin();
-        let mut written = 0;
+        let mut flushed = second_of(rt);
         let mut batch = spare;
         for _ in rt.forever() {
             // Asked before the batch is taken, so that the last one has all that was said.
             let has_ended = end.load(Ordering::SeqCst);
             batch = pending.take(rt, batch);
-            if is_full(written) {
-                writer.begin();
-                written = 0;
-            }
             let wrote = write_batch(&mut writer, &batch);
-            written = with_more(written, batch.octets().len() as u64);
             if has_ended {
                 return;
+            }
+            let now = second_of(rt);
+            if is_due(flushed, every, now) {
+                writer.flush();
+                flushed = now;
             }
             thread::sleep(rt, Duration::from_millis(nap(wrote)));
         }
     }
 }
 
+/// The second of the machine's clock that never goes back, the first one where it can't be asked.
+fn second_of<R: Clock>(rt: &R) -> u64 {
+    match rt.monotonic() {
+        Ok(passed) => passed.as_secs(),
+        Err(_) => 0,
+    }
+}
+
+/// Whether it is time for a flush: so many seconds after the last one, where any is asked for.
+fn is_due(flushed: u64, every: Option<u64>, now: u64) -> bool
+    ensures { result ≡ terms.is_due flushed every now }
+{
+    match every {
+        Some(every) => u128::from(flushed) + u128::from(every) <= u128::from(now),
+        None => false,
+    }
+}
+
 /// Writes the entries of a batch, where it has any, and tells how many were left out. Whether it
 /// has any.
-fn write_batch<P: JournalPlace, L: JournalLines>(
-    writer: &mut JournalWriter<P, L>,
+fn write_batch<F: JournalFile, L: JournalLines>(
+    writer: &mut JournalWriter<F, L>,
     batch: &Batch,
 ) -> bool
-    ensures { WritesBatch ⟦<P as HistoryPlace>⟧ L.JournalLines batch.now.octets batch.now.left_out
+    ensures { WritesBatch ⟦<F as JournalFile>⟧ L.JournalLines batch.now.octets batch.now.left_out
         writer.old writer.new result }
 {
     let wrote = write_some(writer, batch.octets());
@@ -102,11 +115,11 @@ fn write_batch<P: JournalPlace, L: JournalLines>(
 }
 
 /// Writes the octets of entries, where there are any: whether there are.
-fn write_some<P: JournalPlace, L: JournalLines>(
-    writer: &mut JournalWriter<P, L>,
+fn write_some<F: JournalFile, L: JournalLines>(
+    writer: &mut JournalWriter<F, L>,
     octets: &[u8],
 ) -> bool
-    ensures { WritesSome ⟦<P as HistoryPlace>⟧ L.JournalLines octets.now writer.old writer.new
+    ensures { WritesSome ⟦<F as JournalFile>⟧ L.JournalLines octets.now writer.old writer.new
         result }
 {
     if octets.is_empty() {
@@ -114,20 +127,6 @@ fn write_some<P: JournalPlace, L: JournalLines>(
     }
     writer.write(octets);
     true
-}
-
-/// Whether so many octets were put behind a journal that a new one is begun.
-fn is_full(written: u64) -> bool
-    ensures { result ≡ nat_le 268435456 written }
-{
-    written >= MOST_OCTETS
-}
-
-/// Octets that were written, and more.
-fn with_more(written: u64, more: u64) -> u64
-    ensures { result ≡ min (written + more) (2 ^ 64 - 1) }
-{
-    written.saturating_add(more)
 }
 
 /// For how many milliseconds nobody looks what was said, once something was or not.

@@ -1,8 +1,8 @@
 //! The journal of a relay at its place: how a start reads it, and how it is written while the relay
 //! is served (docs/FORMATS.md, Journal file).
 //!
-//! It stands over any `JournalPlace`, of which contracts say what it holds. What can't be read or
-//! written is told, and stops nothing.
+//! It stands over any `JournalPlace` and the `JournalFile` that is opened there, of which contracts
+//! say what they hold. What can't be read or written is told, and stops nothing.
 #![tactic(auto)]
 
 mod journaling;
@@ -13,4 +13,4 @@ mod writing;
 pub use journaling::{Journaling, ROOM};
 pub use lines::{JournalLine, JournalLines, PrintedLines, ToldJournal};
 pub use reading::read_journal;
-pub use writing::JournalWriter;
+pub use writing::{BegunJournal, JournalWriter, begin_journal};

@@ -11,6 +11,8 @@ pub enum JournalLine {
     Unread,
     /// It can't be begun, or entries not be put behind it.
     Unwritten,
+    /// Its device can't be had take what was written.
+    Unflushed,
     /// So many entries were left out, as there was no room for them.
     LeftOut(u64),
 }
@@ -65,6 +67,7 @@ fn print_line<R: Eprint>(rt: &R, line: JournalLine) {
     let _lost = match line {
         JournalLine::Unread => eprintln!(rt; "failed file=relay.log kind=Read"),
         JournalLine::Unwritten => eprintln!(rt; "failed file=relay.log kind=Write"),
+        JournalLine::Unflushed => eprintln!(rt; "failed file=relay.log kind=Sync"),
         JournalLine::LeftOut(count) => eprintln!(rt; "left file=relay.log entries={count}"),
     };
 }

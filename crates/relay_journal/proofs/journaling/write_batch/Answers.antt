@@ -9,7 +9,7 @@ returns g c =
     let written = c.write_some-wrote.new.writer in
     record {
       written = written;
-      writes = subst (λ (octets : List ℕ). WritesSome g.P.HistoryPlace g.L.JournalLines octets old
+      writes = subst (λ (octets : List ℕ). WritesSome g.F.JournalFile g.L.JournalLines octets old
           written c.write_some-wrote.result) c.octets.ensures.octets c.write_some-wrote.ensures;
       tells = subst (λ (n : ℕ). TellsLeft g.L.JournalLines n written c.tell_left.new.self)
           c.left_out.ensures c.tell_left.ensures;
