@@ -1,5 +1,5 @@
 -- Why a relay that was left isn't repaired is why it isn't served.
-use Rattle.std.proofs.Common.{inl, inr, [], ℕ, Option, subst, sym}
+use Rattle.std.proofs.Common.{[], ℕ, Option, subst, sym}
 use Rattle.std.proofs.Common.{List, Result, Ok, Err}
 use Rattle.std.specs.Result.{IfOk}
 use Rattle.std.specs.IoError.{error_kind}
@@ -10,37 +10,16 @@ use Rattle.relay_folder.specs.declared.history_place.HistoryPlace as places
 use Rattle.relay_journal.specs.declared.lines.JournalLines as lines
 use Rattle.relay_journal.specs.declared.lines.ToldJournal.{ToldJournal}
 use Rattle.relay_serve.specs.Repairing.{IsOfRepair, IsOfRepairWith}
-use Rattle.block_shelf.specs.declared.starting.StopFault.{StopFault}
 use Rattle.cyc_block.specs.declared.store.BlockStore.{Ghosts}
 use Rattle.relay_conf.specs.declared.settings.Config.{Config}
 use Rattle.relay_core.specs.declared.stopped.NotStarted.{NotStarted}
 use Rattle.relay_core.specs.declared.stopped.NotStarted.TheVariants as nots
 use Rattle.relay_core.specs.declared.stopped.Stopped.{Stopped}
-use Rattle.relay_serve.specs.Adding.{IsHistoryFault}
 use Rattle.relay_serve.specs.Lives.{IsUnstartedAs}
-use Rattle.relay_serve.specs.Running.{IsRelayFault, IsRunFault, IsServeFault, unbegun_as}
-use Rattle.relay_serve.specs.Starting.{IsRefusal}
+use Rattle.relay_startup.proofs.Faults.{nothing_seen, refusal_serves, relay_serves, run_serves}
+use Rattle.relay_startup.proofs.Faults.{unbegun_runs}
+use Rattle.relay_startup.specs.Faults.{IsRelayFault, IsServeFault, unbegun_as}
 use Rattle.relay_report.specs.declared.fault.ServeError.{ServeError}
-use Rattle.relay_serve.proofs.ServeFaults.{relay_serves, run_serves}
-use Rattle.relay_serve.proofs.Starts.{refusal_stays, unbegun_runs}
-
--- what is seen of a device that is none
-nothing_seen : Ghosts ℕ
-nothing_seen = record {
-  blocks = λ n. [];
-  heads = λ n. [];
-  calls = λ n. n;
-  failures = λ n. n;
-  honest = λ n. Unit {0};
-}
-
--- what a head is refused for
-pub refusal_serves : (config : Config) (number : Option ℕ) (reason : StopFault)
-    (error : ServeError) → IsRefusal config.buffers number reason error
-    → IsServeFault config error
-refusal_serves config number reason error e =
-    relay_serves nothing_seen config [] error
-    (refusal_stays nothing_seen config [] number reason error e)
 
 -- what a repair is refused for
 pub unrepaired_serves : {S : Type 0} (config : Config) (refused : NotStarted S)
@@ -53,19 +32,6 @@ unrepaired_serves config (nots.Host why back) error e =
     (unbegun_runs (error_kind why))))
 unrepaired_serves config (nots.Refused refused) error e =
     refusal_serves config refused.buffer refused.error error e
-
--- what a history is refused for
-pub history_serves : (config : Config) (error : ServeError) → IsHistoryFault error
-    → IsServeFault config error
-history_serves config error (inl memory) = subst (IsServeFault config) (sym memory) tt
-history_serves config error (inr (inl unread)) = subst (IsServeFault config) (sym unread) tt
-history_serves config error (inr (inr bad)) = subst (IsServeFault config) (sym bad) tt
-
--- what a run ends for is a reason that a relay isn't served
-pub run_fault_serves : (config : Config) (error : ServeError) → IsRunFault error
-    → IsServeFault config error
-run_fault_serves config error fault =
-    relay_serves nothing_seen config [] error (run_serves nothing_seen config [] error fault)
 
 -- both facts of a value
 pub both_ok : {T E : Type 0} (r : Result T E) (P Q : T → Type 0) → IfOk r P → IfOk r Q

@@ -1,31 +1,20 @@
 -- Why a relay is not served, from why its parts aren't had.
 use Rattle.std.proofs.Common.{◌≡◌, ◌⊎◌, inl, inr, List, ℕ, Option, None, Some, Result, Ok, Err}
 use Rattle.std.proofs.Common.{refl, subst, sym}
-use Rattle.std.proofs.lemmas.Option.{get_or_from_slice_get, slice_get_within}
 use Rattle.std.specs.Io.KnownBytes.{Keeps}
 use Rattle.std.specs.Result.{IsErr, IsErrAnd}
-use Rattle.cyc_block.specs.declared.store.BlockStore.{Ghosts}
 use Rattle.live_store.specs.declared.record.StorePremises as store_premises
 use Rattle.relay_conf.specs.declared.settings.Config.{Config}
 use Rattle.relay_live.specs.declared.running.Counted.{Counted}
-use Rattle.relay_serve.specs.Files.{IsFileFault}
-use Rattle.relay_serve.specs.History.{IsOriginFault}
+use Rattle.relay_startup.specs.Files.{IsFileFault}
+use Rattle.relay_startup.specs.History.{IsOriginFault}
 use Rattle.relay_serve.specs.Ports.{IsPortFault}
-use Rattle.relay_serve.specs.Running.{IsRelayFault, IsRunFault, IsServeFault, IsStopFault}
 use Rattle.relay_serve.specs.Running.{RunGives}
+use Rattle.relay_startup.proofs.Faults.{origin_serves}
+use Rattle.relay_startup.specs.Faults.{IsServeFault}
 use Rattle.relay_report.specs.Serve.{ServeGives}
 use Rattle.relay_report.specs.declared.fault.ServeError.{ServeError}
 use Rattle.relay_report.specs.declared.fault.ServeError.TheVariants as faults
-
--- what ends a run is a reason that a relay isn't run
-pub run_serves : {S : Type 0} (g : Ghosts S) (config : Config) (stores : List S)
-    (error : ServeError) → IsRunFault error → IsRelayFault g config stores error
-run_serves g config stores error (inl memory) =
-    subst (IsRelayFault g config stores) (sym memory) tt
-run_serves g config stores error (inr (inl unseeded)) =
-    subst (IsRelayFault g config stores) (sym unseeded) tt
-run_serves g config stores error (inr (inr threads)) =
-    subst (IsRelayFault g config stores) (sym threads) tt
 
 -- where there is no thread for what goes on beside a run nothing is run
 pub run_or_none : {J : Type 0} (g : store_premises.Ghosts J) (config : Config) (peers : List ℕ)
@@ -39,55 +28,6 @@ run_or_none g config peers result (inl none) =
       fault = inr (inr refl);
     })
 run_or_none g config peers result (inr gives) = gives
-
--- that it couldn't be stopped is one
-pub stop_stays : {S : Type 0} (g : Ghosts S) (config : Config) (stores : List S)
-    (error : ServeError) → IsStopFault error → IsRelayFault g config stores error
-stop_stays g config stores (faults.Stop fault) stops = tt
-stop_stays g config stores faults.Memory e = tt
-stop_stays g config stores (faults.File lost) e =
-    subst (IsRelayFault g config stores) (sym e) tt
-stop_stays g config stores (faults.Port lost) e =
-    subst (IsRelayFault g config stores) (sym e) tt
-stop_stays g config stores faults.Control e = subst (IsRelayFault g config stores) (sym e) tt
-stop_stays g config stores (faults.Start fault) e =
-    subst (IsRelayFault g config stores) (sym e) tt
-stop_stays g config stores faults.Unseeded e = tt
-stop_stays g config stores faults.NoThread e = tt
-stop_stays g config stores faults.Unwritten e =
-    subst (IsRelayFault g config stores) (sym e) tt
-
--- such a reason names a file of the configuration, where it names one
-pub relay_serves : {S : Type 0} (g : Ghosts S) (config : Config) (stores : List S)
-    (error : ServeError) → IsRelayFault g config stores error → IsServeFault config error
-relay_serves g config stores (faults.File lost) fault =
-    let all = config.buffers.buffers.items in (
-      fault.number,
-      fault.buffer,
-      slice_get_within all fault.number fault.buffer fault.there,
-      get_or_from_slice_get all fault.number fault.buffer fault.buffer fault.there,
-      fault.named,
-    )
-relay_serves g config stores (faults.Port lost) fault = absurd fault
-relay_serves g config stores faults.Control fault = absurd fault
-relay_serves g config stores (faults.Start started) fault = fault
-relay_serves g config stores (faults.Stop stopped) fault = tt
-relay_serves g config stores faults.Unseeded fault = tt
-relay_serves g config stores faults.Memory fault = tt
-relay_serves g config stores faults.NoThread fault = tt
-relay_serves g config stores faults.Unwritten fault = absurd fault
-
--- that it isn't known what it begins from names none
-pub origin_serves : (config : Config) (error : ServeError) → IsOriginFault error
-    → IsServeFault config error
-origin_serves config error (inl memory) = subst (IsServeFault config) (sym memory) tt
-origin_serves config error (inr history) = subst (IsServeFault config) (sym history) tt
-
--- nor does that it couldn't be stopped
-pub stop_serves : (config : Config) (error : ServeError) → IsStopFault error
-    → IsServeFault config error
-stop_serves config (faults.Stop fault) stops = tt
-stop_serves config error e = subst (IsServeFault config) (sym e) tt
 
 -- a writer that isn't called holds what it held
 kept : (held : Option (List ℕ)) → Keeps held held

@@ -1,16 +1,10 @@
 -- Whether a relay that isn't run couldn't start, and why not.
-use Rattle.std.proofs.Common.{◌≡◌, inl, inr, List, ℕ, Option, None, Some, refl, subst, sym}
-use Rattle.std.specs.Prelude.{Err, IfErr, IfOk, Ok, Result, slice_get}
-use Rattle.std.proofs.lemmas.Option.{get_or_from_slice_get, slice_get_within}
+use Rattle.std.proofs.Common.{◌≡◌, inl, inr, List, ℕ, subst, sym}
+use Rattle.std.specs.Prelude.{Err, IfErr, IfOk, Ok, Result}
 use Rattle.std.specs.IoError.{error_kind}
-use Rattle.std.specs.declared.io.ErrorKind.{ErrorKind}
-use Rattle.std.specs.declared.io.ErrorKind.TheVariants.{OutOfMemory}
-use Rattle.block_shelf.specs.declared.starting.StopFault.{StopFault}
-use Rattle.block_shelf.specs.declared.starting.StopFault.TheVariants as reasons
 use Rattle.cyc_block.specs.declared.store.BlockStore.{Ghosts}
 use Rattle.relay_folder.specs.declared.origin.Origin.{Origin}
 use Rattle.relay_folder.specs.declared.origin.Origin.TheVariants as origins
-use Rattle.relay_conf.specs.declared.cycbuff.BufferConf.{BufferConf}
 use Rattle.relay_conf.specs.declared.settings.Buffers.{Buffers}
 use Rattle.relay_conf.specs.declared.settings.Config.{Config}
 use Rattle.relay_core.specs.declared.stopped.NotStarted.{NotStarted}
@@ -20,19 +14,16 @@ use Rattle.relay_live.specs.declared.shared.Shared.{Shared}
 use Rattle.live_store.specs.declared.record.StorePremises as store_premises
 use Rattle.relay_report.specs.declared.fault.ServeError.{ServeError}
 use Rattle.relay_report.specs.declared.fault.ServeError.TheVariants as faults
-use Rattle.relay_report.specs.declared.keeping.BufferFault.{BufferFault}
-use Rattle.relay_report.specs.declared.keeping.BufferFault.TheVariants.{Device, NoHead, Unclosed}
-use Rattle.relay_report.specs.declared.keeping.BufferFault.TheVariants.{Damaged, Mixed}
-use Rattle.relay_report.specs.declared.keeping.StartFault.TheVariants as starts
-use Rattle.relay_serve.specs.Files.{IsFaultAt}
+use Rattle.relay_startup.specs.Files.{IsFaultAt}
 use Rattle.relay_serve.specs.Lives.{Finishes, IsNoStart, IsUnbegun, IsUnstartedAs, RunsRelay}
 use Rattle.relay_serve.specs.Lives.{StartsAsTold}
 use Rattle.relay_serve.specs.RunTotals.{totals_in}
-use Rattle.relay_serve.specs.Running.{CountsOf, IsRelayFault, IsRunFault, IsServeFault}
-use Rattle.relay_serve.specs.Running.{IsStopFault, Ran, unbegun_as}
-use Rattle.relay_serve.specs.Starting.{IsFaultAtAny, IsFaultOfBuffer, IsRefusal}
+use Rattle.relay_serve.specs.Running.{CountsOf, Ran}
 use Rattle.relay_serve.specs.declared.running.Finished.{Finished}
-use Rattle.relay_serve.proofs.ServeFaults.{relay_serves, run_serves, stop_stays}
+use Rattle.relay_startup.proofs.Faults.{refusal_stays, relay_serves, run_serves, stop_stays}
+use Rattle.relay_startup.proofs.Faults.{unbegun_runs}
+use Rattle.relay_startup.specs.Faults.{IsRelayFault, IsRunFault, IsServeFault, IsStopFault}
+use Rattle.relay_startup.specs.Faults.{unbegun_as}
 
 -- What ends a run isn't that it can't start,
 pub run_other : (error : ServeError) → IsRunFault error → IsNoStart error
@@ -93,74 +84,6 @@ stop_told g config stores origin error fault =
 
 -- what is said of a relay that isn't begun from nothing
 pub ruleset begin_ends = (run_serves, run_other, file_other)
-
--- The fault of a buffer that is there names it.
-of_buffer : {S : Type 0} (g : Ghosts S) (config : Config) (stores : List S) (number : ℕ)
-    (fault : BufferFault) (error : ServeError) (there : Option BufferConf)
-    → slice_get config.buffers.buffers.items number ≡ there → IsFaultOfBuffer there fault error
-    → IsRelayFault g config stores error
-of_buffer g config stores number fault error None at e =
-    subst (IsRelayFault g config stores) (sym e) tt
-of_buffer g config stores number fault (faults.Start (starts.Buffer name found))
-    (Some buffer) at e =
-    let all = config.buffers.buffers.items in (
-      number,
-      buffer,
-      slice_get_within all number buffer at,
-      get_or_from_slice_get all number buffer buffer at,
-      e.0,
-    )
-of_buffer g config stores number fault (faults.Start starts.History) (Some buffer) at e = tt
-of_buffer g config stores number fault (faults.Start starts.BadHistory) (Some buffer) at e = tt
-of_buffer g config stores number fault (faults.Start starts.Ahead) (Some buffer) at e = tt
-of_buffer g config stores number fault (faults.File lost) (Some buffer) at e =
-    subst (IsRelayFault g config stores) (sym e) tt
-of_buffer g config stores number fault (faults.Port lost) (Some buffer) at e =
-    subst (IsRelayFault g config stores) (sym e) tt
-of_buffer g config stores number fault faults.Control (Some buffer) at e =
-    subst (IsRelayFault g config stores) (sym e) tt
-of_buffer g config stores number fault faults.Unseeded (Some buffer) at e = tt
-of_buffer g config stores number fault faults.Memory (Some buffer) at e = tt
-of_buffer g config stores number fault faults.NoThread (Some buffer) at e = tt
-of_buffer g config stores number fault (faults.Stop stopped) (Some buffer) at e = tt
-of_buffer g config stores number fault faults.Unwritten (Some buffer) at e =
-    subst (IsRelayFault g config stores) (sym e) tt
-
--- So does that of the buffer of a number, where there is one.
-at_any : {S : Type 0} (g : Ghosts S) (config : Config) (stores : List S) (number : Option ℕ)
-    (fault : BufferFault) (error : ServeError) → IsFaultAtAny config.buffers number fault error
-    → IsRelayFault g config stores error
-at_any g config stores None fault error e = subst (IsRelayFault g config stores) (sym e) tt
-at_any g config stores (Some number) fault error e =
-    of_buffer g config stores number fault error
-    (slice_get config.buffers.buffers.items number) refl e
-
--- What a start is refused for is a reason that a relay isn't run,
-pub refusal_stays : {S : Type 0} (g : Ghosts S) (config : Config) (stores : List S)
-    (number : Option ℕ)
-    (reason : StopFault) (error : ServeError) → IsRefusal config.buffers number reason error
-    → IsRelayFault g config stores error
-refusal_stays g config stores number reasons.Memory error e =
-    subst (IsRelayFault g config stores) (sym e) tt
-refusal_stays g config stores number reasons.Device error e =
-    at_any g config stores number Device error e
-refusal_stays g config stores number reasons.NoHead error e =
-    at_any g config stores number NoHead error e
-refusal_stays g config stores number reasons.Unclosed error e =
-    at_any g config stores number Unclosed error e
-refusal_stays g config stores number reasons.Damaged error e =
-    at_any g config stores number Damaged error e
-refusal_stays g config stores number reasons.BadHistory error e =
-    subst (IsRelayFault g config stores) (sym e) tt
-refusal_stays g config stores number reasons.Mixed error e =
-    at_any g config stores number Mixed error e
-refusal_stays g config stores number reasons.Ahead error e =
-    subst (IsRelayFault g config stores) (sym e) tt
-
--- Where the host lets none begin, that ends a run.
-pub unbegun_runs : (kind : ErrorKind) → IsRunFault (unbegun_as kind)
-unbegun_runs OutOfMemory = inl refl
-unbegun_runs kind = inr (inl refl)
 
 -- and so is why it isn't started.
 unstarted_stays : {S : Type 0} (g : Ghosts S) (config : Config) (stores : List S)

@@ -23,9 +23,10 @@ use Rattle.relay_report.specs.declared.fault.ServeError.{ServeError}
 use Rattle.relay_report.specs.declared.fault.ServeError.TheVariants as faults
 use Rattle.relay_report.specs.declared.keeping.StopFault.TheVariants as stops
 use Rattle.relay_serve.specs.RunTotals.{totals_in}
-use Rattle.relay_serve.specs.Running.{CountsOf, IsRelayFault, IsStopFault, Ran, unbegun_as}
-use Rattle.relay_serve.specs.Starting.{IsRefusal}
+use Rattle.relay_serve.specs.Running.{CountsOf, Ran}
 use Rattle.relay_serve.specs.declared.running.Finished.{Finished}
+use Rattle.relay_startup.specs.Faults.{IsRelayFault, IsStopFault, unbegun_as}
+use Rattle.relay_startup.specs.Starting.{IsRefusal}
 
 -- where a relay is to begin from what it was stopped with, each store holds its buffer as stopped
 abbrev pub AreOfOrigin : {S : Type 0} → blocks.Ghosts S → Origin → (stores : List S) → Type 0

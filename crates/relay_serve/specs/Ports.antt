@@ -3,9 +3,12 @@ use Rattle.std.specs.Prelude.{◌≡◌, ◌≢◌, ◌+◌, ◌==◌, ◌++◌,
 use Rattle.std.specs.Prelude.{if◌then◌else◌}
 use Rattle.relay_conf.specs.declared.relay.Peer.{Peer}
 use Rattle.std.specs.declared.io.ErrorKind.{ErrorKind}
-use Rattle.relay_serve.specs.Reasons.{port_reason}
+use Rattle.std.specs.declared.io.ErrorKind.TheVariants as kinds
 use Rattle.relay_report.specs.declared.fault.ServeError.{ServeError}
 use Rattle.relay_report.specs.declared.fault.ServeError.TheVariants as faults
+use Rattle.relay_report.specs.declared.reason.Reason.{Reason}
+use Rattle.relay_report.specs.declared.reason.Reason.TheVariants.{InUse, NoAddress, NoRight}
+use Rattle.relay_report.specs.declared.reason.Reason.TheVariants.{Refused}
 
 -- the peers of the ends, where the first of these peers has this number: each that has a port, as
 -- often as its connections are served at once
@@ -20,6 +23,13 @@ abbrev pub IsPortFault : List Peer → ServeError → Type 0
 IsPortFault peers (faults.Port lost) =
     (lost.number ≢ 0) × Any (λ peer. peer.port ≡ lost.number) peers
 IsPortFault peers error = error ≡ faults.Memory
+
+-- why a port can't be had, by the kind of the system's error
+abbrev pub port_reason : ErrorKind → Reason
+port_reason kinds.AddrInUse = InUse
+port_reason kinds.PermissionDenied = NoRight
+port_reason kinds.AddrNotAvailable = NoAddress
+port_reason kind = Refused
 
 -- the fault of the port of this number, by the kind of the system's error
 abbrev pub lost_port : ℕ → ErrorKind → ServeError

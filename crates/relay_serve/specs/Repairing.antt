@@ -1,6 +1,5 @@
 -- What a relay goes on from that is not begun from nothing (docs/PROTOCOL.md, Crashes: the relay).
-use Rattle.std.specs.Prelude.{◌≡◌, ◌⊎◌, ◌∷◌, ℕ, Bool, true, false, List, [], All, Option, None}
-use Rattle.std.specs.Prelude.{Some}
+use Rattle.std.specs.Prelude.{◌≡◌, ◌⊎◌, ℕ, true, false, List, Option, None}
 use Rattle.std.specs.Global.{Vec}
 use Rattle.block_shelf.specs.Each.{AreEach}
 use Rattle.block_shelf.specs.Starting.{IsUnwritten}
@@ -13,46 +12,11 @@ use Rattle.relay_folder.specs.declared.origin.Origin.TheVariants as origins
 use Rattle.relay_journal.specs.Reading.{IsJournalRead}
 use Rattle.relay_journal.specs.declared.lines.JournalLines as lines
 use Rattle.relay_journal.specs.declared.lines.ToldJournal.{ToldJournal}
-use Rattle.relay_remains.specs.Heads.{HaveEnded}
-use Rattle.relay_remains.specs.declared.heads.Standing.TheVariants as standings
 use Rattle.relay_repair.specs.Repairing.{Repairs}
-use Rattle.relay_serve.specs.Adding.{IsStopIn}
-use Rattle.relay_serve.specs.LastHistory.{IsLastWith}
-use Rattle.relay_serve.specs.Synced.{IsUncalled}
-
--- the history that a text is, none where it is empty
-abbrev pub kept_text : List ℕ → Option (List ℕ)
-kept_text [] = None
-kept_text (octet ∷ octets) = Some (octet ∷ octets)
-
--- This history is kept for good: each store's device has all that was written, and a power cut
--- leaves this text.
-pub record IsKeptAs {S H : Type 0} (is_synced : S → Type 0) (h : places.Ghosts H)
-    (text : List ℕ) (stores : List S) (old new : H) : Type 0 where
-  pub synced : All is_synced stores
-  pub kept : h.honest old → h.kept new ≡ Some text
-  pub lasting : h.honest old → h.lasting new ≡ Some text ∷ []
-
--- the number of the last stop: that of the text, 0 where no history was kept
-abbrev pub IsLastStop : Config → (kept : Option (List ℕ)) → (stop : ℕ) → Type 0
-IsLastStop config None stop = stop ≡ 0
-IsLastStop config (Some text) stop = IsStopIn config text stop
-
--- The heads say so whether a relay was left without a stop: it was where one of them says that; it
--- was not where each is closed at the last stop, and where no history was kept nothing is said.
-abbrev pub IsSaidByHeads : {S : Type 0} → Ghosts S → (kept : Option (List ℕ)) → (stop : ℕ)
-    → (stores : List S) → (unstopped : Bool) → Type 0
-IsSaidByHeads g kept stop stores true = HaveEnded g stop stores standings.Unstopped
-IsSaidByHeads g None stop stores false = Unit {0}
-IsSaidByHeads g (Some text) stop stores false = HaveEnded g stop stores standings.Stopped
-
--- it is said of the last stop that is kept
-pub record IsUnstoppedBy {S : Type 0} (g : Ghosts S) (config : Config) (text : List ℕ)
-    (stores : List S) (unstopped : Bool)
-    : Type 0 where
-  pub stop : ℕ
-  pub last : IsLastStop config (kept_text text) stop
-  pub said : IsSaidByHeads g (kept_text text) stop stores unstopped
+use Rattle.relay_startup.specs.Keeping.{IsKeptAs}
+use Rattle.relay_startup.specs.LastHistory.{IsLastWith}
+use Rattle.relay_startup.specs.Synced.{IsUncalled}
+use Rattle.relay_startup.specs.Unstopped.{IsUnstoppedBy, kept_text}
 
 -- stores and history are those that a repair of these stores gives; the devices have since been
 -- had take what it wrote

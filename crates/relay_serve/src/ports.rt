@@ -4,12 +4,12 @@ ghost use Rattle.std.specs.Prelude.{Any, IfErr, IfOk, OnOk, length, map, replica
 ghost use Rattle.live_wire.specs.Ports.{left_of};
 ghost use Rattle.relay_conf.specs.declared.relay.Peer.{Peer};
 ghost use Rattle.relay_serve.specs.Ports.{IsPortFault, ends_from, lost_port};
+ghost use Rattle.relay_serve.specs.Ports as terms;
 
-use crate::reasons::port_reason;
 use live_wire::{Port, Stop};
 use relay_conf::{Peer, Relay};
 use relay_live::PeerSource;
-use relay_report::{LostPort, ServeError};
+use relay_report::{LostPort, Reason, ServeError};
 use std::alloc::{AllocError, Global};
 use std::io::ErrorKind;
 use std::net::{Net, TcpListener, TcpStream};
@@ -142,6 +142,18 @@ fn lost(peer: &Peer, kind: ErrorKind) -> ServeError
         number: peer.port,
         reason: port_reason(kind),
     })
+}
+
+/// Why a port can't be had.
+fn port_reason(kind: ErrorKind) -> Reason
+    ensures { result ≡ terms.port_reason kind }
+{
+    match kind {
+        ErrorKind::AddrInUse => Reason::InUse,
+        ErrorKind::PermissionDenied => Reason::NoRight,
+        ErrorKind::AddrNotAvailable => Reason::NoAddress,
+        _ => Reason::Refused,
+    }
 }
 
 /// Adds a peer source.

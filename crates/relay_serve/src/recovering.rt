@@ -3,7 +3,7 @@ ghost use Rattle.std.specs.Prelude.{◌≡◌, ◌++◌, IfErr, IfOk, IfSome, On
 ghost use Rattle.relay_repair.specs.Telling.{octets_in};
 ghost use Rattle.relay_serve.specs.Recovering.{IsRepairAnswer, buffer_line, told_recovering};
 ghost use Rattle.relay_repair.specs.Repairing.{Repairs, counts_of};
-ghost use Rattle.relay_serve.specs.Running.{IsServeFault};
+ghost use Rattle.relay_startup.specs.Faults.{IsServeFault};
 
 use crate::desk::Desk;
 use crate::gate::CountingGate;

@@ -5,16 +5,15 @@ ghost use Rattle.block_shelf.specs.Filling.{IsBeginRefusal};
 ghost use Rattle.relay_live.specs.Holding.{has_buffer};
 ghost use Rattle.relay_live.specs.Making.{buffers_in, ends_in, slots_of};
 ghost use Rattle.relay_serve.specs.Lives.{AreOfOrigin, IsNoStart, IsUnbegun, RunsRelay};
-ghost use Rattle.relay_serve.specs.Running.{CanRun, IsRelayFault, IsRunFault};
+ghost use Rattle.relay_serve.specs.Running.{CanRun};
 ghost use Rattle.relay_serve.specs.Running.{RunGives};
 ghost use Rattle.relay_serve.specs.Running.{ended_as};
-ghost use Rattle.relay_serve.specs.Running.{channel_count, unbegun_as};
+ghost use Rattle.relay_serve.specs.Running.{channel_count};
+ghost use Rattle.relay_startup.specs.Faults.{IsRelayFault, IsRunFault};
 ghost use Rattle.relay_report.specs.declared.fault.ServeError.TheVariants as faults;
 
-use crate::begun::{Beginning, Looked};
 use crate::clock::MachineClock;
 use crate::desk::Desk;
-use crate::files::unformatted;
 use crate::gate::CountingGate;
 use crate::lives::{finish, unstarted};
 use crate::run_totals::RunTotals;
@@ -29,9 +28,8 @@ use relay_core::Stopped;
 use relay_folder::Origin;
 use relay_live::{Counted, Keeper, LiveError, PeerSource, RegisterRef, Serving, Shared, serve_all};
 use relay_report::ServeError;
+use relay_startup::{Beginning, Looked, hasher_of, unbegun, unformatted};
 use std::alloc::Global;
-use std::hash::RandomState;
-use std::io::ErrorKind;
 use std::random::RandomSource;
 use std::sync::Wait;
 use std::sync::ledger::{Blank, Book, Ledger, Share};
@@ -202,16 +200,6 @@ fn unshared<S: BlockStore + Drop>(
     }
 }
 
-/// The seed of the relay's tables.
-pub(crate) fn hasher_of<R: RandomSource>(rt: &R) -> Result<RandomState, ServeError>
-    ensures fault { IfErr result IsRunFault }
-{
-    match RandomState::new(rt) {
-        Ok(hasher) => Ok(hasher),
-        Err(error) => Err(unbegun(error.kind())),
-    }
-}
-
 /// Runs a relay over what its threads share, until all of them have ended.
 fn run_shared<
     'a,
@@ -315,17 +303,6 @@ pub(crate) fn channels_of(config: &Config) -> usize
 {
     let groups = config.buffers.groups.len();
     if groups == 0 { 1 } else { groups }
-}
-
-/// Why a relay could not begin: memory ran out, or the system has no random numbers.
-pub(crate) fn unbegun(kind: ErrorKind) -> ServeError
-    ensures error { result ≡ unbegun_as kind }
-    ensures fault { IsRunFault result }
-{
-    match kind {
-        ErrorKind::OutOfMemory => ServeError::Memory,
-        _ => ServeError::Unseeded,
-    }
 }
 
 /// Why the threads of a relay ended before they had served.

@@ -1,24 +1,20 @@
 //! A relay is served on the ports of the machine, over its files.
 ghost use Rattle.std.specs.Prelude.{◌≡◌, ◌<◌, ◌^◌, ◌⊎◌, IfErr, IfOk, Ok, length, map};
-ghost use Rattle.relay_serve.specs.Files.{IsFileFault};
+ghost use Rattle.relay_startup.specs.Files.{IsFileFault};
 ghost use Rattle.relay_serve.specs.Ports.{IsPortFault};
 ghost use Rattle.relay_serve.specs.RunTotals.{totals_in};
-ghost use Rattle.relay_serve.specs.Running.{IsServeFault, IsStopFault};
+ghost use Rattle.relay_startup.specs.Faults.{IsServeFault};
 ghost use Rattle.relay_report.specs.Serve.{AreOf, ServeGives};
 ghost use Rattle.file_blocks.specs.Store.{count_of};
 ghost use Rattle.relay_serve.specs.Watched.{store_in};
 
-use crate::begun::{Beginning, Unbegun, begin_over};
 use crate::clock::MachineClock;
-use crate::completing::complete_first;
 use crate::desk::Desk;
-use crate::files::{fit_files, hold_files};
 use crate::gate::CountingGate;
 use crate::keeping::keep_finished;
 use crate::ports::open_ports;
 use crate::repairing::begin_again;
 use crate::running::{Finished, Records, Surroundings, channels_of, run_relay};
-use crate::streams::fill_streams;
 use crate::syncing::{Syncing, open_syncing};
 use crate::watched::{Watched, watch};
 use file_blocks::FileBlocks;
@@ -30,6 +26,9 @@ use relay_folder::{Control, HistoryPlace, HostHistory, HostJournal, JournalPlace
 use relay_journal::{JournalLines, PrintedLines, ToldJournal};
 use relay_live::PeerSource;
 use relay_report::{ServeError, Totals, print_totals};
+use relay_startup::{
+    Beginning, Unbegun, begin_over, complete_first, fill_streams, fit_files, hold_files,
+};
 use std::alloc::Global;
 use std::fs::{File, Files};
 use std::io::{ErrorKind, Write};

@@ -4,7 +4,7 @@ use Rattle.std.proofs.lemmas.List.Elements.{All-push}
 use Rattle.live_wire.specs.Ports.{left_of}
 use Rattle.live_wire.specs.declared.port.Port.{Port}
 use Rattle.relay_live.specs.declared.running.PeerSource.{PeerSource}
-use Rattle.relay_serve.proofs.Rows.{longer}
+use Rattle.relay_startup.proofs.Rows.{longer}
 use Rattle.relay_serve.proofs.ports.add_peer_sources.Goals as goal
 
 -- The last peer source of a peer stands behind its further ones: it is one more,

@@ -1,7 +1,7 @@
 use Rattle.std.proofs.Common.{inr, subst}
 use Rattle.std.proofs.lemmas.Result.{IfOk-weaker}
 use Rattle.relay_serve.proofs.Repairs.{both_ok, with_repair_on}
-use Rattle.relay_serve.specs.Repairing.{IsUnstoppedBy}
+use Rattle.relay_startup.specs.Unstopped.{IsUnstoppedBy}
 use Rattle.relay_serve.proofs.repairing.go_on.Goals as goal
 
 -- what is repaired was left without a stop, and what is kept is what the repair gave

@@ -2,7 +2,7 @@ use Rattle.std.proofs.Common.{◌∙◌, ℕ, ap, subst, sym}
 use Rattle.std.specs.Global.{Vec}
 use Rattle.relay_repair.specs.Repairing.{Repairs}
 use Rattle.relay_serve.proofs.ShutAgain.{repairs_again}
-use Rattle.relay_serve.specs.Repairing.{kept_text}
+use Rattle.relay_startup.specs.Unstopped.{kept_text}
 use Rattle.relay_serve.proofs.repairing.repaired.Goals as goal
 
 -- what is kept is what the repair gave

@@ -4,7 +4,8 @@ use Rattle.std.specs.declared.alloc.AllocError.{AllocError}
 use Rattle.relay_report.proofs.Printed.{printed}
 use Rattle.relay_report.specs.declared.totals.Totals.{Totals}
 use Rattle.relay_report.specs.Serve.{AreOf}
-use Rattle.relay_serve.proofs.ServeFaults.{served_none, stop_serves, unbegun_serves}
+use Rattle.relay_serve.proofs.ServeFaults.{served_none, unbegun_serves}
+use Rattle.relay_startup.proofs.Faults.{stop_serves}
 use Rattle.relay_serve.proofs.serving.begin_and_run.Goals as goal
 
 -- where it isn't known what it begins from nothing is written,

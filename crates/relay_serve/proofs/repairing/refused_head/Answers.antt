@@ -1,9 +1,0 @@
-use Rattle.std.specs.Prelude.{Some}
-use Rattle.relay_serve.proofs.Repairs.{refusal_serves}
-use Rattle.relay_serve.proofs.repairing.refused_head.Goals as goal
-
--- it is told as a start tells it
-pub returns-clause-fault : goal.returns-clause-fault
-returns-clause-fault c =
-    refusal_serves c.args.config.now (Some c.number_of-number.result) c.args.fault.error
-    c.refusal.result c.refusal.ensures

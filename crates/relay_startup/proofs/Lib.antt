@@ -1,0 +1,12 @@
+mod AddFaults
+mod Counted
+pub mod Faults
+pub mod FileFaults
+mod FirstHistory
+pub mod Founds
+mod HeadsRead
+mod Listed
+mod Looks
+pub mod Rows
+pub mod Sizes
+mod Uncalled

@@ -1,0 +1,90 @@
+-- How the relay of a folder stands, from what is found of it.
+use Rattle.std.proofs.Common.{◌≡◌, ◌⊎◌, ◌∷◌, [], inl, inr, ℕ, List, Option, None, Some, Result, Ok}
+use Rattle.std.proofs.Common.{Err, arith, length, refl, subst, sym}
+use Rattle.std.specs.Result.{OnOk}
+use Rattle.std.proofs.lemmas.Option.{get_or_from_slice_get, slice_get_within}
+use Rattle.std.specs.Io.KnownBytes.{Keeps}
+use Rattle.std.specs.declared.io.ErrorKind.{ErrorKind}
+use Rattle.std.specs.declared.io.ErrorKind.TheVariants.{OutOfMemory}
+use Rattle.block_shelf.specs.Each.{AreEach}
+use Rattle.block_shelf.specs.Starting.{IsUnwritten}
+use Rattle.cyc_block.specs.declared.store.BlockStore.{Ghosts}
+use Rattle.cyc_buffer.specs.Reads.{StaysHeld}
+use Rattle.relay_conf.specs.declared.settings.Config.{Config}
+use Rattle.relay_report.specs.declared.fault.ServeError.{ServeError}
+use Rattle.relay_report.specs.declared.fault.ServeError.TheVariants as faults
+use Rattle.relay_startup.specs.Adding.{control_fault}
+use Rattle.relay_startup.specs.Files.{IsFaultAt, IsFileFault}
+use Rattle.relay_startup.specs.Looking.{StandGives}
+use Rattle.relay_startup.specs.Faults.{IsServeFault}
+
+-- a text of no octets is none
+pub no_octets : (text : List ℕ) → length text ≡ 0 → text ≡ []
+no_octets [] none = refl
+no_octets (octet ∷ octets) none = absurd (omega (arith, none))
+
+-- what holds anyway holds where a call went well
+pub on_ok : {A E : Type 0} (result : Result A E) (P : Type 0) → P → OnOk result P
+on_ok (Ok done) P holds = holds
+on_ok (Err error) P holds = tt
+
+-- stores that are unwritten hold what they held
+pub unwritten_held : {S : Type 0} (g : Ghosts S) (old new : List S)
+    → AreEach (IsUnwritten g None) old new → AreEach (λ (b : ℕ). StaysHeld g) old new
+unwritten_held g old new are = record {
+  count = are.count;
+  each = λ b store is.
+      let later = are.each b store is in
+      record { item = later.item; there = later.there; belongs = later.belongs.held };
+}
+
+-- a file that can't be had is why a relay isn't served,
+pub file_is_served : (config : Config) (error : ServeError) → IsFileFault config.buffers error
+    → IsServeFault config error
+file_is_served config (faults.File lost) names = names
+file_is_served config error memory = subst (IsServeFault config) (sym memory) tt
+
+-- and so is one of the buffer of a number
+pub file_at_is_served : (config : Config) (number : ℕ) (error : ServeError)
+    → IsFaultAt config.buffers number error → IsServeFault config error
+file_at_is_served config number (faults.File lost) at =
+    let all = config.buffers.buffers.items in (
+      number,
+      at.0,
+      slice_get_within all number at.0 at.1,
+      get_or_from_slice_get all number at.0 at.0 at.1,
+      at.2,
+    )
+file_at_is_served config number error memory = subst (IsServeFault config) (sym memory) tt
+
+-- a socket that can't be asked is told so
+pub control_looks : (config : Config) (kind : ErrorKind)
+    → (control_fault kind ≡ faults.Control) ⊎ IsServeFault config (control_fault kind)
+control_looks config OutOfMemory = inr tt
+control_looks config kind = inl refl
+
+-- a writer that isn't called holds what it held
+kept : (held : Option (List ℕ)) → Keeps held held
+kept None = tt
+kept (Some octets) = refl
+
+-- where it isn't known how a relay stands nothing is written
+unserved_is_told : (config : Config) (error : ServeError) (held : Option (List ℕ))
+    → IsServeFault config error → StandGives config (Err error) held held
+unserved_is_told config (faults.File lost) held names = (names, kept held)
+unserved_is_told config (faults.Port lost) held none = absurd none
+unserved_is_told config faults.Control held none = absurd none
+unserved_is_told config (faults.Start started) held names = (names, kept held)
+unserved_is_told config (faults.Stop stopped) held fault = (tt, kept held)
+unserved_is_told config faults.Unseeded held fault = (tt, kept held)
+unserved_is_told config faults.Memory held fault = (tt, kept held)
+unserved_is_told config faults.NoThread held fault = (tt, kept held)
+unserved_is_told config faults.Unwritten held none = absurd none
+
+pub unknown_is_told : (config : Config) (error : ServeError) (held : Option (List ℕ))
+    → (error ≡ faults.Control) ⊎ IsServeFault config error
+    → StandGives config (Err error) held held
+unknown_is_told config error held (inl control) =
+    let P : ServeError → Type 0 = λ it. StandGives config (Err it) held held in
+    subst P (sym control) (tt, kept held)
+unknown_is_told config error held (inr fault) = unserved_is_told config error held fault

@@ -1,0 +1,12 @@
+pub mod Adding
+pub mod Faults
+pub mod Files
+pub mod History
+pub mod Keeping
+pub mod LastHistory
+pub mod Looking
+pub mod Reasons
+pub mod Recovered
+pub mod Starting
+pub mod Synced
+pub mod Unstopped

@@ -1,0 +1,61 @@
+-- How the relay of a folder stands, of which `check` tells (docs/PROTOCOL.md, `check`).
+use Rattle.std.specs.Prelude.{◌≡◌, ◌≢◌, ◌++◌, ℕ, Bool, true, false, List, [], codes, Option, Result}
+use Rattle.std.specs.Prelude.{Ok, Err}
+use Rattle.std.specs.Io.KnownBytes.{Appends, Keeps}
+use Rattle.cyc_block.specs.declared.store.BlockStore.{Ghosts}
+use Rattle.relay_conf.specs.declared.settings.Config.{Config}
+use Rattle.first_start.specs.Completing.{IsCutShort}
+use Rattle.relay_folder.specs.Origin.{Beginning, Formats, Starts, begins_from}
+use Rattle.relay_report.specs.Serve.{NamesFault}
+use Rattle.relay_report.specs.Written.{GainsFront}
+use Rattle.relay_report.specs.declared.fault.ServeError.{ServeError}
+use Rattle.relay_report.specs.declared.fault.ServeError.TheVariants as faults
+use Rattle.relay_startup.specs.Unstopped.{IsUnstoppedBy}
+use Rattle.relay_startup.specs.declared.standing.FolderStanding.{FolderStanding}
+use Rattle.relay_startup.specs.declared.standing.FolderStanding.TheVariants as standings
+
+-- how it stands, in words
+abbrev pub standing_words : FolderStanding → List ℕ
+standing_words standings.Running = codes "running"
+standing_words standings.Unbegun = codes "nothing kept yet: a start begins"
+standing_words standings.Stopped = codes "stopped"
+standing_words standings.Unstopped = codes "not stopped: a start repairs it"
+
+-- the line of it
+abbrev pub standing_line : FolderStanding → List ℕ
+standing_line standing = codes "relay: " ++ (standing_words standing ++ codes "\n")
+
+-- So stands a relay that isn't running and that a start doesn't begin from nothing, by the text of
+-- its history and its stores: it was stopped where each head says that, of a history that is kept,
+-- and it wasn't where one of them says that; without a history its first start may have been cut
+-- short, and nothing was kept then.
+abbrev pub IsStandingOf : {S : Type 0} → Ghosts S → Config → (text : List ℕ) → (stores : List S)
+    → FolderStanding → Type 0
+IsStandingOf g config text stores standings.Running = ⊥
+IsStandingOf g config text stores standings.Unbegun = (text ≡ []) × IsCutShort g stores
+IsStandingOf g config text stores standings.Stopped =
+    (text ≢ []) × IsUnstoppedBy g config text stores false
+IsStandingOf g config text stores standings.Unstopped = IsUnstoppedBy g config text stores true
+
+-- So stands a relay that isn't running, by what a start would begin from, and its stores: nothing
+-- was kept where it would begin from nothing.
+abbrev pub IsStandingBy : {S : Type 0} → Ghosts S → Config → Beginning → (stores : List S)
+    → FolderStanding → Type 0
+IsStandingBy g config Formats stores standing = standing ≡ standings.Unbegun
+IsStandingBy g config (Starts text) stores standing = IsStandingOf g config text stores standing
+
+-- so it stands by whether no buffer was kept in any file, the history that is kept, and its stores
+abbrev pub IsStanding : {S : Type 0} → Ghosts S → Config → (blank : Bool)
+    → (kept : Option (List ℕ)) → (stores : List S) → FolderStanding → Type 0
+IsStanding g config blank kept stores standing =
+    IsStandingBy g config (begins_from false blank kept) stores standing
+
+-- how the relay of the configuration stands was told in a line; or it isn't known, and nothing was
+-- written; or the writer failed, with a front of the line
+abbrev pub StandGives : Config → Result (Unit {0}) ServeError → (before after : Option (List ℕ))
+    → Type 0
+StandGives config (Ok done) before after =
+    (standing : FolderStanding) × Appends before after (standing_line standing)
+StandGives config (Err faults.Unwritten) before after =
+    (standing : FolderStanding) × GainsFront (standing_line standing) before after
+StandGives config (Err error) before after = NamesFault config error × Keeps before after

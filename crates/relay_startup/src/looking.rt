@@ -1,0 +1,160 @@
+//! How the relay of a folder stands is told, by its files (docs/PROTOCOL.md, `check`).
+ghost use Rattle.std.specs.Prelude.{◌≡◌, ◌⊎◌, length, map, IfErr, IfOk};
+ghost use Rattle.file_blocks.specs.Store.{count_of};
+ghost use Rattle.relay_report.specs.declared.fault.ServeError.TheVariants as faults;
+ghost use Rattle.relay_startup.specs.Files.{IsFaultOf, IsFileFault};
+ghost use Rattle.relay_startup.specs.Looking.{StandGives};
+ghost use Rattle.relay_startup.specs.Faults.{IsServeFault};
+
+use crate::adding::unasked;
+use crate::files::{are_blank, is_of_earlier, path_of, unusable};
+use crate::reasons::reason_of;
+use crate::seen_file::SeenFile;
+use crate::standing::{FolderStanding, standing_by};
+use file_blocks::{FileBlocks, FittedFile};
+use relay_conf::{BufferConf, Buffers, Config};
+use relay_folder::{HostHistory, is_served};
+use relay_report::{Reason, ServeError, put};
+use std::alloc::{AllocError, Global};
+use std::fs::{File, Files};
+use std::io::Write;
+use std::net::Net;
+
+/// Tells in a line how the relay of this configuration in a folder stands. Nothing is made, written
+/// or locked, and a relay that is served there is asked nothing.
+pub fn stand_on<R, W: Write>(
+    rt: &R,
+    alloc: Global,
+    config: &Config,
+    folder: &str,
+    writer: &mut W,
+) -> Result<(), ServeError>
+where
+    R: Net + Files<File = File>,
+    ensures { StandGives config.now result (W.contents writer.old) (W.contents writer.new) }
+{
+    let standing = match standing_there(rt, alloc, config, folder) {
+        Ok(standing) => standing,
+        Err(error) => return Err(error),
+    };
+    match put(writer, standing.line()) {
+        Ok(()) => Ok(()),
+        Err(_) => Err(ServeError::Unwritten),
+    }
+}
+
+/// How the relay of a folder stands. The error is that the socket by which one is asked can't be
+/// asked, or what a start says of files, history and heads.
+fn standing_there<R>(
+    rt: &R,
+    alloc: Global,
+    config: &Config,
+    folder: &str,
+) -> Result<FolderStanding, ServeError>
+where
+    R: Net + Files<File = File>,
+    ensures { IfErr result (λ error.
+        (error ≡ faults.Control) ⊎ IsServeFault config.now error) }
+{
+    match is_served(rt, alloc, folder) {
+        Ok(true) => Ok(FolderStanding::Running),
+        Ok(false) => standing_in(rt, alloc, config, folder),
+        Err(error) => Err(unasked(error.kind())),
+    }
+}
+
+/// How the relay of a folder stands in which none is served.
+fn standing_in<R>(
+    rt: &R,
+    alloc: Global,
+    config: &Config,
+    folder: &str,
+) -> Result<FolderStanding, ServeError>
+where
+    R: Files<File = File>,
+    ensures { IfErr result (IsServeFault config.now) }
+{
+    let mut stores = see_files(rt, alloc, &config.buffers, folder)?;
+    let blank = are_blank(&stores);
+    let mut history = HostHistory::in_folder(rt, alloc, folder)?;
+    let standing = standing_by(alloc, config, &mut history, &mut stores, blank);
+    drop(history);
+    drop(stores);
+    standing
+}
+
+/// A store in the file of each buffer, of its blocks, in the order of the buffers, to be looked at.
+/// The error is want of memory, or the first file with which that can't be done, as one that is the
+/// file of an earlier buffer, whatever its name.
+fn see_files<R: Files<File = File>>(
+    rt: &R,
+    alloc: Global,
+    settings: &Buffers,
+    folder: &str,
+) -> Result<Vec<FileBlocks<SeenFile>>, ServeError>
+    ensures blocks { IfOk result (λ stores. map count_of stores.items
+        ≡ map (λ buffer. buffer.blocks) settings.now.buffers.items) }
+    ensures fault { IfErr result (IsFileFault settings.now) }
+{
+    let mut stores = Vec::with_capacity(alloc, settings.buffers.len())?;
+    for buffer in &settings.buffers {
+        let count = stores.len();
+        let store = see_file(rt, alloc, settings, count, folder, buffer)?;
+        stores.push_reserved(store);
+    }
+    Ok(stores)
+}
+
+/// The store in the file of a buffer behind the first so many.
+fn see_file<R: Files<File = File>>(
+    rt: &R,
+    alloc: Global,
+    settings: &Buffers,
+    count: usize,
+    folder: &str,
+    buffer: &BufferConf,
+) -> Result<FileBlocks<SeenFile>, ServeError>
+    ensures blocks { IfOk result (λ store. count_of store ≡ buffer.now.blocks) }
+    ensures fault { IfErr result (IsFaultOf buffer.now) }
+{
+    match open_to_see(rt, alloc, settings, count, folder, buffer) {
+        Ok(file) => Ok(look_into(alloc, buffer, file)?),
+        Err(Some(reason)) => Err(unusable(alloc, buffer, reason)),
+        Err(None) => Err(ServeError::Memory),
+    }
+}
+
+/// The file of a buffer, or why it can't be looked at, as one that is the file of one of the first
+/// so many; no reason where memory was refused.
+fn open_to_see<R: Files<File = File>>(
+    rt: &R,
+    alloc: Global,
+    settings: &Buffers,
+    count: usize,
+    folder: &str,
+    buffer: &BufferConf,
+) -> Result<SeenFile, Option<Reason>> {
+    let path = path_of(alloc, folder, buffer)?;
+    match SeenFile::at(rt, path.as_str()) {
+        Ok(file) => match is_of_earlier(rt, alloc, settings, count, folder, buffer) {
+            Ok(false) => Ok(file),
+            Ok(true) => Err(Some(Reason::Shared)),
+            Err(_) => Err(None),
+        },
+        Err(refused) => Err(reason_of(&refused)),
+    }
+}
+
+/// The store in a file, into which was looked whether a buffer was kept there.
+fn look_into(
+    alloc: Global,
+    buffer: &BufferConf,
+    file: SeenFile,
+) -> Result<FileBlocks<SeenFile>, AllocError>
+    ensures { IfOk result (λ store. count_of store ≡ buffer.now.blocks) }
+{
+    let mut fitted = FittedFile::new(file, buffer.blocks);
+    fitted.look();
+    let (file, count, blank) = fitted.into_parts();
+    FileBlocks::new(alloc, file, count, blank)
+}
