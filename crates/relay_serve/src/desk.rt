@@ -6,7 +6,8 @@ use crate::gate::CountingGate;
 use crate::side_thread::Figured;
 use crate::syncing::Syncing;
 use live_wire::Stop;
-use relay_folder::{Control, Teller, Word};
+use relay_folder::{Control, JournalFile, Teller, Word};
+use relay_journal::{JournalLines, Journaling};
 use std::alloc::{AllocError, Global};
 use std::fs::Files;
 use std::mem;
@@ -127,6 +128,16 @@ impl<'a> Desk<'a> {
         if let Some(syncing) = &self.syncing {
             syncing.go_on(rt, &self.ended);
         }
+    }
+
+    /// Writes the journal until the relay has ended.
+    pub(crate) fn journal<F, K, R>(&self, rt: &R, journaling: Journaling<'_, F, K>)
+    where
+        F: JournalFile + Drop,
+        K: JournalLines + Drop,
+        R: Wait + Clock,
+    {
+        journaling.go_on(rt, &self.ended);
     }
 
     /// Is told that what it goes on beside has ended.

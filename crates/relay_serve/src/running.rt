@@ -25,7 +25,8 @@ use live_store::{ArticleLog, StorePremises};
 use live_wire::Port;
 use relay_conf::Config;
 use relay_core::Stopped;
-use relay_folder::Origin;
+use relay_folder::{JournalFile, Origin};
+use relay_journal::{JournalLines, Journaling};
 use relay_live::{Counted, Keeper, LiveError, PeerSource, RegisterRef, Serving, Shared, serve_all};
 use relay_report::ServeError;
 use relay_startup::{Beginning, Looked, hasher_of, unbegun, unformatted};
@@ -59,7 +60,7 @@ pub(crate) struct Records<'a> {
 
 /// What stands around a relay.
 #[derive(Drop)]
-pub(crate) struct Surroundings<'a, R> {
+pub(crate) struct Surroundings<'a, O, K, R> {
     /// The clock that it goes by.
     pub clock: &'a MachineClock<'a, R>,
     /// What lets its sessions' commands in, and is told of them.
@@ -68,6 +69,8 @@ pub(crate) struct Surroundings<'a, R> {
     pub side: &'a Desk<'a>,
     /// What is said to its journal.
     pub pending: &'a PendingJournal,
+    /// What writes that, where there is one.
+    pub journaling: Option<Journaling<'a, O, K>>,
 }
 
 /// Runs a relay of this configuration over these stores, the i-th for buffer i: an end behind each
@@ -82,6 +85,8 @@ pub(crate) fn run_relay<
     S: BlockStore + Looked + Drop + Send,
     J: StorePremises + Send + Sync,
     L: Ledger + Send + Sync,
+    O: JournalFile + Drop + Send,
+    K: JournalLines + Drop + Send,
     R: Threads + Wait + Clock + Eprint + RandomSource + Sync,
 >(
     rt: &R,
@@ -90,7 +95,7 @@ pub(crate) fn run_relay<
     beginning: Beginning<S>,
     records: Records<'_>,
     peer_sources: Vec<PeerSource<Port<'_>>>,
-    surroundings: Surroundings<'_, R>,
+    surroundings: Surroundings<'_, O, K, R>,
 ) -> Result<Finished<S>, ServeError>
     requires register { records.register.now ≡ J.register }
     requires holds { J.holds ≡ has_buffer config.now.buffers }
@@ -113,22 +118,21 @@ pub(crate) fn run_relay<
     let (book, all) = blank.open::<L>();
     let ends = peer_sources.len();
     let shared = begun_by::<S, J, L, R>(rt, alloc, config, register, beginning, book, ends)?;
+    let Surroundings {
+        clock,
+        gate,
+        side,
+        pending,
+        journaling,
+    } = surroundings;
     let serving = Serving {
         config,
-        gate: surroundings.gate,
+        gate,
         hasher,
         peer_sources,
     };
     let counted = attended(
-        rt,
-        alloc,
-        register,
-        &shared,
-        serving,
-        all,
-        surroundings.clock,
-        surroundings.side,
-        surroundings.pending,
+        rt, alloc, register, &shared, serving, all, clock, side, pending, journaling,
     );
     match counted {
         Ok(counted) => finish(rt, alloc, config, shared, counted),
@@ -234,6 +238,8 @@ fn attended<
     S: BlockStore + Drop + Send,
     J: StorePremises + Send + Sync,
     L: Ledger + Send + Sync,
+    O: JournalFile + Drop + Send,
+    K: JournalLines + Drop + Send,
     R: Threads + Wait + Clock + Eprint + Sync,
 >(
     rt: &R,
@@ -245,6 +251,7 @@ fn attended<
     clock: &'a MachineClock<'a, R>,
     side: &Desk<'_>,
     pending: &'a PendingJournal,
+    journaling: Option<Journaling<'a, O, K>>,
 ) -> Result<Counted, ServeError>
     requires register { register.now ≡ J.register }
     requires holds { J.holds ≡ has_buffer serving.config.now.buffers }
@@ -264,7 +271,7 @@ fn attended<
         ensures { RunGives J.StorePremises serving.entry.config.now
             (map (λ peer_source. peer_source.peer) serving.entry.peer_sources.items) result }
     { run_shared(rt, alloc, keeper, serving, all) };
-    run_beside(rt, run, side, &served)
+    run_beside(rt, run, side, &served, journaling)
 }
 
 /// Has something run to its end, and beside it what goes on, which is started first. Where no
@@ -272,8 +279,16 @@ fn attended<
 fn run_beside<
     W: FnOnce() -> Result<Counted, ServeError> + Drop,
     F: Figured<R> + Sync,
+    O: JournalFile + Drop + Send,
+    K: JournalLines + Drop + Send,
     R: Threads + Wait + Clock + Eprint + Sync,
->(rt: &R, run: W, side: &Desk<'_>, served: &F) -> Result<Counted, ServeError>
+>(
+    rt: &R,
+    run: W,
+    side: &Desk<'_>,
+    served: &F,
+    journaling: Option<Journaling<'_, O, K>>,
+) -> Result<Counted, ServeError>
     requires { W.pre run }
     ensures { (result ≡ Err faults.NoThread) ⊎ W.post run result }
 {
@@ -284,7 +299,7 @@ fn run_beside<
             requires { W.pre run }
             ensures { (result ≡ Err faults.NoThread) ⊎ W.post run result }
         {
-            let Some(beside) = start_beside(scope, rt, side, served) else {
+            let Some(beside) = start_beside(scope, rt, side, served, journaling) else {
                 drop(run);
                 return Err(ServeError::NoThread);
             };

@@ -22,12 +22,17 @@ use live_journal::PendingJournal;
 use live_store::ArticleLog;
 use live_wire::{Port, Stop};
 use relay_conf::Config;
-use relay_folder::{Control, HistoryPlace, HostHistory, HostJournal, JournalPlace, Origin};
-use relay_journal::{JournalLines, PrintedLines, ToldJournal};
+use relay_folder::{
+    Control, HistoryPlace, HostHistory, HostJournal, JournalFile, JournalPlace, Origin,
+};
+use relay_journal::{
+    BegunJournal, JournalLines, JournalWriter, Journaling, PrintedLines, ROOM, ToldJournal,
+    begin_journal,
+};
 use relay_live::PeerSource;
 use relay_report::{ServeError, Totals, print_totals};
 use relay_startup::{
-    Beginning, Unbegun, begin_over, complete_first, fill_streams, fit_files, hold_files,
+    Beginning, Unbegun, begin_over, complete_first, fill_streams, fit_files, hold_files, stop_begun,
 };
 use std::alloc::Global;
 use std::fs::{File, Files};
@@ -267,8 +272,9 @@ fn tell_start<R: Eprint>(rt: &R, origin: &Origin) {
 }
 
 /// Runs the relay over what was opened, each store watched: a first start that was cut short is
-/// completed, and a relay that was left without a stop repaired first. Nothing says that a file of
-/// the machine is honest, so nothing is promised of what the stores give.
+/// completed, and a relay that was left without a stop repaired first; then a journal of the stop
+/// that is gone on from is begun. Nothing says that a file of the machine is honest, so nothing is
+/// promised of what the stores give.
 fn run_begun<'a, R, H: HistoryPlace, P: JournalPlace, L: JournalLines>(
     rt: &'a R,
     alloc: Global,
@@ -290,15 +296,19 @@ where
     let completed = complete_first(alloc, config, watched)?;
     let begun = begin_again(rt, alloc, config, history, journal, completed, access.desk)?;
     tell_start(rt, &begun.origin);
-    run_watched(rt, alloc, config, begun, access)
+    let stop = stop_begun(alloc, config, &begun.origin)?;
+    let begun_journal = begin_journal(alloc, journal, stop)?;
+    run_watched(rt, alloc, config, begun, begun_journal, access)
 }
 
-/// Runs the relay over stores that are watched, by the machine's clock.
-fn run_watched<'a, R>(
+/// Runs the relay over stores that are watched, by the machine's clock. Where no journal was begun
+/// there is no room for what is said to it.
+fn run_watched<'a, R, O: JournalFile + Drop + Send>(
     rt: &'a R,
     alloc: Global,
     config: &'a Config,
     beginning: Beginning<Watched<'a, FileBlocks, R>>,
+    begun_journal: Option<BegunJournal<O>>,
     access: Access<'_>,
 ) -> Result<Finished<Watched<'a, FileBlocks, R>>, ServeError>
 where
@@ -311,9 +321,16 @@ where
 {
     let register = ArticleLog::new(alloc)?;
     let clock = MachineClock::new(rt);
-    // Nothing writes what is said: there is no room for any of it.
-    let pending = PendingJournal::new(alloc, 0)?;
-    run_relay::<Watched<'a, FileBlocks, R>, Brand, Brand, R>(
+    let room = if begun_journal.is_some() { ROOM } else { 0 };
+    let pending = PendingJournal::new(alloc, room)?;
+    let journaling = match begun_journal {
+        Some(begun) => {
+            let writer = JournalWriter::new(begun, PrintedLines::new(rt));
+            Some(Journaling::new(alloc, writer, &pending, config.relay.sync)?)
+        }
+        None => None,
+    };
+    run_relay::<Watched<'a, FileBlocks, R>, Brand, Brand, O, PrintedLines<'a, R>, R>(
         rt,
         alloc,
         config,
@@ -328,6 +345,7 @@ where
             gate: access.gate,
             side: access.desk,
             pending: &pending,
+            journaling,
         },
     )
 }

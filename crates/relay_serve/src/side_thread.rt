@@ -1,5 +1,5 @@
 //! What goes on beside a relay that is served.
-ghost use Rattle.std.specs.Prelude.{◌≡◌, IfSome, is_some, length};
+ghost use Rattle.std.specs.Prelude.{◌≡◌, IfOk, IfSome, is_some, length};
 ghost use Rattle.relay_live.specs.Making.{buffers_in};
 ghost use Rattle.relay_serve.specs.Syncing.{syncing_in};
 
@@ -9,6 +9,8 @@ use crate::gate::CountingGate;
 use cyc_block::BlockStore;
 use live_store::StorePremises;
 use relay_conf::Config;
+use relay_folder::JournalFile;
+use relay_journal::{JournalLines, Journaling};
 use relay_live::{Shared, expire_round};
 use relay_report::{Figures, text_of};
 use std::alloc::{AllocError, Global};
@@ -47,6 +49,8 @@ pub(crate) fn start_side_thread<
 pub(crate) struct Beside {
     /// Of whoever is asked.
     attending: JoinHandle<()>,
+    /// Of whoever writes the journal.
+    journaling: Option<JoinHandle<()>>,
     /// Of whoever flushes files.
     syncing: Option<JoinHandle<()>>,
 }
@@ -54,41 +58,111 @@ pub(crate) struct Beside {
 impl Beside {
     /// Waits until they have ended.
     pub(crate) fn join<R: Threads + Wait>(self, rt: &R) {
-        let Beside { attending, syncing } = self;
+        let Beside {
+            attending,
+            journaling,
+            syncing,
+        } = self;
         attending.join(rt);
-        if let Some(syncing) = syncing {
-            syncing.join(rt);
-        }
+        join_one(rt, journaling);
+        join_one(rt, syncing);
     }
 }
 
-/// Starts the threads of what goes on beside a relay, none where one is not to be had: a second one
-/// only where files are flushed.
-pub(crate) fn start_beside<'s, E, F: Figured<R> + Sync, R: Threads + Wait + Clock + Eprint + Sync>(
+/// Waits until a thread has ended, where it was started.
+fn join_one<R: Threads + Wait>(rt: &R, thread: Option<JoinHandle<()>>) {
+    if let Some(thread) = thread {
+        thread.join(rt);
+    }
+}
+
+/// Starts the threads of what goes on beside a relay, none where one is not to be had: of whoever
+/// writes the journal only where there is one, and of whoever flushes files only where they are.
+pub(crate) fn start_beside<
+    's,
+    E,
+    F: Figured<R> + Sync,
+    O: JournalFile + Drop + Send + 's,
+    K: JournalLines + Drop + Send + 's,
+    R: Threads + Wait + Clock + Eprint + Sync,
+>(
     scope: &'s Scope<'s, E>,
     rt: &'s R,
     side: &'s Desk<'s>,
     relay: &'s F,
+    journaling: Option<Journaling<'s, O, K>>,
 ) -> Option<Beside>
-    ensures { IfSome result (λ beside. is_some beside.syncing ≡ is_some (syncing_in side.now)) }
+    ensures syncing { IfSome result (λ beside.
+        is_some beside.syncing ≡ is_some (syncing_in side.now)) }
+    ensures journaling { IfSome result (λ beside.
+        is_some beside.journaling ≡ is_some journaling.entry) }
 {
-    let attending = start_side_thread(scope, rt, side, relay)?;
-    if !side.syncs() {
-        return Some(Beside {
-            attending,
-            syncing: None,
-        });
-    }
-    match scope.spawn(move || side.sync(rt)) {
+    let Some(attending) = start_side_thread(scope, rt, side, relay) else {
+        drop(journaling);
+        return None;
+    };
+    let Ok(journaling) = start_journaling(scope, rt, side, journaling) else {
+        side.ended();
+        attending.join(rt);
+        return None;
+    };
+    match start_syncing(scope, rt, side) {
         Ok(syncing) => Some(Beside {
             attending,
-            syncing: Some(syncing),
+            journaling,
+            syncing,
         }),
-        Err(_) => {
+        Err(NoThread) => {
             side.ended();
             attending.join(rt);
+            join_one(rt, journaling);
             None
         }
+    }
+}
+
+/// No thread was to be had.
+#[derive(Drop)]
+struct NoThread;
+
+/// Starts the thread of whoever writes the journal, where there is one.
+fn start_journaling<
+    's,
+    E,
+    O: JournalFile + Drop + Send + 's,
+    K: JournalLines + Drop + Send + 's,
+    R: Threads + Wait + Clock + Sync,
+>(
+    scope: &'s Scope<'s, E>,
+    rt: &'s R,
+    side: &'s Desk<'s>,
+    journaling: Option<Journaling<'s, O, K>>,
+) -> Result<Option<JoinHandle<()>>, NoThread>
+    ensures { IfOk result (λ started. is_some started ≡ is_some journaling.entry) }
+{
+    let Some(journaling) = journaling else {
+        return Ok(None);
+    };
+    match scope.spawn(move || side.journal(rt, journaling)) {
+        Ok(started) => Ok(Some(started)),
+        Err(_) => Err(NoThread),
+    }
+}
+
+/// Starts the thread of whoever flushes files, where they are flushed.
+fn start_syncing<'s, E, R: Threads + Wait + Clock + Eprint + Sync>(
+    scope: &'s Scope<'s, E>,
+    rt: &'s R,
+    side: &'s Desk<'s>,
+) -> Result<Option<JoinHandle<()>>, NoThread>
+    ensures { IfOk result (λ started. is_some started ≡ is_some (syncing_in side.now)) }
+{
+    if !side.syncs() {
+        return Ok(None);
+    }
+    match scope.spawn(move || side.sync(rt)) {
+        Ok(started) => Ok(Some(started)),
+        Err(_) => Err(NoThread),
     }
 }
 

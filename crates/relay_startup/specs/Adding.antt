@@ -11,6 +11,8 @@ use Rattle.relay_adding.specs.declared.flushing.Unadded.TheVariants as unadded
 use Rattle.relay_conf.specs.declared.settings.Buffers.{Buffers}
 use Rattle.relay_conf.specs.declared.settings.Config.{Config}
 use Rattle.relay_core.specs.Desks.{Reads}
+use Rattle.relay_folder.specs.declared.origin.Origin.{Origin}
+use Rattle.relay_folder.specs.declared.origin.Origin.TheVariants as origins
 use Rattle.relay_report.specs.declared.fault.ServeError.{ServeError}
 use Rattle.relay_report.specs.declared.fault.ServeError.TheVariants as faults
 use Rattle.relay_report.specs.declared.keeping.BufferFault.TheVariants.{NoHead}
@@ -29,6 +31,11 @@ pub record IsStopIn (config : Config) (text : List ℕ) (stop : ℕ) : Type 0 wh
 abbrev pub IsStopOf : Config → Option (List ℕ) → (stop : ℕ) → Type 0
 IsStopOf config None stop = ⊥
 IsStopOf config (Some text) stop = IsStopIn config text stop
+
+-- a relay that begins from this goes on from the stop of this number, from nothing from 0
+abbrev pub IsStopBegun : Config → Origin → (stop : ℕ) → Type 0
+IsStopBegun config origins.Formatted stop = stop ≡ 0
+IsStopBegun config (origins.Stopped text) stop = IsStopIn config text.items stop
 
 -- the error says that there is no history of a relay of the configuration only where that is so
 abbrev pub TellsNone : Config → Option (List ℕ) → ServeError → Type 0

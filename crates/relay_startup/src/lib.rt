@@ -43,6 +43,7 @@ pub use looking::stand_on;
 pub use recovered::{tell_recovered, tell_recovering};
 pub use seed::{hasher_of, unbegun};
 pub use starting::refusal;
+pub use stop_number::stop_begun;
 pub use streams::fill_streams;
 pub use synced::Synced;
 pub use unstopped::{history_of, looked_at};

@@ -1,14 +1,14 @@
 //! The number of the stop that a relay's history is of.
 ghost use Rattle.std.specs.Prelude.{◌≡◌, IfErr, IfOk};
-ghost use Rattle.relay_startup.specs.Adding.{IsHistoryFault, IsStopIn, IsStopOf, TellsNone};
-ghost use Rattle.relay_startup.specs.Adding.{no_history_as};
+ghost use Rattle.relay_startup.specs.Adding.{IsHistoryFault, IsStopBegun, IsStopIn, IsStopOf};
+ghost use Rattle.relay_startup.specs.Adding.{TellsNone, no_history_as};
 ghost use Rattle.std.specs.Prelude.{Some};
 
 use crate::history::unread;
 use id_history::HistoryError;
 use relay_conf::Config;
 use relay_core::read_history;
-use relay_folder::HistoryPlace;
+use relay_folder::{HistoryPlace, Origin};
 use relay_report::{ServeError, StartFault};
 use std::alloc::Global;
 
@@ -44,6 +44,17 @@ pub(crate) fn stop_in(alloc: Global, config: &Config, text: &[u8]) -> Result<u64
             Ok(stop)
         }
         Err(error) => Err(no_history(error)),
+    }
+}
+
+/// The number of the stop that a relay goes on from: 0 where it begins from nothing.
+pub fn stop_begun(alloc: Global, config: &Config, origin: &Origin) -> Result<u64, ServeError>
+    ensures stop { IfOk result (IsStopBegun config.now origin.now) }
+    ensures fault { IfErr result IsHistoryFault }
+{
+    match origin {
+        Origin::Formatted => Ok(0),
+        Origin::Stopped(text) => stop_in(alloc, config, text),
     }
 }
 
