@@ -1,8 +1,10 @@
 -- What a relay goes on from that is not begun from nothing (docs/PROTOCOL.md, Crashes: the relay).
-use Rattle.std.specs.Prelude.{◌≡◌, ◌⊎◌, ℕ, true, false, List, Option, None}
+use Rattle.std.specs.Prelude.{◌≡◌, ◌⊎◌, ℕ, true, false, List, Option, None, map}
 use Rattle.std.specs.Global.{Vec}
 use Rattle.block_shelf.specs.Each.{AreEach}
 use Rattle.block_shelf.specs.Starting.{IsUnwritten}
+use Rattle.cyc_block.specs.Heads.{head_view}
+use Rattle.cyc_block.specs.declared.head.HeadNumbers.{HeadNumbers}
 use Rattle.cyc_block.specs.declared.store.BlockStore.{Ghosts}
 use Rattle.relay_conf.specs.declared.settings.Config.{Config}
 use Rattle.relay_core.specs.declared.stopped.Stopped.{Stopped}
@@ -15,7 +17,9 @@ use Rattle.relay_journal.specs.declared.lines.ToldJournal.{ToldJournal}
 use Rattle.relay_repair.specs.Repairing.{Repairs}
 use Rattle.relay_startup.specs.Keeping.{IsKeptAs}
 use Rattle.relay_startup.specs.LastHistory.{IsLastWith}
+use Rattle.relay_startup.specs.Recovered.{IsHeadIn}
 use Rattle.relay_startup.specs.Synced.{IsUncalled}
+use Rattle.relay_startup.specs.Unsaved.{IsWithoutUnsaved}
 use Rattle.relay_startup.specs.Unstopped.{IsUnstoppedBy, kept_text}
 
 -- stores and history are those that a repair of these stores gives; the devices have since been
@@ -28,7 +32,22 @@ pub record IsOfRepair {S : Type 0} (g : Ghosts S) (config : Config) (text : List
   pub repairs : Repairs g config stores (kept_text text) now back stopped.history.items
   pub uncalled : AreEach (IsUncalled g) back stopped.stores.items
 
--- so they are of a repair that goes by this text of the last history with its journal folded in
+-- The stores are those that a repair gives that goes by the last history with its journal folded
+-- in, and so is the history, without the ids that the crash has cost their articles, of which the
+-- journal alone has told.
+pub record IsKeptOfRepair {S : Type 0} (g : Ghosts S) (config : Config) (text last : List ℕ)
+    (stores : List S) (stopped : Stopped S)
+    : Type 0 where
+  pub found : Vec ℕ
+  pub repaired : IsOfRepair g config last stores (record { stores = stopped.stores; history = found })
+  pub wrote : List S
+  pub unwritten : AreEach (IsUnwritten g None) wrote repaired.back
+  pub heads : List HeadNumbers
+  pub are : AreEach (IsHeadIn g) wrote heads
+  pub left : IsWithoutUnsaved config text last (map head_view heads) found.items
+      stopped.history.items
+
+-- so they are of a repair that goes by this text of the last history, and its journal
 pub record IsOfRepairWith {S P L : Type 0} (g : Ghosts S) (p : places.Ghosts P)
     (l : lines.Ghosts L) (config : Config) (text : List ℕ) (stores : List S)
     (stopped : Stopped S) (before after : ToldJournal P L)
@@ -37,7 +56,7 @@ pub record IsOfRepairWith {S P L : Type 0} (g : Ghosts S) (p : places.Ghosts P)
   pub is_read : IsJournalRead p l read before after
   pub last : List ℕ
   pub folded : IsLastWith config text read last
-  pub repaired : IsOfRepair g config last stores stopped
+  pub repaired : IsKeptOfRepair g config text last stores stopped
 
 -- What was left of a relay is gone on with as it is, unwritten, where it was stopped, and its
 -- journal isn't read; where it wasn't, with what a repair of it gives, which is kept.

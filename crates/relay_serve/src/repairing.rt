@@ -1,7 +1,8 @@
 //! A relay that was left without a stop is repaired before it starts (docs/PROTOCOL.md, Crashes:
 //! the relay).
 ghost use Rattle.std.specs.Prelude.{◌≡◌, ◌<◌, ◌^◌, IfErr, IfOk, length, map};
-ghost use Rattle.relay_serve.specs.Repairing.{GoesOn, GoesOnFrom, IsOfRepair, IsOfRepairWith};
+ghost use Rattle.relay_serve.specs.Repairing.{GoesOn, GoesOnFrom, IsKeptOfRepair};
+ghost use Rattle.relay_serve.specs.Repairing.{IsOfRepairWith};
 ghost use Rattle.relay_startup.specs.Faults.{IsServeFault};
 ghost use Rattle.relay_startup.specs.Keeping.{IsKeptAs};
 
@@ -17,7 +18,7 @@ use relay_journal::{JournalLines, ToldJournal};
 use relay_report::ServeError;
 use relay_startup::{
     Beginning, Looked, Synced, history_of, keep_repaired, last_history, looked_at, tell_recovered,
-    tell_recovering, with_heads,
+    tell_recovering, with_heads, without_unsaved,
 };
 use std::alloc::Global;
 use std::random::RandomSource;
@@ -157,17 +158,19 @@ where
     ensures fault { IfErr result (IsServeFault config.now) }
 {
     tell_recovering(rt, stores.len(), text.len());
-    match last_history(rt, alloc, config, journal, text) {
-        Ok(last) => repaired(rt, alloc, config, history, stores, last, desk),
+    match last_history(rt, alloc, config, journal, &text) {
+        Ok(last) => repaired(rt, alloc, config, history, stores, text, last, desk),
         Err(error) => {
             drop(stores);
+            drop(text);
             Err(error)
         }
     }
 }
 
-/// Repairs the relay that was left on these stores, with this text of its last history, and keeps
-/// what is found, telling of it. Whoever asks at the desk meanwhile is answered.
+/// Repairs the relay that was left on these stores, with this text of its last history, and that
+/// with its journal folded in, and keeps what is found, telling of it. Whoever asks at the desk
+/// meanwhile is answered.
 fn repaired<S, H, R>(
     rt: &R,
     alloc: Global,
@@ -175,6 +178,7 @@ fn repaired<S, H, R>(
     history: &mut H,
     stores: Vec<S>,
     text: Vec<u8>,
+    last: Vec<u8>,
     desk: &Desk<'_>,
 ) -> Result<Stopped<S>, ServeError>
 where
@@ -186,8 +190,8 @@ where
     ensures stores { IfOk result (λ stopped.
         map (λ store. length (S.blocks store)) stopped.stores.items
         ≡ map (λ store. length (S.blocks store)) stores.items) }
-    ensures repaired { IfOk result
-        (IsOfRepair ⟦<S as BlockStore>⟧ config.now text.items stores.items) }
+    ensures repaired { IfOk result (IsKeptOfRepair ⟦<S as BlockStore>⟧ config.now text.items
+        last.items stores.items) }
     ensures kept { IfOk result (λ stopped. IsKeptAs S.is_synced H.HistoryPlace
         stopped.history.items stopped.stores.items history.old history.new) }
     ensures fault { IfErr result (IsServeFault config.now) }
@@ -195,9 +199,10 @@ where
     // Room for the heads, before anything is written.
     let mut heads = Vec::with_capacity(alloc, stores.len())?;
     let now = MachineClock::new(rt).now();
-    let stopped = repair_beside(rt, alloc, config, stores, history_of(&text), now, desk)?;
+    let stopped = repair_beside(rt, alloc, config, stores, history_of(&last), now, desk)?;
     let stopped = with_heads(alloc, config, stopped, &mut heads)?;
+    let stopped = without_unsaved(alloc, config, &text, &last, &heads, stopped)?;
     let stopped = keep_repaired(history, stopped)?;
-    tell_recovered(rt, alloc, config, &text, &stopped.history, &heads);
+    tell_recovered(rt, alloc, config, &last, &stopped.history, &heads);
     Ok(stopped)
 }

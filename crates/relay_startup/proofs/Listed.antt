@@ -1,4 +1,4 @@
--- A binary search over ids that rise says whether an id is listed under its token.
+-- A binary search over ids that rise says whether an id is listed that meets a test.
 use Rattle.std.proofs.Common.{◌≡◌, ◌∙◌, ◌<◌, ◌≤◌, ℕ, zero, suc, ap, sym, refl, subst, arith, inl}
 use Rattle.std.proofs.Common.{inr}
 use Rattle.std.proofs.Common.{Bool, true, false, ◌&&◌, List, [], ◌∷◌, map, length, get_or}
@@ -14,12 +14,12 @@ use Rattle.std.proofs.lemmas.Map.Views.{All-after_first}
 use Rattle.std.specs.Cmp.Lexicographic.{slice_cmp}
 use Rattle.std.specs.List.Sorted.{IsBinarySearchResult, IsNonDecreasingBy}
 use Rattle.std.specs.List.Sorted.{IsStrictlySortedBy}
+use Rattle.std.specs.List.{list_any}
 use Rattle.std.specs.Ordering.{nat_cmp, is_eq, ordering_index, ordering_reverse}
 use Rattle.std.specs.Str.{bytes_eq}
 use Rattle.id_history.specs.History.{KeptId, Rises}
 use Rattle.id_history.specs.Views.{id_view}
 use Rattle.id_history.specs.declared.kept.KeptId as kept
-use Rattle.relay_startup.specs.Recovered.{is_found, is_same_token}
 
 -- of a list that rises each item is below each later one
 below : {K : Type 0} (c : K → K → Ordering) (ks : List K) (a b : ℕ) (d : K)
@@ -60,7 +60,8 @@ no_greater a b x before = by (by_octets b x) refl
     by Equal is = low (subst (λ y. by_octets a y ≡ Less) (exact_bytes b x is) before) _
     by Greater is = rw is (most (by_octets a x))
 
-module _ (found : List kept.KeptId) (rises : Rises (map id_view found)) (one : kept.KeptId) where
+module _ (found : List kept.KeptId) (rises : Rises (map id_view found)) (one : kept.KeptId)
+    (test : KeptId → Bool) where
   -- the id at a place
   id_at : (k : ℕ) (d : kept.KeptId) → k < length found
       → get_or (map (λ (x : KeptId). x.id) (map id_view found)) k d.id ≡ (get_or found k d).id
@@ -93,14 +94,14 @@ module _ (found : List kept.KeptId) (rises : Rises (map id_view found)) (one : k
             (rise a b d (omega (arith, le, apart)) within)
       ]
 
-  -- whether one is it, under its token
+  -- whether one has its octets, and meets the test
   abbrev is_it : KeptId → Bool
-  is_it other = bytes_eq other.id (id_view one).id && is_same_token other.token (id_view one).token
+  is_it other = bytes_eq other.id (id_view one).id && test other
 
   -- none is, where each fails
   none_is : (d : kept.KeptId)
       → ((k : ℕ) → k < length found → is_it (id_view (get_or found k d)) ≡ false)
-      → is_found (map id_view found) (id_view one) ≡ false
+      → list_any is_it (map id_view found) ≡ false
   none_is d each =
       list_any_none is_it (map id_view found) (λ k e within.
       ap is_it (get_or-map id_view found k d e (omega (arith, within, length-map found id_view)))
@@ -110,16 +111,14 @@ module _ (found : List kept.KeptId) (rises : Rises (map id_view found)) (one : k
   apart : (other : kept.KeptId) (r : Ordering) → by_octets other.id one.id ≡ r → is_eq r ≡ false
       → is_it (id_view other) ≡ false
   apart other r is no_tie =
-      ap (λ b. b && is_same_token (id_view other).token (id_view one).token)
+      ap (λ b. b && test (id_view other))
       (differ other.id one.id r is no_tie)
 
   -- the one that is found at a place is the only one
   pub at_place : (i : ℕ) → i < length found
       → ((d : kept.KeptId) → by_octets (get_or found i d).id one.id ≡ Equal) → (d : kept.KeptId)
-      → is_same_token (id_view (get_or found i d)).token (id_view one).token
-      ≡ is_found (map id_view found) (id_view one)
-  at_place i within ties d =
-      by (is_same_token (id_view (get_or found i d)).token (id_view one).token) refl
+      → test (id_view (get_or found i d)) ≡ list_any is_it (map id_view found)
+  at_place i within ties d = by (test (id_view (get_or found i d))) refl
     where
       tie : bytes_eq (get_or found i d).id one.id ≡ true
       tie = sym (is_eq-slice_cmp (get_or found i d).id one.id) ∙ ap is_eq (ties d)
@@ -127,7 +126,7 @@ module _ (found : List kept.KeptId) (rises : Rises (map id_view found)) (one : k
       same : (get_or found i d).id ≡ one.id
       same = exact_bytes (get_or found i d).id one.id (ties d)
 
-      other : is_same_token (id_view (get_or found i d)).token (id_view one).token ≡ false
+      other : test (id_view (get_or found i d)) ≡ false
           → (k : ℕ) → k < length found → is_it (id_view (get_or found k d)) ≡ false
       other no_token k here =
           elim (cases_eq k i) [
@@ -143,9 +142,8 @@ module _ (found : List kept.KeptId) (rises : Rises (map id_view found)) (one : k
             ]
           ]
 
-      by : (b : Bool) → is_same_token (id_view (get_or found i d)).token (id_view one).token ≡ b
-          → is_same_token (id_view (get_or found i d)).token (id_view one).token
-          ≡ is_found (map id_view found) (id_view one)
+      by : (b : Bool) → test (id_view (get_or found i d)) ≡ b
+          → test (id_view (get_or found i d)) ≡ list_any is_it (map id_view found)
       by true is =
           is ∙ sym (list_any_at is_it (map id_view found) i (id_view d)
           (omega (arith, within, length-map found id_view))
@@ -155,7 +153,7 @@ module _ (found : List kept.KeptId) (rises : Rises (map id_view found)) (one : k
   -- where a search has found none there is none
   pub nowhere : (i : ℕ) → IsBinarySearchResult (λ (x : kept.KeptId). by_octets x.id one.id) found
       (Err i)
-      → (d : kept.KeptId) → is_found (map id_view found) (id_view one) ≡ false
+      → (d : kept.KeptId) → list_any is_it (map id_view found) ≡ false
   nowhere i searched d =
       let parted = searched rises_by in
       none_is d (λ k within.

@@ -9,4 +9,5 @@ pub mod Reasons
 pub mod Recovered
 pub mod Starting
 pub mod Synced
+pub mod Unsaved
 pub mod Unstopped

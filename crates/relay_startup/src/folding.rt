@@ -28,16 +28,16 @@ pub fn last_history<P: JournalPlace, L: JournalLines, R: RandomSource>(
     alloc: Global,
     config: &Config,
     journal: &mut ToldJournal<P, L>,
-    text: Vec<u8>,
+    text: &[u8],
 ) -> Result<Vec<u8>, ServeError>
     ensures last { IfOk result (λ last. (read : Option (List ℕ))
         × IsJournalRead ⟦<P as HistoryPlace>⟧ L.JournalLines read journal.old journal.new
-        × IsLastWith config.now text.items read last.items) }
+        × IsLastWith config.now text.now read last.items) }
     ensures fault { IfErr result (IsServeFault config.now) }
 {
     match read_journal(alloc, journal)? {
-        Some(octets) => text_with(rt, alloc, config, &text, &octets),
-        None => Ok(text),
+        Some(octets) => text_with(rt, alloc, config, text, &octets),
+        None => Ok(text.to_vec(alloc)?),
     }
 }
 

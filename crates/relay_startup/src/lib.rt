@@ -30,6 +30,7 @@ mod starting;
 mod stop_number;
 mod streams;
 mod synced;
+mod unsaved;
 mod unstopped;
 
 pub use adding::add_on;
@@ -46,4 +47,5 @@ pub use starting::refusal;
 pub use stop_number::stop_begun;
 pub use streams::fill_streams;
 pub use synced::Synced;
+pub use unsaved::without_unsaved;
 pub use unstopped::{history_of, looked_at};

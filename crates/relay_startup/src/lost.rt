@@ -22,7 +22,7 @@ pub(crate) fn is_lost(heads: &[HeadNumbers], found: &[KeptId], one: &KeptId) -> 
 }
 
 /// Whether the id stands among these, under the same token.
-fn is_found(found: &[KeptId], one: &KeptId) -> bool
+pub(crate) fn is_found(found: &[KeptId], one: &KeptId) -> bool
     requires rises { Rises (map id_view found.now) }
     ensures { result ≡ told.is_found (map id_view found.now) (id_view one.now) }
 {
@@ -44,7 +44,7 @@ fn is_same(one: Option<Token>, other: Option<Token>) -> bool
 }
 
 /// Whether the article under a token was overwritten, by the heads of the buffers.
-fn is_overwritten(heads: &[HeadNumbers], token: Option<Token>) -> bool
+pub(crate) fn is_overwritten(heads: &[HeadNumbers], token: Option<Token>) -> bool
     ensures { result ≡ told.is_overwritten (map head_view heads.now)
         (option_map token_view token) }
 {
