@@ -1,7 +1,5 @@
 -- How many blocks stores in files have.
-use Rattle.std.proofs.Common.{◌≡◌, ◌∙◌, ◌++◌, ℕ, List, [], ◌∷◌, ap, length, map, refl, sym, take}
-use Rattle.std.proofs.Math.Seq.{take-append_seam}
-use Rattle.std.proofs.lemmas.List.{length-map}
+use Rattle.std.proofs.Common.{◌≡◌, ◌∙◌, ℕ, List, [], ◌∷◌, ap, length, map, refl}
 use Rattle.file_blocks.specs.Blocks.{blocks_of}
 use Rattle.file_blocks.specs.declared.host.HostFile.{HostFile}
 use Rattle.file_blocks.specs.Overlay.{overlaid}

@@ -1,5 +1,5 @@
 -- Whether a relay that isn't run couldn't start, and why not.
-use Rattle.std.proofs.Common.{◌≡◌, inl, inr, List, ℕ, subst, sym}
+use Rattle.std.proofs.Common.{inl, inr, List, ℕ, subst, sym}
 use Rattle.std.specs.Prelude.{Err, IfErr, IfOk, Ok, Result}
 use Rattle.std.specs.IoError.{error_kind}
 use Rattle.cyc_block.specs.declared.store.BlockStore.{Ghosts}

@@ -1,6 +1,6 @@
 //! A relay that was left without a stop is repaired before it starts (docs/PROTOCOL.md, Crashes:
 //! the relay).
-ghost use Rattle.std.specs.Prelude.{◌≡◌, ◌<◌, ◌^◌, IfErr, IfOk, length, map};
+ghost use Rattle.std.specs.Prelude.{◌≡◌, IfErr, IfOk, length, map};
 ghost use Rattle.relay_serve.specs.Repairing.{GoesOn, GoesOnFrom, IsKeptOfRepair};
 ghost use Rattle.relay_serve.specs.Repairing.{IsOfRepairWith};
 ghost use Rattle.relay_startup.specs.Faults.{IsServeFault};

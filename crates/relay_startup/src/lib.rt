@@ -2,10 +2,10 @@
 //! (docs/PROTOCOL.md, `serve`, Crashes and Clean stop and start), and what `check` looks at.
 //!
 //! The files are held and fitted (`hold_files`, `fit_files`), and it is found out from what a relay
-//! begins (`begin_over`): from nothing, or from what it was stopped with. A first start that was cut
-//! short is completed (`complete_first`); whether it was left without a stop is asked of the heads
-//! (`looked_at`), and what a repair of it goes by, reads and keeps is here too (`last_history`,
-//! `with_heads`, `keep_repaired`). No thread is started.
+//! begins (`begin_over`): from nothing, or from what it was stopped with. A first start that was
+//! cut short is completed (`complete_first`). Whether a relay was left without a stop is asked of
+//! the heads (`looked_at`), and what a repair of it goes by, reads and keeps is here too
+//! (`last_history`, `with_heads`, `keep_repaired`). No thread is started.
 //!
 //! `add_on` adds buffers to a relay that was stopped (docs/PROTOCOL.md, `add-buffer`), `stand_on`
 //! tells how the relay of a folder stands (docs/PROTOCOL.md, `check`).
