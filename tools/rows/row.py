@@ -63,7 +63,7 @@ FILES = ("file", "folder", "pipe", "link", "symlink", "mode", "cut", "poke", "re
 
 # The lines that set something of the program while it runs.
 SHARES = ("clock", "later", "pause", "pauses", "stall", "stalled", "release", "fails", "peers",
-          "crowded", "refuses", "flushes", "unflushed")
+          "crowded", "refuses", "flushes", "unflushed", "unlogged")
 
 # The users of programs that may have a few threads alone: each program has one of its own, since
 # the system counts a user's.
@@ -258,7 +258,7 @@ class Row:
             self.see_come(name)
         elif name == "release":
             self.shared.release()
-        elif name in ("fails", "refuses"):
+        elif name in ("fails", "refuses", "unlogged"):
             self.shared.set(**{name: int(rest)})
         elif name == "flushes":
             self.see_flushed([it[0] for it in rest.split()])
