@@ -5,6 +5,7 @@ pub mod FileFaults
 mod FirstHistory
 pub mod Founds
 mod HeadsRead
+mod Kept
 mod Listed
 mod Looks
 pub mod Rows
