@@ -17,6 +17,7 @@ mod fetched;
 mod fetching;
 mod figures;
 mod following;
+mod laid;
 pub mod laws;
 mod numbered;
 mod open_write;

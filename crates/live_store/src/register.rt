@@ -3,9 +3,10 @@ ghost use Rattle.std.specs.Prelude.{◌≡◌, ◌+◌, ◌<◌, ◌^◌, ℕ, I
 ghost use Rattle.boxcar.specs.Table.{Shows, id_at};
 ghost use Rattle.live_store.specs.Places.{IsAt, bucket_of};
 
-use crate::buckets::{AnyValue, Bucket, Place, new_buckets, new_places};
+use crate::buckets::{AnyValue, Bucket, Place, new_buckets};
 use crate::entry_number::EntryNumber;
-use crate::places::{At, LIMIT, PARTS, locate, width};
+use crate::laid::lay;
+use crate::places::{At, LIMIT, PARTS, locate};
 use boxcar::slot::{OnceSlot, Written};
 use boxcar::tag::Tag;
 use std::alloc::{AllocError, Global};
@@ -19,13 +20,6 @@ pub struct Register<T> {
     next: AtomicUsize,
     buckets: Vec<OnceSlot<Vec<Place<T>>, Bucket>>,
     alloc: Global,
-}
-
-/// That a bucket has its places, or is being given them by another thread: `lay` alone says so.
-#[derive(Drop)]
-struct Laid {
-    /// The number of the bucket.
-    bucket: usize,
 }
 
 // Written out, so that no crate above proves anew how each part is let go.
@@ -85,7 +79,7 @@ impl<T: Drop> Register<T> {
         if next >= LIMIT {
             return Err(AllocError);
         }
-        self.lay(&locate(next))?;
+        lay(self.alloc, &self.buckets, &locate(next))?;
         let index = self.next.fetch_add(1, Ordering::SeqCst);
         if index >= LIMIT {
             self.next.fetch_sub(1, Ordering::SeqCst);
@@ -94,50 +88,13 @@ impl<T: Drop> Register<T> {
         Ok(index)
     }
 
-    /// Takes memory for a bucket's places. Where another thread did so first, it is given back.
-    #[cold]
-    fn make(&self, at: &At) -> Result<(), AllocError>
-        requires at { (index : ℕ) × IsAt index at.now.octave at.now.part at.now.place }
-    {
-        let places = new_places(self.alloc, width(at.octave))?;
-        drop(self.buckets[at.octave * PARTS + at.part].set_written(places));
-        Ok(())
-    }
-
-    /// Takes memory for a bucket's places, unless it has it.
-    fn lay(&self, at: &At) -> Result<Laid, AllocError>
-        requires at { (index : ℕ) × IsAt index at.now.octave at.now.part at.now.place }
-        ensures { IfOk result (λ laid. laid.bucket ≡ bucket_of at.now.octave at.now.part) }
-    {
-        let bucket = at.octave * PARTS + at.part;
-        if self.buckets[bucket].get().is_none() {
-            self.make(at)?;
-        }
-        Ok(Laid { bucket })
-    }
-
     /// What shows a bucket's places, once it has them.
     fn laid<R: Wait>(&self, rt: &R, at: &At) -> Result<Written<Vec<Place<T>>>, AllocError>
         requires at { (index : ℕ) × IsAt index at.now.octave at.now.part at.now.place }
         ensures { IfOk result
             (λ w. w.of ≡ id_at self.now.buckets (bucket_of at.now.octave at.now.part)) }
     {
-        let laid = self.lay(at)?;
-        Ok(self.await_places(rt, laid))
-    }
-
-    /// What shows the places of a bucket for which they were made.
-    fn await_places<R: Wait>(&self, rt: &R, laid: Laid) -> Written<Vec<Place<T>>>
-        requires few { laid.bucket < 864 }
-        ensures { result.of ≡ id_at self.now.buckets laid.bucket }
-    {
-        for _ in rt.forever() {
-            if let Some(row) = self.buckets[laid.bucket].witness() {
-                return row;
-            }
-            std::hint::spin_loop();
-        }
-        unreachable!()
+        Ok(lay(self.alloc, &self.buckets, at)?.places(rt))
     }
 
     /// Writes a value in the place of a number.
