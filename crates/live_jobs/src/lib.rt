@@ -51,7 +51,7 @@ mod start;
 mod store_result;
 mod varints;
 mod writer;
-mod writers;
+mod writer_turns;
 
 pub use answers::mismatched_receipts;
 pub use channel::{JobChannel, LOOKS};
@@ -71,4 +71,4 @@ pub use settling::settle;
 pub use start::{Accounts, Leaver, Plan, Service};
 pub use store_result::{JobAnswer, KeptJob, StoreResult, answer_of};
 pub use writer::{Store, WriterSeat};
-pub use writers::{OwnThreads, Writers};
+pub use writer_turns::{OwnThreads, WriterTurns};

@@ -7,7 +7,7 @@ use crate::outcome::Outcome;
 use crate::placed::{PlacedSeat, SeatPlace};
 use crate::run_premises::RunPremises;
 use crate::writer::Store;
-use crate::writers::Writers;
+use crate::writer_turns::WriterTurns;
 use job_queue::{Change, Parcels};
 use std::sync::Wait;
 use std::sync::ledger::Ledger;
@@ -18,6 +18,7 @@ const IN_A_ROW: u32 = 16;
 
 /// The writers of a run: its channels, the places of the writers' seats, one for each channel, and
 /// what stores.
+#[derive(Drop)]
 pub(crate) struct SeatedWriters<'a, L: Ledger, O: Outcome, S, K: RunPremises> {
     pub(crate) channels: &'a [JobChannel],
     pub(crate) places: &'a [SeatPlace<L, O, K>],
@@ -67,7 +68,7 @@ impl<'a, L: Ledger, O: Outcome, S, K: RunPremises> SeatedWriters<'a, L, O, S, K>
     }
 }
 
-impl<'a, L: Ledger, O: Outcome, S: Store<L, O, R>, K: RunPremises, R: Wait> Writers<R>
+impl<'a, L: Ledger, O: Outcome, S: Store<L, O, R>, K: RunPremises, R: Wait> WriterTurns<R>
     for SeatedWriters<'a, L, O, S, K> {
     fn write(&self, rt: &R, channel: &JobChannel, group: usize, change: Change<Parcels>) {
         match self.places.get(group) {

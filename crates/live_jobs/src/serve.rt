@@ -19,7 +19,7 @@ use crate::start::{
     Accounts, EndFinished, Leaver, Plan, Service, WriterFinished, start_end, start_writer,
 };
 use crate::writer::{Store, WriterSeat};
-use crate::writers::Writers;
+use crate::writer_turns::WriterTurns;
 use job_queue::{InTurn, QueuePass};
 use std::alloc::{AllocError, Global};
 use std::marker::Brand;
@@ -84,7 +84,7 @@ fn start_ends<
     'e: 's,
     T,
     V: Service<R> + Drop + Send + 's,
-    N: Writers<R> + Sync,
+    N: WriterTurns<R> + Sync,
     R: Wait + Sync,
 >(
     scope: &'s Scope<'s, &'e ()>,
@@ -388,10 +388,35 @@ fn serve_placed<
     let Ok(places) = places::<L, O, K>(alloc, channels.len()) else {
         return Err(SeatsError::Memory);
     };
-    let leaves = &leaves;
+    serve_over(rt, channels, store, plans, writers, &places, &leaves)
+}
+
+/// The same, over places of the seats, and flags of the ends.
+fn serve_over<
+    'a,
+    L: Ledger + Send + Sync,
+    O: Outcome + Drop + Send,
+    V: Service<R> + Drop + Send,
+    S: Store<L, O, R> + Sync,
+    K: RunPremises + Send + Sync,
+    R: Threads + Wait + Sync,
+>(
+    rt: &R,
+    channels: &'a [JobChannel],
+    store: &'a S,
+    plans: Vec<Plan<V>>,
+    writers: Vec<WriterSeat<L, O>>,
+    places: &'a [SeatPlace<L, O, K>],
+    leaves: &'a Vec<AtomicBool>,
+) -> Result<Seats<L, O, V>, SeatsError>
+    requires run { CanRun V.fits channels.now plans.items writers.items (length leaves.now.items) }
+    requires places { length places.now ≡ length channels.now }
+    requires premises { (channels.now ≡ K.channels) × (K.ends ≡ length plans.items) }
+    ensures { IfOk result (CameBack V.fits V.mark channels.now plans.items writers.items) }
+{
     let seated = SeatedWriters {
         channels,
-        places: places.as_slice(),
+        places,
         store,
     };
     let seated = &seated;

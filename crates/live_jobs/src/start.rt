@@ -16,7 +16,7 @@ use crate::run_premises::RunPremises;
 use crate::seated::SeatedWriters;
 use crate::session::{LeftSeat, SessionSeat, hang_up, push_marks};
 use crate::writer::{Store, WriterSeat};
-use crate::writers::Writers;
+use crate::writer_turns::WriterTurns;
 use std::snapshot::Snapshot;
 use std::sync::Wait;
 use std::sync::atomic::{AtomicBool, Ordering};
@@ -40,7 +40,7 @@ pub trait Accounts {
 /// what they bring, and keeps its accounts of that.
 pub trait Service<R>: Accounts {
     /// Serves until there is nothing more to serve. What it hands over it may write itself.
-    fn serve<N: Writers<R>>(
+    fn serve<N: WriterTurns<R>>(
         &mut self,
         rt: &R,
         channels: &[JobChannel],
@@ -154,7 +154,7 @@ impl<'a, V: Accounts> Promise<Leaver<V>> for EndFinished<'a, V> {
 
 /// Serves an end, unless it is to leave at once, and then leaves. What it serves is told of the
 /// latter.
-fn serve_end<V: Service<R>, N: Writers<R>, R: Wait>(
+fn serve_end<V: Service<R>, N: WriterTurns<R>, R: Wait>(
     rt: &R,
     channels: &[JobChannel],
     plan: Plan<V>,
@@ -189,7 +189,7 @@ pub(crate) fn start_end<
     's,
     'e: 's,
     V: Service<R> + Drop + Send + 's,
-    N: Writers<R> + Sync,
+    N: WriterTurns<R> + Sync,
     R: Wait + Sync,
 >(
     scope: &'s Scope<'s, &'e ()>,

@@ -133,8 +133,11 @@ pub(crate) fn take_step<L: Ledger, O: Outcome, S: Store<L, O, R>, R: Wait>(
         thread::yield_now();
         return;
     }
-    match channel.try_take(rt, pass) {
-        Some(Parcel::Job(handed)) => {
+    let Some(parcel) = channel.try_take(rt, pass) else {
+        return;
+    };
+    match parcel {
+        Parcel::Job(handed) => {
             let outcome = store.store(rt, share, &handed);
             *kept += worth_of(outcome.is_kept());
             finished.push_reserved(FinishedJob {
@@ -144,7 +147,6 @@ pub(crate) fn take_step<L: Ledger, O: Outcome, S: Store<L, O, R>, R: Wait>(
                 outcome,
             });
         }
-        Some(Parcel::Mark(end)) => close_flag(closed, end),
-        None => {}
+        Parcel::Mark(end) => close_flag(closed, end),
     }
 }

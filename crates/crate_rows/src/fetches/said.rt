@@ -125,7 +125,7 @@ fn refuse<J: StorePremises, L: Ledger, R: Wait>(
     number: u64,
     sheet: &Sheet,
 ) {
-    let shares = JournaledShares::new(shared, journal);
+    let shares = JournaledShares::new(shared, journal, &OwnThreads);
     match id_of(number, sheet) {
         Some(id) => {
             if shares.refuse(rt, &id, SESSION, Standing.now()).is_err() {

@@ -4,7 +4,7 @@ use job_queue::{Change, Parcels};
 
 /// The writers of a run. A thread that brings a job, or waits for what became of one, may do their
 /// work (docs/PROTOCOL.md, Threads).
-pub trait Writers<R> {
+pub trait WriterTurns<R> {
     /// A job was handed over to the group, over its channel. What is left there is taken here,
     /// where no other thread takes it.
     fn write(&self, rt: &R, channel: &JobChannel, group: usize, change: Change<Parcels>);
@@ -17,7 +17,7 @@ pub trait Writers<R> {
 #[derive(Clone, Copy)]
 pub struct OwnThreads;
 
-impl<R> Writers<R> for OwnThreads {
+impl<R> WriterTurns<R> for OwnThreads {
     fn write(&self, _rt: &R, channel: &JobChannel, _group: usize, change: Change<Parcels>) {
         channel.tell(change);
     }
