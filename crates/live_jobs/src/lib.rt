@@ -42,6 +42,7 @@ mod open;
 mod outcome;
 mod own_thread;
 mod placed;
+mod rooms;
 mod run_premises;
 mod seated;
 mod serve;

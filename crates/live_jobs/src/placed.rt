@@ -31,7 +31,7 @@ impl<L: Ledger, O: Outcome + Drop, K: RunPremises> Drop for PlacedSeat<L, O, K> 
     }
 }
 
-/// Where the seat of a group's writer lies: nothing before its thread has put it there, and after it
+/// Where the seat of a group's writer lies: nothing before its thread has put it there, and once it
 /// has taken it back.
 pub(crate) type SeatPlace<L, O, K> = InTurn<Option<PlacedSeat<L, O, K>>>;
 

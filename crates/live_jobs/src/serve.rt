@@ -12,6 +12,7 @@ use crate::channel::JobChannel;
 use crate::gather::Seats;
 use crate::outcome::Outcome;
 use crate::placed::SeatPlace;
+use crate::rooms::{flags, no_rooms, places};
 use crate::run_premises::RunPremises;
 use crate::seated::SeatedWriters;
 use crate::session::{LeftSeat, SessionSeat, push_marks};
@@ -20,8 +21,7 @@ use crate::start::{
 };
 use crate::writer::{Store, WriterSeat};
 use crate::writer_turns::WriterTurns;
-use job_queue::{InTurn, QueuePass};
-use std::alloc::{AllocError, Global};
+use job_queue::QueuePass;
 use std::marker::Brand;
 use std::sync::Wait;
 use std::sync::atomic::AtomicBool;
@@ -261,76 +261,6 @@ fn run_threads<
         return Err(SeatsError::NoThread);
     }
     Ok(seats)
-}
-
-/// Room for the handles and the seats of these writers and ends.
-fn no_rooms<'s, L: Ledger, O: Outcome + Drop, V: Accounts + Drop>(
-    plans: &Vec<Plan<V>>,
-    ready: &Vec<WriterSeat<L, O>>,
-) -> Result<
-    (
-        Vec<PromisedHandle<WriterSeat<L, O>, WriterFinished<'s>>>,
-        Vec<PromisedHandle<Leaver<V>, EndFinished<'s, V>>>,
-        Seats<L, O, V>,
-    ),
-    AllocError,
->
-    ensures none { IfOk result (λ rooms. (length rooms.0.items ≡ 0)
-        × (length rooms.1.items ≡ 0) × (length rooms.2.lefts.items ≡ 0)
-        × (length rooms.2.services.items ≡ 0) × (length rooms.2.writers.items ≡ 0)) }
-    ensures room { IfOk result (λ rooms. (vec_len ready.now ≤ vec_capacity rooms.0)
-        × (vec_len plans.now ≤ vec_capacity rooms.1)
-        × (vec_len plans.now ≤ vec_capacity rooms.2.lefts)
-        × (vec_len plans.now ≤ vec_capacity rooms.2.services)
-        × (vec_len ready.now ≤ vec_capacity rooms.2.writers)) }
-{
-    let alloc = *plans.allocator();
-    let (running, writers) = two_rooms(alloc, ready.len())?;
-    let (lefts, services) = two_rooms(alloc, plans.len())?;
-    let serving = Vec::with_capacity(alloc, plans.len())?;
-    let seats = Seats {
-        lefts,
-        services,
-        writers,
-    };
-    Ok((running, serving, seats))
-}
-
-/// Room for so many of one kind and as many of another.
-fn two_rooms<A: Drop, B: Drop>(alloc: Global, many: usize) -> Result<(Vec<A>, Vec<B>), AllocError>
-    ensures none { IfOk result (λ rooms. (length rooms.0.items ≡ 0)
-        × (length rooms.1.items ≡ 0)) }
-    ensures room { IfOk result (λ rooms. (many ≤ vec_capacity rooms.0)
-        × (many ≤ vec_capacity rooms.1)) }
-{
-    let one = Vec::with_capacity(alloc, many)?;
-    let other = Vec::with_capacity(alloc, many)?;
-    Ok((one, other))
-}
-
-/// A flag for each end.
-fn flags(alloc: Global, ends: usize) -> Result<Vec<AtomicBool>, AllocError>
-    ensures { IfOk result (λ v. length v.items ≡ ends) }
-{
-    let mut all = Vec::with_capacity(alloc, ends)?;
-    for _end in 0..ends {
-        all.push_reserved(AtomicBool::new(false));
-    }
-    Ok(all)
-}
-
-/// A place for the seat of each group's writer, in which none lies.
-fn places<L: Ledger, O: Outcome + Drop, K: RunPremises>(
-    alloc: Global,
-    groups: usize,
-) -> Result<Vec<SeatPlace<L, O, K>>, AllocError>
-    ensures { IfOk result (λ v. length v.items ≡ groups) }
-{
-    let mut all = Vec::with_capacity(alloc, groups)?;
-    for _group in 0..groups {
-        all.push_reserved(InTurn::new(None));
-    }
-    Ok(all)
 }
 
 /// Runs a thread for each writer and each end, until all have ended (docs/PROTOCOL.md, Threads 6).

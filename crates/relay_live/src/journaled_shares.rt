@@ -16,9 +16,9 @@ use std::alloc::{AllocError, Global};
 use std::sync::Wait;
 use std::sync::ledger::Ledger;
 
-/// What the threads share, the journal, and the writers' turns. Each call is that of `Shared`; where
-/// an id is marked as refused the journal is told, once the shard's lock is free; and a job is
-/// stored by who brings it, where no other thread does that.
+/// What the threads share, the journal, and the writers' turns. Each call is that of `Shared`.
+/// Where an id is marked as refused the journal is told, once the shard's lock is free; a job is
+/// stored by who brings it, where no other thread does.
 #[derive(Drop)]
 pub struct JournaledShares<'a, S: BlockStore + Drop, J: StorePremises, L: Ledger, N> {
     shared: &'a Shared<S, J, L>,

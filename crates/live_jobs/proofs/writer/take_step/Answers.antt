@@ -17,8 +17,9 @@ overflow_add-kept g c =
 pub invariant_of-seat-in-Job-clause-took : goal.invariant_of-seat-in-Job-clause-took
 invariant_of-seat-in-Job-clause-took g c =
     let seat = c.args.seat.now in
-    takes_job g.O.Outcome.fits seat.pass c.try_take.new.pass seat.finished.items _ _ c.in-Some.parcel
-    c.in-Job.handed _ seat.took c.try_take.ensures.writer c.in-Some.ensures.taken c.in-Job.is refl
+    takes_job g.O.Outcome.fits seat.pass c.try_take.new.pass seat.finished.items _ _
+    c.in-Some.parcel c.in-Job.handed _ seat.took c.try_take.ensures.writer
+    c.in-Some.ensures.taken c.in-Job.is refl
     c.store-outcome.ensures.fits
     (c.push_reserved.ensures.items
     ∙ ap (λ (l : List (FinishedJob _)). l ++ record {
