@@ -1,32 +1,34 @@
 //! The steps of a queue beside which threads wait: each change is to be told of, and who may wait
 //! looks a last time.
-ghost use Rattle.std.specs.Prelude.{◌≡◌, IfErr, IfOk, IfSome, None, OnOk};
+ghost use Rattle.std.specs.Prelude.{◌≡◌, IfErr, IfSome, None, OnOk};
 ghost use Rattle.crossbeam_queue.specs.Passes.{view, IsPassOf};
 ghost use Rattle.job_queue.specs.Delivery.{HasHanded, HasTaken, IsClosed, IsOpen, OfWriter};
 ghost use Rattle.job_queue.specs.declared.parcel.Parcel.TheVariants as parcels;
 
+use crate::in_turn::{Counted, Untaken};
 use crate::parcel::{Handed, Parcel};
 use crate::queue::{JobQueue, QueuePass, hand_over, mark_closed, take_one};
 use crate::waiting::{Announced, Change, Looked, Parcels, Room};
 use std::sync::Wait;
 
-/// As `hand_over`; the parcel is to be told of.
+/// As `hand_over`, of a parcel that is counted; it is to be told of.
 pub fn hand_over_first<R: Wait>(
     rt: &R,
     queue: &JobQueue,
     pass: &mut QueuePass,
     job: Handed,
-) -> Result<Change<Parcels>, Handed>
+    counted: Counted,
+) -> Result<Change<Parcels>, (Handed, Counted)>
     requires pass { IsPassOf queue.now pass.old }
     requires open { IsOpen job.end (view pass.old) }
     ensures pass { IsPassOf queue.now pass.new }
     ensures open { IsOpen job.end (view pass.new) }
     ensures taken { OnOk result (HasHanded (view pass.old) (parcels.Job job) (view pass.new)) }
-    ensures full { IfErr result (λ back. (back ≡ job) × (view pass.new ≡ view pass.old)) }
+    ensures full { IfErr result (λ back. (back.0 ≡ job) × (view pass.new ≡ view pass.old)) }
 {
     match hand_over(rt, queue, pass, job) {
-        Ok(()) => Ok(Change::made()),
-        Err(back) => Err(back),
+        Ok(()) => Ok(counted.handed_over()),
+        Err(back) => Err((back, counted)),
     }
 }
 
@@ -36,8 +38,9 @@ pub fn hand_over_last<'a, R: Wait>(
     queue: &JobQueue,
     pass: &mut QueuePass,
     job: Handed,
+    counted: Counted,
     announced: Announced<'a, Room>,
-) -> Result<Change<Parcels>, (Handed, Looked<'a>)>
+) -> Result<Change<Parcels>, (Handed, Counted, Looked<'a>)>
     requires pass { IsPassOf queue.now pass.old }
     requires open { IsOpen job.end (view pass.old) }
     ensures pass { IsPassOf queue.now pass.new }
@@ -46,8 +49,8 @@ pub fn hand_over_last<'a, R: Wait>(
     ensures full { IfErr result (λ back. (back.0 ≡ job) × (view pass.new ≡ view pass.old)) }
 {
     match hand_over(rt, queue, pass, job) {
-        Ok(()) => Ok(Change::made()),
-        Err(back) => Err((back, announced.found_nothing())),
+        Ok(()) => Ok(counted.handed_over()),
+        Err(back) => Err((back, counted, announced.found_nothing())),
     }
 }
 
@@ -57,8 +60,9 @@ pub fn mark_closed_last<'a, R: Wait>(
     queue: &JobQueue,
     pass: &mut QueuePass,
     end: u64,
+    counted: Counted,
     announced: Announced<'a, Room>,
-) -> Result<Change<Parcels>, Looked<'a>>
+) -> Result<Change<Parcels>, (Counted, Looked<'a>)>
     requires pass { IsPassOf queue.now pass.old }
     requires open { IsOpen end (view pass.old) }
     ensures pass { IsPassOf queue.now pass.new }
@@ -67,15 +71,16 @@ pub fn mark_closed_last<'a, R: Wait>(
     ensures full { IfErr result (λ _. view pass.new ≡ view pass.old) }
 {
     if mark_closed(rt, queue, pass, end) {
-        return Ok(Change::made());
+        return Ok(counted.handed_over());
     }
-    Err(announced.found_nothing())
+    Err((counted, announced.found_nothing()))
 }
 
-/// As `take_one`; that there is room is to be told of.
+/// As `take_one`, of a queue whose parcels are counted; that there is room is to be told of.
 pub fn take_one_first<R: Wait>(
     rt: &R,
     queue: &JobQueue,
+    untaken: &Untaken,
     pass: &mut QueuePass,
 ) -> Option<(Parcel, Change<Room>)>
     requires pass { IsPassOf queue.now pass.old }
@@ -86,27 +91,10 @@ pub fn take_one_first<R: Wait>(
     ensures empty { result ≡ None → view pass.new ≡ view pass.old }
 {
     match take_one(rt, queue, pass) {
-        Some(parcel) => Some((parcel, Change::made())),
+        Some(parcel) => {
+            untaken.took_one();
+            Some((parcel, Change::made()))
+        }
         None => None,
-    }
-}
-
-/// The same of one whose wait for a parcel is announced; where the queue was empty he may wait.
-pub fn take_one_last<'a, R: Wait>(
-    rt: &R,
-    queue: &JobQueue,
-    pass: &mut QueuePass,
-    announced: Announced<'a, Parcels>,
-) -> Result<(Parcel, Change<Room>), Looked<'a>>
-    requires pass { IsPassOf queue.now pass.old }
-    requires writer { OfWriter (view pass.old) }
-    ensures pass { IsPassOf queue.now pass.new }
-    ensures writer { OfWriter (view pass.new) }
-    ensures taken { IfOk result (λ took. HasTaken (view pass.old) took.0 (view pass.new)) }
-    ensures empty { IfErr result (λ _. view pass.new ≡ view pass.old) }
-{
-    match take_one(rt, queue, pass) {
-        Some(parcel) => Ok((parcel, Change::made())),
-        None => Err(announced.found_nothing()),
     }
 }

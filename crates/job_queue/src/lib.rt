@@ -7,9 +7,11 @@
 //! are compared: what was taken of the end is what it handed over.
 //!
 //! Who finds the queue full or empty may wait beside it, as others do for what stands behind a
-//! lock: announced, then looked a last time, then asleep.
+//! lock: announced, then looked a last time, then asleep. Who hands a parcel over may take in turn
+//! with others: counted, then handed over, then tried.
 #![tactic(auto)]
 
+mod in_turn;
 mod known;
 mod last_look;
 mod parcel;
@@ -17,10 +19,9 @@ mod queue;
 mod rule;
 mod waiting;
 
+pub use in_turn::{Counted, InTurn, Turn, Untaken};
 pub use known::Known;
-pub use last_look::{
-    hand_over_first, hand_over_last, mark_closed_last, take_one_first, take_one_last,
-};
+pub use last_look::{hand_over_first, hand_over_last, mark_closed_last, take_one_first};
 pub use parcel::{Handed, Parcel};
 pub use queue::{
     JobQueue, QueuePass, compare, compare_rest, end_pass, hand_over, mark_closed, new_queue,

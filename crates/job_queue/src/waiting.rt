@@ -43,7 +43,7 @@ impl<K> Row<K> {
 
     /// Tells one of a change.
     pub fn tell(&self, change: Change<K>) {
-        let Change { kind: _ } = change;
+        change.seen_to();
         self.told.notify_one();
     }
 }
@@ -57,6 +57,11 @@ impl<K> Change<K> {
     /// It was made.
     pub(crate) fn made() -> Change<K> {
         Change { kind: PhantomData }
+    }
+
+    /// It needn't be told of any more.
+    pub(crate) fn seen_to(self) {
+        let Change { kind: _ } = self;
     }
 }
 

@@ -5,9 +5,12 @@ ghost use Rattle.job_queue.specs.Delivery.{knows_all, OfWriter, IsOpen, IsClosed
 ghost use Rattle.job_queue.specs.Delivery.{HasHanded, HasTaken};
 ghost use Rattle.job_queue.specs.declared.parcel.Parcel.TheVariants as parcels;
 
-use job_queue::{Handed, JobQueue, Parcel, Parcels, QueuePass, Room, Row};
+use job_queue::{
+    Announced, Change, Handed, JobQueue, Looked, Parcel, Parcels, QueuePass, Room, Row, Turn,
+    Untaken,
+};
 use std::alloc::{AllocError, Global};
-use std::sync::Wait;
+use std::sync::{MutexGuard, Wait};
 use std::thread;
 
 /// How often a thread looks before it sleeps. Between two looks it gives way to other threads, so
@@ -18,7 +21,9 @@ pub const LOOKS: u32 = 64;
 /// that was taken or pushed.
 pub struct JobChannel {
     pub(crate) queue: JobQueue,
-    // Told of each parcel that is pushed.
+    // The parcels that are pushed, or are about to be, and not taken yet.
+    untaken: Untaken,
+    // Told of parcels that who pushed them doesn't see to.
     filled: Row<Parcels>,
     // Told of each parcel that is taken.
     emptied: Row<Room>,
@@ -29,6 +34,7 @@ impl Drop for JobChannel {
     fn drop(self) {
         let JobChannel {
             queue: _,
+            untaken: _,
             filled: _,
             emptied: _,
         } = self;
@@ -46,19 +52,21 @@ impl JobChannel {
         let (queue, first) = job_queue::new_queue(alloc)?;
         let channel = JobChannel {
             queue,
+            untaken: Untaken::new(),
             filled: Row::new(),
             emptied: Row::new(),
         };
         Ok((channel, first))
     }
 
-    /// Hands a job over, or gives it back where the queue was full at one moment.
+    /// Hands a job over, or gives it back where the queue was full at one moment. It is counted
+    /// before.
     pub(crate) fn try_hand_over<R: Wait>(
         &self,
         rt: &R,
         pass: &mut QueuePass,
         job: Handed,
-    ) -> Result<(), Handed>
+    ) -> Result<Change<Parcels>, Handed>
         requires pass { IsPassOf (queue_of self.now) pass.old }
         requires open { IsOpen job.end (view pass.old) }
         ensures pass { IsPassOf (queue_of self.now) pass.new }
@@ -67,12 +75,13 @@ impl JobChannel {
             HasHanded (view pass.old) (parcels.Job job) (view pass.new)) }
         ensures full { IfErr result (λ back. (back ≡ job) × (view pass.new ≡ view pass.old)) }
     {
-        match job_queue::hand_over_first(rt, &self.queue, pass, job) {
-            Ok(change) => {
-                self.filled.tell(change);
-                Ok(())
+        let counted = self.untaken.count();
+        match job_queue::hand_over_first(rt, &self.queue, pass, job, counted) {
+            Ok(change) => Ok(change),
+            Err((back, counted)) => {
+                self.untaken.uncount(counted);
+                Err(back)
             }
-            Err(back) => Err(back),
         }
     }
 
@@ -82,7 +91,7 @@ impl JobChannel {
         rt: &R,
         pass: &mut QueuePass,
         mut job: Handed,
-    ) -> Result<(), Handed>
+    ) -> Result<Change<Parcels>, Handed>
         requires pass { IsPassOf (queue_of self.now) pass.old }
         requires open { IsOpen job.end (view pass.old) }
         ensures pass { IsPassOf (queue_of self.now) pass.new }
@@ -93,7 +102,7 @@ impl JobChannel {
     {
         for _ in 0..LOOKS {
             match self.try_hand_over(rt, pass, job) {
-                Ok(()) => return Ok(()),
+                Ok(change) => return Ok(change),
                 Err(back) => job = back,
             }
             thread::yield_now();
@@ -102,7 +111,12 @@ impl JobChannel {
     }
 
     /// Hands a job over. Where the queue is full it waits until there is room.
-    pub(crate) fn hand_over<R: Wait>(&self, rt: &R, pass: &mut QueuePass, mut job: Handed)
+    pub(crate) fn hand_over<R: Wait>(
+        &self,
+        rt: &R,
+        pass: &mut QueuePass,
+        mut job: Handed,
+    ) -> Change<Parcels>
         requires pass { IsPassOf (queue_of self.now) pass.old }
         requires open { IsOpen job.end (view pass.old) }
         ensures pass { IsPassOf (queue_of self.now) pass.new }
@@ -111,17 +125,16 @@ impl JobChannel {
     {
         for _ in rt.forever() {
             match self.try_often(rt, pass, job) {
-                Ok(()) => return,
+                Ok(change) => return change,
                 Err(back) => job = back,
             }
             let announced = self.emptied.announce();
-            match job_queue::hand_over_last(rt, &self.queue, pass, job, announced) {
-                Ok(change) => {
-                    self.filled.tell(change);
-                    return;
-                }
-                Err((back, full)) => {
+            let counted = self.untaken.count();
+            match job_queue::hand_over_last(rt, &self.queue, pass, job, counted, announced) {
+                Ok(change) => return change,
+                Err((back, counted, full)) => {
                     job = back;
+                    self.untaken.uncount(counted);
                     full.wait(rt);
                 }
             }
@@ -139,19 +152,23 @@ impl JobChannel {
     {
         for _ in rt.forever() {
             let announced = self.emptied.announce();
-            match job_queue::mark_closed_last(rt, &self.queue, pass, end, announced) {
+            let counted = self.untaken.count();
+            match job_queue::mark_closed_last(rt, &self.queue, pass, end, counted, announced) {
                 Ok(change) => {
                     self.filled.tell(change);
                     return;
                 }
-                Err(full) => full.wait(rt),
+                Err((counted, full)) => {
+                    self.untaken.uncount(counted);
+                    full.wait(rt);
+                }
             }
         }
         unreachable!()
     }
 
-    // Takes the oldest parcel, or none where the queue was empty at one moment.
-    fn try_take<R: Wait>(&self, rt: &R, pass: &mut QueuePass) -> Option<Parcel>
+    /// Takes the oldest parcel, or none where the queue was empty at one moment.
+    pub(crate) fn try_take<R: Wait>(&self, rt: &R, pass: &mut QueuePass) -> Option<Parcel>
         requires pass { IsPassOf (queue_of self.now) pass.old }
         requires writer { OfWriter (view pass.old) }
         ensures pass { IsPassOf (queue_of self.now) pass.new }
@@ -159,7 +176,7 @@ impl JobChannel {
         ensures taken { IfSome result (λ parcel. HasTaken (view pass.old) parcel (view pass.new)) }
         ensures empty { result ≡ None → view pass.new ≡ view pass.old }
     {
-        match job_queue::take_one_first(rt, &self.queue, pass) {
+        match job_queue::take_one_first(rt, &self.queue, &self.untaken, pass) {
             Some((parcel, change)) => {
                 self.emptied.tell(change);
                 Some(parcel)
@@ -168,45 +185,37 @@ impl JobChannel {
         }
     }
 
-    // Looks so often, and gives way between.
-    fn take_soon<R: Wait>(&self, rt: &R, pass: &mut QueuePass) -> Option<Parcel>
-        requires pass { IsPassOf (queue_of self.now) pass.old }
-        requires writer { OfWriter (view pass.old) }
-        ensures pass { IsPassOf (queue_of self.now) pass.new }
-        ensures writer { OfWriter (view pass.new) }
-        ensures taken { IfSome result (λ parcel. HasTaken (view pass.old) parcel (view pass.new)) }
-        ensures empty { result ≡ None → view pass.new ≡ view pass.old }
-    {
-        for _ in 0..LOOKS {
-            if let Some(parcel) = self.try_take(rt, pass) {
-                return Some(parcel);
-            }
-            thread::yield_now();
-        }
-        None
+    /// Tells the group's own thread of a change that its maker doesn't see to.
+    pub fn tell(&self, change: Change<Parcels>) {
+        self.filled.tell(change);
     }
 
-    /// Takes the oldest parcel. Where the queue is empty it waits until there is one.
-    pub(crate) fn take<R: Wait>(&self, rt: &R, pass: &mut QueuePass) -> Parcel
-        requires pass { IsPassOf (queue_of self.now) pass.old }
-        requires writer { OfWriter (view pass.old) }
-        ensures pass { IsPassOf (queue_of self.now) pass.new }
-        ensures writer { OfWriter (view pass.new) }
-        ensures taken { HasTaken (view pass.old) result (view pass.new) }
-    {
-        for _ in rt.forever() {
-            if let Some(parcel) = self.take_soon(rt, pass) {
-                return parcel;
-            }
-            let announced = self.filled.announce();
-            match job_queue::take_one_last(rt, &self.queue, pass, announced) {
-                Ok((parcel, change)) => {
-                    self.emptied.tell(change);
-                    return parcel;
-                }
-                Err(empty) => empty.wait(rt),
-            }
-        }
-        unreachable!()
+    /// Whether something is left that wasn't taken yet.
+    pub fn left(&self) -> Option<Change<Parcels>> {
+        self.untaken.left()
+    }
+
+    /// Lets go of the writer's seat, and looks whether something is left.
+    pub(crate) fn end_turn<T>(
+        &self,
+        held: MutexGuard<'_, T>,
+        turn: Turn,
+    ) -> Option<Change<Parcels>> {
+        self.untaken.end_turn(held, turn)
+    }
+
+    /// Announces that the group's own thread may wait for a parcel.
+    pub(crate) fn announce(&self) -> Announced<'_, Parcels> {
+        self.filled.announce()
+    }
+
+    /// As `end_turn`, of the group's own thread: where nothing is left it may wait.
+    pub(crate) fn end_turn_last<'a, T>(
+        &self,
+        held: MutexGuard<'_, T>,
+        turn: Turn,
+        announced: Announced<'a, Parcels>,
+    ) -> Option<Looked<'a>> {
+        self.untaken.end_turn_last(held, turn, announced)
     }
 }

@@ -11,13 +11,18 @@ ghost use Rattle.live_jobs.specs.Started.{AllEnded, AllLeft, AllKept, CameBack, 
 use crate::channel::JobChannel;
 use crate::gather::Seats;
 use crate::outcome::Outcome;
+use crate::placed::SeatPlace;
+use crate::rooms::{flags, no_rooms, places};
+use crate::run_premises::RunPremises;
+use crate::seated::SeatedWriters;
 use crate::session::{LeftSeat, SessionSeat, push_marks};
 use crate::start::{
     Accounts, EndFinished, Leaver, Plan, Service, WriterFinished, start_end, start_writer,
 };
 use crate::writer::{Store, WriterSeat};
+use crate::writer_turns::WriterTurns;
 use job_queue::QueuePass;
-use std::alloc::{AllocError, Global};
+use std::marker::Brand;
 use std::sync::Wait;
 use std::sync::atomic::AtomicBool;
 use std::sync::ledger::Ledger;
@@ -41,12 +46,13 @@ fn start_writers<
     L: Ledger + Send + Sync + 's,
     O: Outcome + Drop + Send + 's,
     S: Store<L, O, R> + Sync,
+    K: RunPremises + Send + Sync + 's,
     R: Wait + Sync,
 >(
     scope: &'s Scope<'s, &'e ()>,
     rt: &'s R,
     channels: &'s [JobChannel],
-    store: &'s S,
+    seated: &'s SeatedWriters<'s, L, O, S, K>,
     writers: Vec<WriterSeat<L, O>>,
     ends: usize,
     running: &mut Vec<PromisedHandle<WriterSeat<L, O>, WriterFinished<'s>>>,
@@ -55,6 +61,7 @@ fn start_writers<
     requires room { vec_len writers ≤ vec_capacity running.old }
     requires channels { length writers.items ≤ length channels.now }
     requires fit { AllReady channels.now ends writers.items }
+    requires premises { (channels.now ≡ K.channels) × (K.ends ≡ ends) }
     ensures all { result ≡ true → length running.new.items ≡ length writers.items }
     ensures some { length running.new.items ≤ length writers.items }
     ensures fit { From (λ g h. Runs channels.now ends g h.promise.channel.now h.promise.ends) 0
@@ -62,7 +69,7 @@ fn start_writers<
 {
     for seat in writers {
         let group = running.len();
-        match start_writer(scope, rt, &channels[group], store, seat, ends) {
+        match start_writer(scope, rt, &channels[group], group, seated, seat, ends) {
             Some(handle) => running.push_reserved(handle),
             None => return false,
         }
@@ -72,12 +79,20 @@ fn start_writers<
 
 /// Starts the ends' threads, in order. Where one can't be started, this end and all after it leave
 /// the writers that run here and now.
-fn start_ends<'s, 'e: 's, T, V: Service<R> + Drop + Send + 's, R: Wait + Sync>(
+fn start_ends<
+    's,
+    'e: 's,
+    T,
+    V: Service<R> + Drop + Send + 's,
+    N: WriterTurns<R> + Sync,
+    R: Wait + Sync,
+>(
     scope: &'s Scope<'s, &'e ()>,
     rt: &'s R,
     channels: &'s [JobChannel],
     plans: Vec<Plan<V>>,
     leaves: &'s Vec<AtomicBool>,
+    writers: &'s N,
     running: &[T],
     serving: &mut Vec<PromisedHandle<Leaver<V>, EndFinished<'s, V>>>,
 ) -> bool
@@ -97,7 +112,7 @@ fn start_ends<'s, 'e: 's, T, V: Service<R> + Drop + Send + 's, R: Wait + Sync>(
     let mut left = plans.into_iter();
     while let Some(plan) = left.next() {
         let end = serving.len();
-        match start_end(scope, rt, channels, plan, &leaves[end]) {
+        match start_end(scope, rt, channels, plan, &leaves[end], writers) {
             Some(handle) => serving.push_reserved(handle),
             None => {
                 leave_running(rt, channels, left, running);
@@ -205,29 +220,40 @@ fn run_threads<
     O: Outcome + Drop + Send + 's,
     V: Service<R> + Drop + Send + 's,
     S: Store<L, O, R> + Sync,
+    K: RunPremises + Send + Sync + 's,
     R: Threads + Wait + Sync,
 >(
     scope: &'s Scope<'s, &'e ()>,
     rt: &'s R,
     channels: &'s [JobChannel],
-    store: &'s S,
+    seated: &'s SeatedWriters<'s, L, O, S, K>,
     plans: Vec<Plan<V>>,
     writers: Vec<WriterSeat<L, O>>,
     leaves: &'s Vec<AtomicBool>,
 ) -> Result<Seats<L, O, V>, SeatsError>
-    requires { CanRun V.fits channels.now plans.items writers.items (length leaves.now.items) }
+    requires run { CanRun V.fits channels.now plans.items writers.items (length leaves.now.items) }
+    requires premises { (channels.now ≡ K.channels) × (K.ends ≡ length plans.items) }
     ensures { IfOk result (CameBack V.fits V.mark channels.now plans.items writers.items) }
 {
     let ends = plans.len();
     let Ok((mut running, mut serving, mut seats)) = no_rooms(&plans, &writers) else {
         return Err(SeatsError::Memory);
     };
-    if !start_writers(scope, rt, channels, store, writers, ends, &mut running) {
+    if !start_writers(scope, rt, channels, seated, writers, ends, &mut running) {
         leave_running(rt, channels, plans.into_iter(), &running);
         drop(seats);
         return Err(SeatsError::NoThread);
     }
-    let all = start_ends(scope, rt, channels, plans, leaves, &running, &mut serving);
+    let all = start_ends(
+        scope,
+        rt,
+        channels,
+        plans,
+        leaves,
+        seated,
+        &running,
+        &mut serving,
+    );
     join_ends(rt, channels, serving, &mut seats.lefts, &mut seats.services);
     join_writers(rt, channels, ends, running, &mut seats.writers);
     if !all {
@@ -235,62 +261,6 @@ fn run_threads<
         return Err(SeatsError::NoThread);
     }
     Ok(seats)
-}
-
-/// Room for the handles and the seats of these writers and ends.
-fn no_rooms<'s, L: Ledger, O: Outcome + Drop, V: Accounts + Drop>(
-    plans: &Vec<Plan<V>>,
-    ready: &Vec<WriterSeat<L, O>>,
-) -> Result<
-    (
-        Vec<PromisedHandle<WriterSeat<L, O>, WriterFinished<'s>>>,
-        Vec<PromisedHandle<Leaver<V>, EndFinished<'s, V>>>,
-        Seats<L, O, V>,
-    ),
-    AllocError,
->
-    ensures none { IfOk result (λ rooms. (length rooms.0.items ≡ 0)
-        × (length rooms.1.items ≡ 0) × (length rooms.2.lefts.items ≡ 0)
-        × (length rooms.2.services.items ≡ 0) × (length rooms.2.writers.items ≡ 0)) }
-    ensures room { IfOk result (λ rooms. (vec_len ready.now ≤ vec_capacity rooms.0)
-        × (vec_len plans.now ≤ vec_capacity rooms.1)
-        × (vec_len plans.now ≤ vec_capacity rooms.2.lefts)
-        × (vec_len plans.now ≤ vec_capacity rooms.2.services)
-        × (vec_len ready.now ≤ vec_capacity rooms.2.writers)) }
-{
-    let alloc = *plans.allocator();
-    let (running, writers) = two_rooms(alloc, ready.len())?;
-    let (lefts, services) = two_rooms(alloc, plans.len())?;
-    let serving = Vec::with_capacity(alloc, plans.len())?;
-    let seats = Seats {
-        lefts,
-        services,
-        writers,
-    };
-    Ok((running, serving, seats))
-}
-
-/// Room for so many of one kind and as many of another.
-fn two_rooms<A: Drop, B: Drop>(alloc: Global, many: usize) -> Result<(Vec<A>, Vec<B>), AllocError>
-    ensures none { IfOk result (λ rooms. (length rooms.0.items ≡ 0)
-        × (length rooms.1.items ≡ 0)) }
-    ensures room { IfOk result (λ rooms. (many ≤ vec_capacity rooms.0)
-        × (many ≤ vec_capacity rooms.1)) }
-{
-    let one = Vec::with_capacity(alloc, many)?;
-    let other = Vec::with_capacity(alloc, many)?;
-    Ok((one, other))
-}
-
-/// A flag for each end.
-fn flags(alloc: Global, ends: usize) -> Result<Vec<AtomicBool>, AllocError>
-    ensures { IfOk result (λ v. length v.items ≡ ends) }
-{
-    let mut all = Vec::with_capacity(alloc, ends)?;
-    for _end in 0..ends {
-        all.push_reserved(AtomicBool::new(false));
-    }
-    Ok(all)
 }
 
 /// Runs a thread for each writer and each end, until all have ended (docs/PROTOCOL.md, Threads 6).
@@ -316,18 +286,79 @@ pub fn serve_seats<
     requires kept { AllRight V.fits plans.items }
     ensures { IfOk result (CameBack V.fits V.mark channels.now plans.items writers.items) }
 {
-    let Ok(leaves) = flags(*plans.allocator(), plans.len()) else {
+    serve_placed::<L, O, V, S, Brand, R>(rt, channels, store, plans, writers)
+}
+
+/// The same, over the premises of the run.
+fn serve_placed<
+    L: Ledger + Send + Sync,
+    O: Outcome + Drop + Send,
+    V: Service<R> + Drop + Send,
+    S: Store<L, O, R> + Sync,
+    K: RunPremises + Send + Sync,
+    R: Threads + Wait + Sync,
+>(
+    rt: &R,
+    channels: &[JobChannel],
+    store: &S,
+    plans: Vec<Plan<V>>,
+    writers: Vec<WriterSeat<L, O>>,
+) -> Result<Seats<L, O, V>, SeatsError>
+    requires channels { length writers.items ≤ length channels.now }
+    requires writers { AllReady channels.now (length plans.items) writers.items }
+    requires ends { AllOpen channels.now plans.items }
+    requires kept { AllRight V.fits plans.items }
+    requires premises { (channels.now ≡ K.channels) × (K.ends ≡ length plans.items) }
+    ensures { IfOk result (CameBack V.fits V.mark channels.now plans.items writers.items) }
+{
+    let alloc = *plans.allocator();
+    let Ok(leaves) = flags(alloc, plans.len()) else {
         return Err(SeatsError::Memory);
     };
-    let leaves = &leaves;
+    let Ok(places) = places::<L, O, K>(alloc, channels.len()) else {
+        return Err(SeatsError::Memory);
+    };
+    serve_over(rt, channels, store, plans, writers, &places, &leaves)
+}
+
+/// The same, over places of the seats, and flags of the ends.
+fn serve_over<
+    'a,
+    L: Ledger + Send + Sync,
+    O: Outcome + Drop + Send,
+    V: Service<R> + Drop + Send,
+    S: Store<L, O, R> + Sync,
+    K: RunPremises + Send + Sync,
+    R: Threads + Wait + Sync,
+>(
+    rt: &R,
+    channels: &'a [JobChannel],
+    store: &'a S,
+    plans: Vec<Plan<V>>,
+    writers: Vec<WriterSeat<L, O>>,
+    places: &'a [SeatPlace<L, O, K>],
+    leaves: &'a Vec<AtomicBool>,
+) -> Result<Seats<L, O, V>, SeatsError>
+    requires run { CanRun V.fits channels.now plans.items writers.items (length leaves.now.items) }
+    requires places { length places.now ≡ length channels.now }
+    requires premises { (channels.now ≡ K.channels) × (K.ends ≡ length plans.items) }
+    ensures { IfOk result (CameBack V.fits V.mark channels.now plans.items writers.items) }
+{
+    let seated = SeatedWriters {
+        channels,
+        places,
+        store,
+    };
+    let seated = &seated;
     thread::scope(
         thread::scope_env(),
         rt,
         move |scope| -> Result<Seats<L, O, V>, SeatsError>
             requires { CanRun V.fits channels.now plans.items writers.items
-                (length leaves.now.items) }
+                (length leaves.now.items) × (channels.now ≡ K.channels)
+                × (K.ends ≡ length plans.items) }
             ensures { IfOk result
                 (CameBack V.fits V.mark channels.entry.now plans.items writers.items) }
-        { run_threads(scope, rt, channels, store, plans, writers, leaves) },
+        { run_threads(scope, rt, channels, seated, plans, writers, leaves) },
     )
 }

@@ -8,7 +8,7 @@ ghost use Rattle.live_jobs.specs.Seats.{left_end, left_by};
 
 use crate::channel::JobChannel;
 use buffer_group::Job;
-use job_queue::{Handed, QueuePass};
+use job_queue::{Change, Handed, Parcels, QueuePass};
 use std::sync::Wait;
 
 /// An end's right to hand jobs over to each group: a pass of each channel, and how many jobs it has
@@ -48,21 +48,21 @@ impl SessionSeat {
         self.handed
     }
 
-    /// Hands a job over to a group, and answers its number. Where the queue is full it waits until
-    /// there is room.
+    /// Hands a job over to a group, and answers its number, with a change that is to be seen to.
+    /// Where the queue is full it waits until there is room.
     pub fn hand_over<R: Wait>(
         &mut self,
         rt: &R,
         channels: &[JobChannel],
         group: usize,
         job: Job,
-    ) -> u64
+    ) -> (u64, Change<Parcels>)
         requires group { group < length channels.now }
         requires seat { IsSeatOf channels.now self.old }
         requires room { count_of self.old < 2 ^ 63 }
         ensures seat { IsSeatOf channels.now self.new }
         ensures end { end_of self.new ≡ end_of self.old }
-        ensures number { result ≡ count_of self.old }
+        ensures number { result.0 ≡ count_of self.old }
         ensures count { count_of self.new ≡ count_of self.old + 1 }
         ensures taken { handed_by self.new
             ≡ slice_set (handed_by self.old) group (slice_index_or (handed_by self.old) group []
@@ -74,9 +74,9 @@ impl SessionSeat {
             number,
             job,
         };
-        channels[group].hand_over(rt, &mut self.passes[group], handed);
+        let change = channels[group].hand_over(rt, &mut self.passes[group], handed);
         self.handed += 1;
-        number
+        (number, change)
     }
 }
 

@@ -1,6 +1,6 @@
 //! The threads of ends and writers.
 ghost use Rattle.std.specs.Prelude.{◌≡◌, ◌+◌, ◌<◌, ℕ, List, true, false, Some};
-ghost use Rattle.std.specs.Prelude.{length, IfSome};
+ghost use Rattle.std.specs.Prelude.{length, slice_get, IfSome};
 ghost use Rattle.crossbeam_queue.specs.Passes.{IsPassOf};
 ghost use Rattle.job_queue.specs.declared.parcel.Handed.{Handed};
 ghost use Rattle.live_jobs.specs.JobChannels.{queue_of};
@@ -11,8 +11,12 @@ ghost use Rattle.live_jobs.specs.Started.{Serves, HasKept};
 
 use crate::channel::JobChannel;
 use crate::outcome::Outcome;
+use crate::own_thread::run_writer;
+use crate::run_premises::RunPremises;
+use crate::seated::SeatedWriters;
 use crate::session::{LeftSeat, SessionSeat, hang_up, push_marks};
-use crate::writer::{Store, WriterSeat, run_writer};
+use crate::writer::{Store, WriterSeat};
+use crate::writer_turns::WriterTurns;
 use std::snapshot::Snapshot;
 use std::sync::Wait;
 use std::sync::atomic::{AtomicBool, Ordering};
@@ -35,8 +39,14 @@ pub trait Accounts {
 /// What an end does with its seat, in a thread of its own: it serves its connections, hands over
 /// what they bring, and keeps its accounts of that.
 pub trait Service<R>: Accounts {
-    /// Serves until there is nothing more to serve.
-    fn serve(&mut self, rt: &R, channels: &[JobChannel], seat: SessionSeat) -> SessionSeat
+    /// Serves until there is nothing more to serve. What it hands over it may write itself.
+    fn serve<N: WriterTurns<R>>(
+        &mut self,
+        rt: &R,
+        channels: &[JobChannel],
+        writers: &N,
+        seat: SessionSeat,
+    ) -> SessionSeat
         requires seat { IsSeatOf channels.now seat }
         requires kept { Self.fits self.old (end_of seat) (count_of seat) (handed_by seat) }
         ensures seat { IsSeatOf channels.now result }
@@ -89,28 +99,33 @@ pub(crate) fn start_writer<
     L: Ledger + Send + Sync + 's,
     O: Outcome + Drop + Send + 's,
     S: Store<L, O, R> + Sync,
+    K: RunPremises + Send + Sync + 's,
     R: Wait + Sync,
 >(
     scope: &'s Scope<'s, &'e ()>,
     rt: &'s R,
     channel: &'s JobChannel,
-    store: &'s S,
+    group: usize,
+    seated: &'s SeatedWriters<'s, L, O, S, K>,
     seat: WriterSeat<L, O>,
     ends: usize,
 ) -> Option<PromisedHandle<WriterSeat<L, O>, WriterFinished<'s>>>
     requires pass { IsPassOf (queue_of channel.now) seat.pass }
     requires here { seat.lent ≡ false }
     requires ends { length seat.closed.items ≡ ends }
+    requires group { slice_get K.channels group ≡ Some channel.now }
+    requires all { K.ends ≡ ends }
     ensures { IfSome result (λ h. (h.promise.channel.now ≡ channel.now) × (h.promise.ends ≡ ends)) }
 {
     let body = move || -> WriterSeat<L, O>
         requires { IsPassOf (queue_of channel.now) seat.pass × (seat.lent ≡ false)
-            × (length seat.closed.items ≡ ends) }
+            × (length seat.closed.items ≡ ends) × (K.ends ≡ ends)
+            × (slice_get K.channels group ≡ Some channel.now) }
         ensures { IsPassOf (queue_of channel.entry.now) result.pass
             × AllClosed ends result.closed.items × (result.lent ≡ false) }
     {
         let _ = &ends;
-        run_writer(rt, channel, store, seat)
+        run_writer(rt, channel, seated, group, seat)
     };
     scope
         .spawn_with(WriterFinished { channel, ends }, body)
@@ -139,11 +154,12 @@ impl<'a, V: Accounts> Promise<Leaver<V>> for EndFinished<'a, V> {
 
 /// Serves an end, unless it is to leave at once, and then leaves. What it serves is told of the
 /// latter.
-fn serve_end<V: Service<R>, R: Wait>(
+fn serve_end<V: Service<R>, N: WriterTurns<R>, R: Wait>(
     rt: &R,
     channels: &[JobChannel],
     plan: Plan<V>,
     leaves: &AtomicBool,
+    writers: &N,
 ) -> Leaver<V>
     requires seat { IsSeatOf channels.now plan.seat }
     requires kept { V.fits plan.service (end_of plan.seat) (count_of plan.seat)
@@ -161,7 +177,7 @@ fn serve_end<V: Service<R>, R: Wait>(
             service,
         };
     }
-    let seat = service.serve(rt, channels, seat);
+    let seat = service.serve(rt, channels, writers, seat);
     Leaver {
         seat: hang_up(rt, channels, seat),
         service,
@@ -169,12 +185,19 @@ fn serve_end<V: Service<R>, R: Wait>(
 }
 
 /// Starts an end's thread. Where no thread can be made, the end leaves here and now.
-pub(crate) fn start_end<'s, 'e: 's, V: Service<R> + Drop + Send + 's, R: Wait + Sync>(
+pub(crate) fn start_end<
+    's,
+    'e: 's,
+    V: Service<R> + Drop + Send + 's,
+    N: WriterTurns<R> + Sync,
+    R: Wait + Sync,
+>(
     scope: &'s Scope<'s, &'e ()>,
     rt: &'s R,
     channels: &'s [JobChannel],
     plan: Plan<V>,
     leaves: &'s AtomicBool,
+    writers: &'s N,
 ) -> Option<PromisedHandle<Leaver<V>, EndFinished<'s, V>>>
     requires seat { IsSeatOf channels.now plan.seat }
     requires kept { V.fits plan.service (end_of plan.seat) (count_of plan.seat)
@@ -192,7 +215,7 @@ pub(crate) fn start_end<'s, 'e: 's, V: Service<R> + Drop + Send + 's, R: Wait + 
             × (V.mark result.service ≡ V.mark plan.service) }
     {
         let _ = &end;
-        serve_end(rt, channels, plan, leaves)
+        serve_end(rt, channels, plan, leaves, writers)
     };
     let promise = EndFinished {
         channels,

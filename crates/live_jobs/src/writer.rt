@@ -97,7 +97,7 @@ fn close_flag(closed: &mut Vec<bool>, end: u64)
 }
 
 /// Whether the closing mark of each end was taken.
-fn all_closed(closed: &[bool]) -> bool
+pub(crate) fn all_closed(closed: &[bool]) -> bool
     ensures { result ≡ true → (e : ℕ) → e < length closed.now → slice_get closed.now e ≡ Some true }
 {
     for flag in closed {
@@ -108,8 +108,8 @@ fn all_closed(closed: &[bool]) -> bool
     true
 }
 
-/// Takes one parcel, and waits until there is one. Where memory is refused, nothing is taken.
-fn take_step<L: Ledger, O: Outcome, S: Store<L, O, R>, R: Wait>(
+/// Takes one parcel, where there is one. Where memory is refused, nothing is taken.
+pub(crate) fn take_step<L: Ledger, O: Outcome, S: Store<L, O, R>, R: Wait>(
     rt: &R,
     channel: &JobChannel,
     store: &S,
@@ -133,7 +133,10 @@ fn take_step<L: Ledger, O: Outcome, S: Store<L, O, R>, R: Wait>(
         thread::yield_now();
         return;
     }
-    match channel.take(rt, pass) {
+    let Some(parcel) = channel.try_take(rt, pass) else {
+        return;
+    };
+    match parcel {
         Parcel::Job(handed) => {
             let outcome = store.store(rt, share, &handed);
             *kept += worth_of(outcome.is_kept());
@@ -146,30 +149,4 @@ fn take_step<L: Ledger, O: Outcome, S: Store<L, O, R>, R: Wait>(
         }
         Parcel::Mark(end) => close_flag(closed, end),
     }
-}
-
-/// Takes parcels until it took the closing mark of each end (docs/PROTOCOL.md, Threads 5). Where
-/// memory is refused, it tries the same step again.
-pub fn run_writer<L: Ledger, O: Outcome, S: Store<L, O, R>, R: Wait>(
-    rt: &R,
-    channel: &JobChannel,
-    store: &S,
-    seat: WriterSeat<L, O>,
-) -> WriterSeat<L, O>
-    requires pass { IsPassOf (queue_of channel.now) seat.pass }
-    requires here { seat.lent ≡ false }
-    ensures pass { IsPassOf (queue_of channel.now) result.pass }
-    ensures here { result.lent ≡ false }
-    ensures ends { length result.closed.items ≡ length seat.closed.items }
-    ensures closed { (e : ℕ) → e < length result.closed.items
-        → slice_get result.closed.items e ≡ Some true }
-{
-    let mut seat = seat;
-    for _ in rt.forever() {
-        if all_closed(seat.closed.as_slice()) {
-            return seat;
-        }
-        take_step(rt, channel, store, &mut seat);
-    }
-    unreachable!()
 }

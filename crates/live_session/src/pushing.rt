@@ -16,9 +16,11 @@ use std::sync::Wait;
 /// job a turn, it doesn't come to the last of them.
 const JOB_NUMBERS: u64 = 1 << 63;
 
-/// Hands the job in the session's hand over to its group. It waits until there is room.
-pub(crate) fn push<J: StorePremises, R: Wait>(
+/// Hands the job in the session's hand over to its group, and stores it where no other thread does.
+/// It waits until there is room.
+pub(crate) fn push<S: Shares<J, R>, J: StorePremises, R: Wait>(
     rt: &R,
+    shares: &S,
     channels: &[JobChannel],
     live: &mut LiveSession<J>,
     group: usize,
@@ -35,7 +37,8 @@ pub(crate) fn push<J: StorePremises, R: Wait>(
     }
     match live.session.hand_over() {
         Some(job) => {
-            live.seat.hand_over(rt, channels, group, job);
+            let (_number, change) = live.seat.hand_over(rt, channels, group, job);
+            shares.write(rt, &channels[group], group, change);
             Answer::Pushed(true)
         }
         None => Answer::Pushed(false),

@@ -15,7 +15,8 @@ use cyc_buffer::Fault;
 use cyc_token::Token;
 use feed_queue::Taken;
 use id_history::{Offer, Take};
-use live_jobs::{JobAnswer, KeptJob};
+use job_queue::{Change, Parcels};
+use live_jobs::{JobAnswer, JobChannel, KeptJob};
 use live_store::{ArticleLog, OneRead, OneRecord, StorePremises};
 use live_wire::Tally;
 use nntp_text::MsgId;
@@ -72,6 +73,10 @@ pub trait Shares<J: StorePremises, R> {
         // Unknown has its cause: of another record a chunk is only where there was one before.
         ensures unknown { IfOk result (IsOneUnfound k reads.old.shown) }
         ensures fault { IfErr result (IsReadFault (token_view token.now)) };
+
+    /// A job was handed over to the group, over its channel. What is left there is stored here,
+    /// where no other thread takes it.
+    fn write(&self, rt: &R, channel: &JobChannel, group: usize, change: Change<Parcels>);
 
     /// Waits until the writer has told what became of this end's job of this number, and takes that
     /// out of the end's slot, once the end's list of kept jobs has room for one more.

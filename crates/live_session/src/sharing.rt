@@ -58,7 +58,7 @@ pub(crate) fn share<S: Shares<J, R>, J: StorePremises, R: Wait>(
             Ok(told) => Answer::Take(told),
             Err(_) => Answer::Memory,
         },
-        Step::Push(group) => push(rt, context.channels, live, usize::from(*group)),
+        Step::Push(group) => push(rt, shares, context.channels, live, usize::from(*group)),
         Step::Slot => look_in_slot(rt, shares, live),
         Step::Release(id) => {
             shares.release(rt, id, session);

@@ -6,7 +6,8 @@ use cyc_buffer::Fault;
 use cyc_token::Token;
 use feed_queue::Taken;
 use id_history::{LAST_MOMENT, Offer, Take};
-use live_jobs::{JobAnswer, KeptJob};
+use job_queue::{Change, Parcels};
+use live_jobs::{JobAnswer, JobChannel, KeptJob, WriterTurns};
 use live_journal::PendingJournal;
 use live_session::Shares;
 use live_store::{ArticleLog, OneRead, OneRecord, StorePremises};
@@ -15,26 +16,33 @@ use std::alloc::{AllocError, Global};
 use std::sync::Wait;
 use std::sync::ledger::Ledger;
 
-/// What the threads share, and the journal. Each call is that of `Shared`; where an id is marked as
-/// refused the journal is told, once the shard's lock is free.
+/// What the threads share, the journal, and the writers' turns. Each call is that of `Shared`.
+/// Where an id is marked as refused the journal is told, once the shard's lock is free; a job is
+/// stored by who brings it, where no other thread does.
 #[derive(Drop)]
-pub struct JournaledShares<'a, S: BlockStore + Drop, J: StorePremises, L: Ledger> {
+pub struct JournaledShares<'a, S: BlockStore + Drop, J: StorePremises, L: Ledger, N> {
     shared: &'a Shared<S, J, L>,
     journal: &'a PendingJournal,
+    turns: &'a N,
 }
 
-impl<'a, S: BlockStore + Drop, J: StorePremises, L: Ledger> JournaledShares<'a, S, J, L> {
+impl<'a, S: BlockStore + Drop, J: StorePremises, L: Ledger, N> JournaledShares<'a, S, J, L, N> {
     /// These together.
     pub fn new(
         shared: &'a Shared<S, J, L>,
         journal: &'a PendingJournal,
-    ) -> JournaledShares<'a, S, J, L> {
-        JournaledShares { shared, journal }
+        turns: &'a N,
+    ) -> JournaledShares<'a, S, J, L, N> {
+        JournaledShares {
+            shared,
+            journal,
+            turns,
+        }
     }
 }
 
-impl<'a, S: BlockStore + Drop, J: StorePremises, L: Ledger, R: Wait> Shares<J, R>
-    for JournaledShares<'a, S, J, L> {
+impl<'a, S: BlockStore + Drop, J: StorePremises, L: Ledger, N: WriterTurns<R>, R: Wait> Shares<J, R>
+    for JournaledShares<'a, S, J, L, N> {
     fn offer(&self, rt: &R, id: &MsgId, session: u64) -> Result<Offer, AllocError> {
         self.shared.offer(rt, id, session)
     }
@@ -86,7 +94,11 @@ impl<'a, S: BlockStore + Drop, J: StorePremises, L: Ledger, R: Wait> Shares<J, R
         self.shared.read(rt, register, reads, token, k, chunk)
     }
 
-    fn outcome(&self, rt: &R, end: u64, number: u64, kept: &Vec<KeptJob<J>>) -> JobAnswer<J> {
-        self.shared.outcome(rt, end, number, kept)
+    fn write(&self, rt: &R, channel: &JobChannel, group: usize, change: Change<Parcels>) {
+        self.turns.write(rt, channel, group, change);
+    }
+
+    fn outcome(&self, rt: &R, end: u64, number: u64, _kept: &Vec<KeptJob<J>>) -> JobAnswer<J> {
+        self.shared.told(rt, end, number, self.turns)
     }
 }

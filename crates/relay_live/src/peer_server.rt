@@ -13,7 +13,7 @@ use crate::keeper::Keeper;
 use crate::register_ref::RegisterRef;
 use crate::shared::Shared;
 use cyc_block::BlockStore;
-use live_jobs::{Accounts, JobChannel, KeptJob, Service, SessionSeat};
+use live_jobs::{Accounts, JobChannel, KeptJob, Service, SessionSeat, WriterTurns};
 use live_journal::PendingJournal;
 use live_session::{Clock, Connection, Gate, Served, SessionContext, serve_session};
 use live_store::StorePremises;
@@ -105,10 +105,11 @@ impl<
     }
 
     /// Serves a connection as the session of this number, which is spent.
-    fn converse<H: Hears, W: Says, R: Wait>(
+    fn converse<N: WriterTurns<R>, H: Hears, W: Says, R: Wait>(
         &mut self,
         rt: &R,
         channels: &[JobChannel],
+        turns: &N,
         seat: SessionSeat,
         number: Number<L>,
         reader: H,
@@ -131,7 +132,7 @@ impl<
         let began = self.clock.now();
         self.gate.opened(rt, self.peer, number);
         let kept = mem::replace(&mut self.kept, Vec::new(self.alloc));
-        let shares = JournaledShares::new(self.shared, self.journal);
+        let shares = JournaledShares::new(self.shared, self.journal, turns);
         let context = SessionContext {
             shares: &shares,
             register: self.register.register(),
@@ -167,10 +168,11 @@ impl<
 
     /// Serves a connection as a session of a number of its own, and lets go of it; where no number
     /// is left it isn't served.
-    fn serve_next<R: Wait>(
+    fn serve_next<N: WriterTurns<R>, R: Wait>(
         &mut self,
         rt: &R,
         channels: &[JobChannel],
+        turns: &N,
         seat: SessionSeat,
         connection: (<X as Connections<R>>::Reader, <X as Connections<R>>::Writer),
     ) -> SessionSeat
@@ -191,7 +193,7 @@ impl<
             return seat;
         };
         let (reader, writer) = connection;
-        let over = self.converse(rt, channels, seat, number, reader, writer);
+        let over = self.converse(rt, channels, turns, seat, number, reader, writer);
         self.connections.let_go(rt, over.reader, over.writer);
         over.seat
     }
@@ -230,7 +232,13 @@ where
     Q: RegisterRef,
     R: Wait,
 {
-    fn serve(&mut self, rt: &R, channels: &[JobChannel], seat: SessionSeat) -> SessionSeat {
+    fn serve<N: WriterTurns<R>>(
+        &mut self,
+        rt: &R,
+        channels: &[JobChannel],
+        turns: &N,
+        seat: SessionSeat,
+    ) -> SessionSeat {
         let mut seat = seat;
         for _ in rt.forever() {
             let Some(connection) = self.connections.next_one(rt) else {
@@ -238,7 +246,7 @@ where
             };
             // Before its session is told of any id.
             drop(expire_round(rt, self.shared, self.clock.now()));
-            seat = self.serve_next(rt, channels, seat, connection);
+            seat = self.serve_next(rt, channels, turns, seat, connection);
         }
         unreachable!()
     }

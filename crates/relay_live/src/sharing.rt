@@ -6,7 +6,8 @@ use cyc_buffer::Fault;
 use cyc_token::Token;
 use feed_queue::Taken;
 use id_history::{Offer, Take};
-use live_jobs::{JobAnswer, KeptJob};
+use job_queue::{Change, Parcels};
+use live_jobs::{JobAnswer, JobChannel, KeptJob, OwnThreads, WriterTurns};
 use live_session::Shares;
 use live_store::{ArticleLog, OneRead, OneRecord, StorePremises};
 use nntp_text::MsgId;
@@ -68,9 +69,31 @@ impl<S: BlockStore + Drop, J: StorePremises, L: Ledger, R: Wait> Shares<J, R> fo
         reads.read(rt, self.buffers.locks(), register, token, k, chunk)
     }
 
+    fn write(&self, _rt: &R, channel: &JobChannel, _group: usize, change: Change<Parcels>) {
+        channel.tell(change);
+    }
+
     fn outcome(&self, rt: &R, end: u64, number: u64, _kept: &Vec<KeptJob<J>>) -> JobAnswer<J> {
+        self.told(rt, end, number, &OwnThreads)
+    }
+}
+
+impl<S: BlockStore + Drop, J: StorePremises, L: Ledger> Shared<S, J, L> {
+    ghost use Rattle.std.specs.Prelude.{◌≡◌};
+
+    /// Waits until a writer has told what became of this end's job of this number, and takes that
+    /// out of the end's slot. Between its looks it does the writers' work.
+    pub(crate) fn told<N: WriterTurns<R>, R: Wait>(
+        &self,
+        rt: &R,
+        end: u64,
+        number: u64,
+        turns: &N,
+    ) -> JobAnswer<J>
+        ensures { result.number ≡ number }
+    {
         match self.slots.get(end as usize) {
-            Some(slot) => slot.wait(rt, number),
+            Some(slot) => slot.wait(rt, number, turns),
             None => JobAnswer {
                 number,
                 receipt: None,

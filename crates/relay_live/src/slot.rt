@@ -4,7 +4,7 @@ ghost use Rattle.relay_live.specs.Slots.{left_by, told_number, told_to};
 
 use crate::journaled::Journaled;
 use job_queue::Crowd;
-use live_jobs::{JobAnswer, LOOKS, answer_of};
+use live_jobs::{JobAnswer, LOOKS, WriterTurns, answer_of};
 use live_store::StorePremises;
 use std::sync::{Mutex, Wait};
 use std::thread;
@@ -42,12 +42,12 @@ impl<J: StorePremises> Slot<J> {
     }
 
     /// Waits until a writer has told what became of the end's job of this number, and takes that.
-    /// What earlier jobs were told is dropped.
-    pub fn wait<R: Wait>(&self, rt: &R, number: u64) -> JobAnswer<J>
+    /// What earlier jobs were told is dropped. Between its looks it does the writers' work.
+    pub fn wait<N: WriterTurns<R>, R: Wait>(&self, rt: &R, number: u64, turns: &N) -> JobAnswer<J>
         ensures { result.number ≡ number }
     {
         for _ in rt.forever() {
-            if let Some(answer) = self.take_soon(rt, number) {
+            if let Some(answer) = self.take_soon(rt, number, turns) {
                 return answer;
             }
             let (mut held, looked) = self.filled.lock_last(rt, &self.answer);
@@ -67,14 +67,20 @@ impl<J: StorePremises> Slot<J> {
         take(&mut self.answer.lock(rt), number)
     }
 
-    // Looks so often, and gives way between.
-    fn take_soon<R: Wait>(&self, rt: &R, number: u64) -> Option<JobAnswer<J>>
+    // Looks so often, and between does what writers leave, and gives way.
+    fn take_soon<N: WriterTurns<R>, R: Wait>(
+        &self,
+        rt: &R,
+        number: u64,
+        turns: &N,
+    ) -> Option<JobAnswer<J>>
         ensures { IfSome result (λ answer. answer.number ≡ number) }
     {
         for _ in 0..LOOKS {
             if let Some(answer) = self.try_take(rt, number) {
                 return Some(answer);
             }
+            turns.write_left(rt);
             thread::yield_now();
         }
         None

@@ -6,6 +6,7 @@ ghost use Rattle.relay_live.specs.Holding.{has_buffer};
 use crate::fetches::{Device, Standing, is_kept};
 use crate::jobs::{SESSION, id_of, job};
 use crate::row_text::{Cells, Sheet};
+use live_jobs::OwnThreads;
 use live_journal::{Batch, PendingJournal};
 use live_session::{Clock, Shares};
 use live_store::{ArticleLog, StorePremises};
@@ -125,7 +126,8 @@ fn refuse<J: StorePremises, L: Ledger, R: Wait>(
     number: u64,
     sheet: &Sheet,
 ) {
-    let shares = JournaledShares::new(shared, journal);
+    let turns = OwnThreads;
+    let shares = JournaledShares::new(shared, journal, &turns);
     match id_of(number, sheet) {
         Some(id) => {
             if shares.refuse(rt, &id, SESSION, Standing.now()).is_err() {

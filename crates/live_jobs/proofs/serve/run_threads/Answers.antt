@@ -14,16 +14,16 @@ start_writers-requires-clause-room g c κs within = c.in-Ok.ensures.room.0
 pub start_writers-requires-clause-fit : goal.start_writers-requires-clause-fit
 start_writers-requires-clause-fit g c κs within =
     subst (λ (n : ℕ). AllReady c.args.channels.now n c.args.writers.items)
-    (sym (c.len-ends.ensures ∙ c.args.plans.ok.0)) c.requires.ready
+    (sym (c.len-ends.ensures ∙ c.args.plans.ok.0)) c.requires.run.ready
 
 pub start_writers-requires-clause-channels : goal.start_writers-requires-clause-channels
-start_writers-requires-clause-channels g c κs within = c.requires.grouped
+start_writers-requires-clause-channels g c κs within = c.requires.run.grouped
 
 pub start_ends-all-requires-clause-fit : goal.start_ends-all-requires-clause-fit
-start_ends-all-requires-clause-fit g c κs within = c.requires.opened
+start_ends-all-requires-clause-fit g c κs within = c.requires.run.opened
 
 pub start_ends-all-requires-clause-kept : goal.start_ends-all-requires-clause-kept
-start_ends-all-requires-clause-kept g c κs within = c.requires.right
+start_ends-all-requires-clause-kept g c κs within = c.requires.run.right
 
 pub start_ends-all-requires-clause-none : goal.start_ends-all-requires-clause-none
 start_ends-all-requires-clause-none g c κs within = c.in-Ok.ensures.none.1
@@ -31,13 +31,13 @@ start_ends-all-requires-clause-none g c κs within = c.in-Ok.ensures.none.1
 pub start_ends-all-requires-clause-room : goal.start_ends-all-requires-clause-room
 start_ends-all-requires-clause-room g c κs within = (
   subst (λ (n : ℕ). n ≤ vec_capacity c.in-Ok.serving) c.args.plans.ok.0 c.in-Ok.ensures.room.1,
-  c.requires.flagged,
+  c.requires.run.flagged,
 )
 
 -- those whose threads aren't started leave
 pub leave_running-requires-clause-fit : goal.leave_running-requires-clause-fit
 leave_running-requires-clause-fit g c = λ k p at.
-    (c.requires.opened k p (ap (λ l. slice_get l k) (sym c.into_iter.ensures.rest) ∙ at)).1
+    (c.requires.run.opened k p (ap (λ l. slice_get l k) (sym c.into_iter.ensures.rest) ∙ at)).1
 
 -- and for the seats
 pub join_ends-requires-clause-none : goal.join_ends-requires-clause-none

@@ -13,12 +13,15 @@ body-requires g c κs within =
       (
         within.1.0,
         (
-          within.1.1,
+          within.1.1.0,
           (
-            fits.0,
-            fits.1,
-            same_kept g.V.Accounts.fits _ _ c.in-Err.refused.value.3.seat c.args.plan.seat _
-                (ap (λ v. v.3.service) e) seat end c.requires.kept,
+            within.1.1.1,
+            (
+              fits.0,
+              fits.1,
+              same_kept g.V.Accounts.fits _ _ c.in-Err.refused.value.3.seat c.args.plan.seat _
+                  (ap (λ v. v.3.service) e) seat end c.requires.kept,
+            ),
           ),
         ),
       ),

@@ -17,8 +17,9 @@ overflow_add-kept g c =
 pub invariant_of-seat-in-Job-clause-took : goal.invariant_of-seat-in-Job-clause-took
 invariant_of-seat-in-Job-clause-took g c =
     let seat = c.args.seat.now in
-    takes_job g.O.Outcome.fits seat.pass c.take.new.pass seat.finished.items _ _ c.take.result
-    c.in-Job.handed _ seat.took c.take.ensures.writer c.take.ensures.taken c.in-Job.is refl
+    takes_job g.O.Outcome.fits seat.pass c.try_take.new.pass seat.finished.items _ _
+    c.in-Some.parcel c.in-Job.handed _ seat.took c.try_take.ensures.writer
+    c.in-Some.ensures.taken c.in-Job.is refl
     c.store-outcome.ensures.fits
     (c.push_reserved.ensures.items
     ∙ ap (λ (l : List (FinishedJob _)). l ++ record {
@@ -46,9 +47,9 @@ invariant_of-seat-in-Job-clause-counted g c =
 pub invariant_of-seat-in-Mark-clause-took : goal.invariant_of-seat-in-Mark-clause-took
 invariant_of-seat-in-Mark-clause-took g c =
     let seat = c.args.seat.now in
-    takes_mark g.O.Outcome.fits seat.pass c.take.new.pass seat.finished.items _
-    seat.closed.items _ c.take.result c.in-Mark.end seat.took
-    c.take.ensures.writer c.take.ensures.taken c.in-Mark.is c.reserve_one.ensures.items
+    takes_mark g.O.Outcome.fits seat.pass c.try_take.new.pass seat.finished.items _
+    seat.closed.items _ c.in-Some.parcel c.in-Mark.end seat.took
+    c.try_take.ensures.writer c.in-Some.ensures.taken c.in-Mark.is c.reserve_one.ensures.items
     c.close_flag.ensures
 
 pub invariant_of-seat-in-Mark-clause-counted : goal.invariant_of-seat-in-Mark-clause-counted
@@ -57,11 +58,11 @@ invariant_of-seat-in-Mark-clause-counted g c =
 
 pub returns-in-Job : goal.returns-in-Job
 returns-in-Job g c =
-    record { pass = c.take.ensures.pass; here = c.requires.here; ends = refl }
+    record { pass = c.try_take.ensures.pass; here = c.requires.here; ends = refl }
 
 pub returns-in-Mark : goal.returns-in-Mark
 returns-in-Mark g c = record {
-  pass = c.take.ensures.pass;
+  pass = c.try_take.ensures.pass;
   here = c.requires.here;
   ends = ap (λ (l : List Bool). length l) c.close_flag.ensures
       ∙ length_set c.args.seat.now.closed.items c.in-Mark.end true;

@@ -35,7 +35,7 @@ returns-then-handed-ge-JOB_NUMBERS-clause-did g c = record {
 pub returns-in-Some-clause-did : goal.returns-in-Some-clause-did
 returns-in-Some-clause-did g c =
     let live = c.args.live.now in
-    let given = c.hand_over-in-Some in
+    let given = c.hand_over-number in
     record {
       seat = given.ensures.seat;
       place = record { number = refl; end_is = given.ensures.end };

@@ -1,6 +1,6 @@
 use Rattle.std.proofs.Common.{ap, length}
 use Rattle.std.proofs.lemmas.Result.{IfOk-from_err}
-use Rattle.live_jobs.proofs.serve.two_rooms.Goals as goal
+use Rattle.live_jobs.proofs.rooms.two_rooms.Goals as goal
 
 -- where memory is refused there is no room
 pub returns-in_err-one : goal.returns-in_err-one

@@ -1,7 +1,7 @@
 use Rattle.std.proofs.Common.{ap, length}
 use Rattle.std.proofs.lemmas.Result.{IfOk-from_err}
 use Rattle.live_jobs.proofs.Rows.{past_same}
-use Rattle.live_jobs.proofs.serve.no_rooms.Goals as goal
+use Rattle.live_jobs.proofs.rooms.no_rooms.Goals as goal
 
 -- where memory is refused there is no room
 pub returns-in_err-running : goal.returns-in_err-running
