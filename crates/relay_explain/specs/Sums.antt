@@ -30,11 +30,11 @@ unfoldable pub connections_of : List Peer → ℕ
 connections_of peers = sum_by served_of peers
 
 -- the octets of memory from the start: for buffers, and the two runs of blocks of each, for rings,
--- the queue of each group, and what is printed
+-- the queue of each group, what is printed, and what is said to the journal, two batches of 4 MB
 unfoldable pub memory_of : Config → ℕ
 memory_of config =
     marks_of config.buffers.buffers.items + length config.buffers.buffers.items * 131072
-    + rings_of config.relay.feeds.items + length config.buffers.groups.items * 6000 + 65536
+    + rings_of config.relay.feeds.items + length config.buffers.groups.items * 6000 + 8454144
 
 -- the descriptors of so many files of buffers: each is open once more where it is flushed while the
 -- relay is served
@@ -43,11 +43,11 @@ openings_of None files = files
 openings_of (Some seconds) files = files * 2
 
 -- the descriptors: of the files of buffers, three of each connection, of the socket and of whoever
--- asks there, and of the standard streams
+-- asks there, of the journal, and of the standard streams
 unfoldable pub descriptors_of : Config → ℕ
 descriptors_of config =
     openings_of config.relay.sync (length config.buffers.buffers.items)
-    + connections_of config.relay.peers.items * 3 + 5
+    + connections_of config.relay.peers.items * 3 + 6
 
 -- what a configuration takes of the machine
 unfoldable pub wants_text : Config → List ℕ

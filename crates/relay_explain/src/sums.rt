@@ -90,7 +90,7 @@ fn memory_of(config: &Config) -> u128
     let runs = config.buffers.buffers.len() as u128 * 131_072;
     let rings = rings_of(&config.relay.feeds);
     let groups = config.buffers.groups.len() as u128;
-    marks + runs + rings + groups * 6_000 + 65_536
+    marks + runs + rings + groups * 6_000 + 8_454_144
 }
 
 /// The descriptors that are open at once.
@@ -100,7 +100,7 @@ fn descriptors_of(config: &Config) -> u128
 {
     let openings = openings_of(config.relay.sync, config.buffers.buffers.len());
     let connections = connections_of(&config.relay.peers);
-    openings + connections * 3 + 5
+    openings + connections * 3 + 6
 }
 
 /// The descriptors of so many files of buffers.
