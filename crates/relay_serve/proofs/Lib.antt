@@ -6,3 +6,4 @@ mod ServeFaults
 mod ShutAgain
 mod Sizes
 mod Starts
+mod Unsaved
