@@ -4,9 +4,10 @@
 //! for; it adds buffers to a relay that was stopped, and asks one that is served to end, or for its
 //! report.
 //!
-//! What it does with its words is a promise of `relay_command`, what serves of `relay_serve`, and what
-//! adds and looks of `relay_startup`. Here the calls of the first are handed the words, the streams
-//! and the files of the system, the calls of the others and what asks, and nothing is decided.
+//! What it does with its words is a promise of `relay_command`, what serves of `relay_serve`, and
+//! what adds and looks of `relay_startup`. Here the calls of the first are handed the words, the
+//! streams and the files of the system, the calls of the others and what asks, and nothing is
+//! decided.
 #![tactic(auto)]
 
 use relay_command::{Failure, Request, exit_code, gathering, print_failure, program_words, run};

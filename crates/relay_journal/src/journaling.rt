@@ -83,7 +83,7 @@ impl<'a, F: JournalFile + Drop, L: JournalLines + Drop> Journaling<'a, F, L> {
 }
 
 /// The second of the machine's clock that never goes back, the first one where it can't be asked.
-fn second_of<R: Clock>(rt: &R) -> u64 {
+pub fn second_of<R: Clock>(rt: &R) -> u64 {
     match rt.monotonic() {
         Ok(passed) => passed.as_secs(),
         Err(_) => 0,

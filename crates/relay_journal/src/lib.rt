@@ -10,7 +10,7 @@ mod lines;
 mod reading;
 mod writing;
 
-pub use journaling::{Journaling, ROOM};
+pub use journaling::{Journaling, ROOM, second_of};
 pub use lines::{JournalLine, JournalLines, PrintedLines, ToldJournal};
 pub use reading::read_journal;
 pub use writing::{BegunJournal, JournalWriter, begin_journal};

@@ -55,8 +55,8 @@ fn kept_open<P: JournalPlace>(place: &mut P, front: &[u8]) -> io::Result<P::Open
 }
 
 /// Who writes the journal of a relay. It begins a new one in the same file once a call has failed,
-/// so that no entry is ever put behind one that may be torn, and once the file is full. Of the calls
-/// that fail until entries are put behind a journal again the first is told.
+/// so that no entry is ever put behind one that may be torn, and once the file is full. Of the
+/// calls that fail until entries are put behind a journal again the first is told.
 #[derive(Drop)]
 pub struct JournalWriter<F, L> {
     file: F,

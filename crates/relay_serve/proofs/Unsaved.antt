@@ -9,7 +9,8 @@ pub same_without : (config : Config) {kept kept' last last' found left left' : L
     {heads heads' : List HeadBlock} → kept ≡ kept' → last ≡ last' → heads ≡ heads' → left ≡ left'
     → IsWithoutUnsaved config kept last heads found left
     → IsWithoutUnsaved config kept' last' heads' found left'
-same_without config {kept} {kept'} {last} {last'} {found} {left} {left'} {heads} {heads'} k l h t is =
+same_without config {kept} {kept'} {last} {last'} {found} {left} {left'} {heads} {heads'} k l h t
+    is =
     subst (λ (x : List ℕ). IsWithoutUnsaved config x last' heads' found left') k
     (subst (λ (x : List ℕ). IsWithoutUnsaved config kept x heads' found left') l
     (subst (λ (x : List HeadBlock). IsWithoutUnsaved config kept last x found left') h

@@ -39,7 +39,8 @@ pub record IsKeptOfRepair {S : Type 0} (g : Ghosts S) (config : Config) (text la
     (stores : List S) (stopped : Stopped S)
     : Type 0 where
   pub found : Vec ℕ
-  pub repaired : IsOfRepair g config last stores (record { stores = stopped.stores; history = found })
+  pub repaired : IsOfRepair g config last stores
+      (record { stores = stopped.stores; history = found })
   pub wrote : List S
   pub unwritten : AreEach (IsUnwritten g None) wrote repaired.back
   pub heads : List HeadNumbers

@@ -7,7 +7,7 @@ use crate::side_thread::Figured;
 use crate::syncing::Syncing;
 use live_wire::Stop;
 use relay_folder::{Control, JournalFile, Teller, Word};
-use relay_journal::{JournalLines, Journaling};
+use relay_journal::{JournalLines, Journaling, second_of};
 use std::alloc::{AllocError, Global};
 use std::fs::Files;
 use std::mem;
@@ -148,13 +148,5 @@ impl<'a> Desk<'a> {
     /// Is told that there is something else beside which it will go on.
     pub(crate) fn goes_on(&self) {
         self.ended.store(false, Ordering::SeqCst);
-    }
-}
-
-/// The second of the machine's clock that never goes back, the first one where it can't be asked.
-pub(crate) fn second_of<R: Clock>(rt: &R) -> u64 {
-    match rt.monotonic() {
-        Ok(passed) => passed.as_secs(),
-        Err(_) => 0,
     }
 }

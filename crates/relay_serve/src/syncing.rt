@@ -10,12 +10,12 @@ ghost use Rattle.relay_serve.specs.Syncing as terms;
 ghost use Rattle.relay_serve.specs.declared.syncing.Deed.{Deed};
 ghost use Rattle.relay_serve.specs.declared.syncing.Deed.TheVariants as deeds;
 
-use crate::desk::second_of;
 use crate::watched::print_failed;
 use cyc_block::DeviceFailed;
 use file_blocks::{Flusher, HeldFile};
 use http_server::Log;
 use relay_conf::{Buffers, Config};
+use relay_journal::second_of;
 use relay_report::ServeError;
 use relay_startup::flusher_of;
 use std::alloc::Global;
