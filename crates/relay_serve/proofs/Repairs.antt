@@ -9,7 +9,7 @@ use Rattle.relay_repair.proofs.FoundOver.{repairs_on}
 use Rattle.relay_folder.specs.declared.history_place.HistoryPlace as places
 use Rattle.relay_journal.specs.declared.lines.JournalLines as lines
 use Rattle.relay_journal.specs.declared.lines.ToldJournal.{ToldJournal}
-use Rattle.relay_serve.specs.Repairing.{IsOfRepair, IsOfRepairWith}
+use Rattle.relay_serve.specs.Repairing.{IsKeptOfRepair, IsOfRepair, IsOfRepairWith}
 use Rattle.cyc_block.specs.declared.store.BlockStore.{Ghosts}
 use Rattle.relay_conf.specs.declared.settings.Config.{Config}
 use Rattle.relay_core.specs.declared.stopped.NotStarted.{NotStarted}
@@ -54,7 +54,25 @@ repair_on config text stopped are of = record {
   uncalled = of.uncalled;
 }
 
--- so is what one gives that goes by the last history with its journal folded in
+-- so is what one gives whose journal alone has told of some ids,
+pub kept_repair_on : {S : Type 0} {g : Ghosts S} {failed : Option ℕ} {old new : List S}
+    (config : Config) (text last : List ℕ) (stopped : Stopped S)
+    → AreEach (IsUnwritten g failed) old new → IsKeptOfRepair g config text last new stopped
+    → IsKeptOfRepair g config text last old stopped
+unfolding repair_on
+kept_repair_on config text last stopped are of = record {
+  found = of.found;
+  repaired =
+      repair_on config last (record { stores = stopped.stores; history = of.found }) are
+      of.repaired;
+  wrote = of.wrote;
+  unwritten = of.unwritten;
+  heads = of.heads;
+  are = of.are;
+  left = of.left;
+}
+
+-- and one that goes by the last history with its journal folded in
 pub with_repair_on : {S P L : Type 0} {g : Ghosts S} {p : places.Ghosts P} {l : lines.Ghosts L}
     {failed : Option ℕ} {old new : List S} (config : Config) (text : List ℕ) (stopped : Stopped S)
     (before after : ToldJournal P L) → AreEach (IsUnwritten g failed) old new
@@ -65,5 +83,5 @@ with_repair_on config text stopped before after are of = record {
   is_read = of.is_read;
   last = of.last;
   folded = of.folded;
-  repaired = repair_on config of.last stopped are of.repaired;
+  repaired = kept_repair_on config text of.last stopped are of.repaired;
 }
