@@ -3,9 +3,9 @@
 import os
 import re
 import resource
-import shutil
 import signal
 import socket
+import subprocess
 import threading
 import time
 from collections import Counter, namedtuple
@@ -230,7 +230,9 @@ class Row:
             return self.given.program
         copy = self.folder / "cnrelay"
         if not copy.exists():
-            shutil.copy2(self.given.program, copy)
+            # By a process of its own: a file that is still open to be written in a child of another
+            # thread's can't be run.
+            subprocess.run(["cp", "-p", self.given.program, copy], check=True)
             copy.chmod(0o755)
         self.folder.chmod(0o711)
         for it in (self.dir, *self.dir.rglob("*")):
