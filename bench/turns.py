@@ -3,8 +3,11 @@
 
 turns.py BEFORE AFTER LOAD [ROUNDS [WORK]]: LOAD is that of bench/load, built by needed.sh; nine rounds without ROUNDS; WORK
 is a folder for the buffers' files. Both run all the time, and each round does everything once with each of them, the first of
-the two by turns. Everything goes over 127.0.0.1.
+the two by turns. Everything goes over 127.0.0.1. What is done beside a program that never sleeps has that, and the server,
+on the last processor alone.
 """
+import contextlib
+import os
 import signal
 import statistics
 import subprocess
@@ -26,11 +29,34 @@ KNOWN = 20_000
 CASES = [
     ("TAKETHIS of 1 KB", 1, 20_000, "take octets=1024"),
     ("TAKETHIS of 1 KB", 4, 8_000, "take octets=1024"),
+    ("TAKETHIS of 1 KB, beside a program that never sleeps", 1, 2_000, "take octets=1024"),
+    ("TAKETHIS of 1 KB, beside a program that never sleeps", 4, 1_000, "take octets=1024"),
     ("ARTICLE of 1 KB", 1, 10_000, "fetch command=ARTICLE"),
     ("TAKETHIS of 64 KB", 1, 800, "take octets=65536"),
     ("TAKETHIS of 1 KB, known", 1, 40_000, f"take octets=1024 code=439 distinct={KNOWN}"),
     ("CHECK, known", 1, 100_000, f"check code=438 distinct={KNOWN}"),
 ]
+
+
+def stay(pid, processors):
+    """Has each thread of a process run on these processors."""
+    for thread in os.listdir(f"/proc/{pid}/task"):
+        os.sched_setaffinity(int(thread), processors)
+
+
+@contextlib.contextmanager
+def beside(pid):
+    """Has a process share the last processor with a program that never sleeps."""
+    whole = os.sched_getaffinity(0)
+    busy = subprocess.Popen([sys.executable, "-c", "while True: pass"])
+    try:
+        for one in (pid, busy.pid):
+            stay(one, {max(whole)})
+        yield
+    finally:
+        busy.kill()
+        busy.wait()
+        stay(pid, whole)
 
 
 def load(name, server, words, connections, run, count):
@@ -55,7 +81,11 @@ def measure(running):
         for name in list(running) if number % 2 == 0 else list(running)[::-1]:
             for done, connections, count, words in CASES:
                 kind = "known" if "known" in done else f"{words.split('octets=')[-1] if 'take' in words else 1024}.{connections}.{number}"
-                got = load(name, running[name], words, connections, kind, count)
+                never_sleeps = "never sleeps" in done
+                if never_sleeps:
+                    kind = f"busy.{kind}"
+                with beside(running[name].process.pid) if never_sleeps else contextlib.nullcontext():
+                    got = load(name, running[name], words, connections, kind, count)
                 seen[name].setdefault((done, connections), []).append(got)
                 print(f"{number} {name} {done} {connections}: {got[0]:.0f} a second, {got[1]:.1f} us", file=sys.stderr)
     return seen
