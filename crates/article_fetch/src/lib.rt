@@ -18,6 +18,6 @@ mod reading;
 mod shown;
 
 pub use asked::Asked;
-pub use chunk::{Chunk, Octets480};
+pub use chunk::{Chunk, ChunkOctets};
 pub use overview::{LINE_ROOM, PutError, line, put_line};
 pub use reading::Reading;

@@ -125,12 +125,12 @@ impl Reading {
     /// Hears what was read of the next block: None where the fetch goes on, else the octets of its
     /// reply (docs/FORMATS.md, Replies). It takes no memory. A fetch that isn't prepared hears
     /// nothing.
-    pub fn hear(&mut self, chunk: Chunk) -> Option<Vec<u8>>
-        ensures heard { (found : Fetched) → self.old.prepared ≡ true → FoundAs self.old chunk found
-            → HearsBlock self.old found result self.new }
+    pub fn hear(&mut self, chunk: Chunk<'_>) -> Option<Vec<u8>>
+        ensures heard { (found : Fetched) → self.old.prepared ≡ true
+            → FoundAs self.old chunk.entry found → HearsBlock self.old found result self.new }
         ensures same { self.old.prepared ≡ true → StaysSame self.old result self.new }
-        ensures given { self.old.prepared ≡ true → HearsAny self.old chunk result self.new }
-        ensures fault { self.old.prepared ≡ true → SaysFault self.old chunk result }
+        ensures given { self.old.prepared ≡ true → HearsAny self.old chunk.entry result self.new }
+        ensures fault { self.old.prepared ≡ true → SaysFault self.old chunk.entry result }
         ensures deaf { self.old.prepared ≡ false → (result ≡ None) × (self.new ≡ self.old) }
     {
         if self.prepared {
@@ -141,13 +141,13 @@ impl Reading {
     }
 
     /// The same of a fetch that is prepared.
-    fn hear_prepared(&mut self, chunk: Chunk) -> Option<Vec<u8>>
+    fn hear_prepared(&mut self, chunk: Chunk<'_>) -> Option<Vec<u8>>
         requires { self.old.prepared ≡ true }
-        ensures heard { (found : Fetched) → FoundAs self.old chunk found
+        ensures heard { (found : Fetched) → FoundAs self.old chunk.entry found
             → HearsBlock self.old found result self.new }
         ensures same { StaysSame self.old result self.new }
-        ensures given { HearsAny self.old chunk result self.new }
-        ensures fault { SaysFault self.old chunk result }
+        ensures given { HearsAny self.old chunk.entry result self.new }
+        ensures fault { SaysFault self.old chunk.entry result }
     {
         self.prepared = false;
         let mut text = mem::replace(&mut self.gathered, Vec::new(self.alloc));

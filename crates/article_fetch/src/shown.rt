@@ -29,7 +29,7 @@ pub(crate) fn last_reply(
     room: Vec<u8>,
     asked: &Asked,
     token: Token,
-    chunk: &Chunk,
+    chunk: &Chunk<'_>,
     text: &[u8],
 ) -> Vec<u8>
     requires empty { room.items ≡ [] }

@@ -18,13 +18,13 @@ const JOB_NUMBERS: u64 = 1 << 63;
 
 /// Hands the job in the session's hand over to its group, and stores it where no other thread does.
 /// It waits until there is room.
-pub(crate) fn push<S: Shares<J, R>, J: StorePremises, R: Wait>(
+pub(crate) fn push<'a, S: Shares<J, R>, J: StorePremises, R: Wait>(
     rt: &R,
     shares: &S,
     channels: &[JobChannel],
     live: &mut LiveSession<J>,
     group: usize,
-) -> Answer
+) -> Answer<'a>
     requires seat { IsSeatOf channels.now live.old.seat }
     ensures did { DidStep channels.now (steps.Push group) live.old result live.new }
     ensures memory { result ≡ answers.Memory → ⊥ }
@@ -47,11 +47,11 @@ pub(crate) fn push<S: Shares<J, R>, J: StorePremises, R: Wait>(
 
 /// Waits for the outcome of the job that was handed over last. The receipt of one that is kept
 /// joins those of the end.
-pub(crate) fn look_in_slot<S: Shares<J, R>, J: StorePremises, R: Wait>(
+pub(crate) fn look_in_slot<'a, S: Shares<J, R>, J: StorePremises, R: Wait>(
     rt: &R,
     shares: &S,
     live: &mut LiveSession<J>,
-) -> Answer
+) -> Answer<'a>
     ensures { LookedInSlot live.old result live.new }
 {
     let handed = live.seat.handed();

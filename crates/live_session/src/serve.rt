@@ -126,7 +126,7 @@ fn served<S: Shares<J, R>, C: Clock, G: Gate<R>, J: StorePremises, H: Hears, W: 
         live: LiveSession {
             number: connection.number,
             session: opened.session,
-            reads: OneRecord::new(),
+            reads: OneRecord::new(alloc),
             seat,
             kept,
         },

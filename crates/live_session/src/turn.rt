@@ -8,12 +8,15 @@ ghost use Rattle.live_session.specs.Going.{KeepsButSession, LetsGo};
 ghost use Rattle.live_session.specs.Going.{TakesPlanned, said_in};
 ghost use Rattle.live_session.specs.Turns.{HadTurn, HasHeard};
 ghost use Rattle.live_session.specs.declared.live.Turned.TheVariants as turns;
+ghost use Rattle.peer_session.specs.declared.steps.Step.TheVariants as steps;
 ghost use Rattle.relay_model.specs.Terms.{Terms, last_moment};
 
 use crate::commands::Commands;
 use crate::live::{LiveSession, SessionContext, StepContext, Turned};
 use crate::shares::{Clock, Gate, Shares};
-use crate::sharing::share;
+use crate::sharing::{share, share_read};
+use cyc_block::CHUNK_OCTETS;
+use cyc_token::Token;
 use live_store::StorePremises;
 use peer_session::{Answer, Step};
 use std::alloc::Global;
@@ -73,8 +76,39 @@ fn take_planned<S: Shares<J, R>, J: StorePremises, R: Wait>(
         (said_in result) live.new }
     ensures let_in { result ≢ turns.Held }
 {
-    let answer = share(rt, context, live, &step);
-    drop(step);
+    match step {
+        Step::Read(token, k) => {
+            drop(step);
+            take_read(rt, context, live, token, k)
+        }
+        _ => {
+            let answer = share(rt, context, live, &step);
+            drop(step);
+            hear(live, answer)
+        }
+    }
+}
+
+/// The same of a step that reads block k of the token's article. Room for the block's octets is
+/// made here and in no other turn.
+fn take_read<S: Shares<J, R>, J: StorePremises, R: Wait>(
+    rt: &R,
+    context: &StepContext<S>,
+    live: &mut LiveSession<J>,
+    token: Token,
+    k: u32,
+) -> Turned
+    requires register { context.now.register.now ≡ J.register }
+    requires seat { IsSeatOf context.now.channels.now live.old.seat }
+    requires moment { context.now.moment ≤ last_moment }
+    ensures seat { IsSeatOf context.now.channels.now live.new.seat }
+    ensures end { end_of live.new.seat ≡ end_of live.old.seat }
+    ensures went { (w : Terms) → TakesPlanned w context.now.moment (steps.Read token k) live.old
+        (said_in result) live.new }
+    ensures let_in { result ≢ turns.Held }
+{
+    let mut room = [0; CHUNK_OCTETS];
+    let answer = share_read(rt, context, live, &token, k, &mut room);
     hear(live, answer)
 }
 
@@ -104,8 +138,8 @@ fn is_let_in<G: Gate<R>, R>(rt: &R, gate: &G, commands: &mut Commands, at_comman
 
 /// The session hears the answer to what it planned. Where that is want of memory it forgets what it
 /// planned.
-fn hear<J: StorePremises>(live: &mut LiveSession<J>, answer: Answer) -> Turned
-    ensures { HasHeard live.old answer result live.new }
+fn hear<J: StorePremises>(live: &mut LiveSession<J>, answer: Answer<'_>) -> Turned
+    ensures { HasHeard live.old answer.entry result live.new }
 {
     if let Answer::Memory = answer {
         forget(live);

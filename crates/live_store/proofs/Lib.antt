@@ -1,3 +1,4 @@
+pub mod AheadLemmas
 mod BucketLemmas
 pub mod FetchLemmas
 pub mod FrontLemmas

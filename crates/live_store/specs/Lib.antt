@@ -1,3 +1,4 @@
+pub mod Ahead
 pub mod Causes
 pub mod Fetches
 pub mod Handles

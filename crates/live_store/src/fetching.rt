@@ -1,4 +1,4 @@
-//! A fetch, in any thread: one block at a time under the buffer's lock.
+//! A fetch, in any thread: a run of blocks at a time under the buffer's lock.
 ghost use Rattle.std.specs.Prelude.{◌≡◌, ◌++◌, ◌≤◌, [], None, length, IfOk, IsOk, OnOk};
 ghost use Rattle.cyc_token.specs.Token.{token_view};
 ghost use Rattle.live_store.specs.Fetches.{IsFetched, IsGathered};
@@ -16,7 +16,7 @@ use std::alloc::{AllocError, Global};
 use std::marker::PhantomData;
 use std::sync::{Mutex, Wait};
 
-/// Fetches the text under a token out of the buffer of its number, one block at a time. Its memory
+/// Fetches the text under a token out of the buffer of its number, block by block. Its memory
 /// is taken once the first block is found, so none is for a token under which nothing is stored.
 pub fn fetch<S: BlockStore, J: StorePremises, R: Wait>(
     rt: &R,
@@ -32,7 +32,7 @@ pub fn fetch<S: BlockStore, J: StorePremises, R: Wait>(
     ensures unasked { length buffers.now ≤ (token_view token.now).buffer → IsOk result }
 {
     let mut text = Vec::new(alloc);
-    let mut reads = OneRecord::new();
+    let mut reads = OneRecord::new(alloc);
     match gather(rt, buffers, register, token, &mut reads, &mut text) {
         Ok(None) => {}
         Ok(Some(fetched)) => {
@@ -44,7 +44,12 @@ pub fn fetch<S: BlockStore, J: StorePremises, R: Wait>(
             return Err(error);
         }
     }
-    let OneRecord { shown, of: _ } = reads;
+    let OneRecord {
+        alloc: _,
+        shown,
+        ahead: _,
+        of: _,
+    } = reads;
     match shown {
         Some(shown) => Ok(Fetched::Whole(Text {
             octets: text,

@@ -108,13 +108,13 @@ impl Session {
     }
 
     /// The answer to a refusal.
-    pub(crate) fn hear_refused(&mut self, read: usize, room: Room, answer: Answer) -> Vec<u8>
+    pub(crate) fn hear_refused(&mut self, read: usize, room: Room, answer: Answer<'_>) -> Vec<u8>
         ensures { HeardUnless
-            ((transfer : Transfer) (id : MsgId) → answer ≡ Answer.Nothing
+            ((transfer : Transfer) (id : MsgId) → answer.entry ≡ Answer.Nothing
             → self.old.phase ≡ Phase.AwaitsBlock transfer (Some id)
             → HeardIs result.items self.old (says (block_passed read self.old id)
             (hears.rejected (transfer_view transfer) id)) self.new)
-            (answer ≢ Answer.Nothing)
+            (answer.entry ≢ Answer.Nothing)
             result.items self.old self.new }
     {
         match answer {
@@ -134,14 +134,14 @@ impl Session {
         copy: MsgId,
         article: Accepted,
         room: Room,
-        answer: Answer,
+        answer: Answer<'_>,
     ) -> Vec<u8>
         ensures { HeardUnless
-            ((transfer : Transfer) (told : Take) → answer ≡ Answer.Take told
+            ((transfer : Transfer) (told : Take) → answer.entry ≡ Answer.Take told
             → self.old.phase ≡ Phase.AwaitsBlock transfer (Some copy)
             → HeardIs result.items self.old (take_heard number (block_passed read self.old copy)
             (transfer_view transfer) copy (article_view article) (take_view told)) self.new)
-            ((told : Take) → answer ≢ Answer.Take told)
+            ((told : Take) → answer.entry ≢ Answer.Take told)
             result.items self.old self.new }
     {
         match answer {

@@ -48,14 +48,14 @@ impl Session {
         part: Part,
         id: MsgId,
         room: Room,
-        answer: Answer,
+        answer: Answer<'_>,
     ) -> Vec<u8>
         ensures { HeardUnless
-            ((told : Option Token) → answer ≡ Answer.Look told
+            ((told : Option Token) → answer.entry ≡ Answer.Look told
             → self.old.phase ≡ Phase.Ready
             → HeardIs result.items self.old (look_heard (passed read self.old) (part_view part) id
             (option_map token_view told)) self.new)
-            ((told : Option Token) → answer ≢ Answer.Look told)
+            ((told : Option Token) → answer.entry ≢ Answer.Look told)
             result.items self.old self.new }
     {
         match answer {
@@ -76,15 +76,20 @@ impl Session {
     }
 
     /// The first block of a token.
-    pub(crate) fn hear_first(&mut self, read: usize, reading: Reading, answer: Answer) -> Vec<u8>
+    pub(crate) fn hear_first(
+        &mut self,
+        read: usize,
+        reading: Reading,
+        answer: Answer<'_>,
+    ) -> Vec<u8>
         ensures { ReadUnless
-            ((chunk : Chunk) (found : Fetched) → answer ≡ Answer.Chunk chunk
+            ((chunk : Chunk) (found : Fetched) → answer.entry ≡ Answer.Chunk chunk
             → FoundAs reading chunk found → reading.prepared ≡ true → self.old.phase ≡ Phase.Ready
             → ReadHeardIs result.items self.old (passed read self.old) reading found self.new)
-            ((chunk : Chunk) → answer ≡ Answer.Chunk chunk → reading.prepared ≡ true
+            ((chunk : Chunk) → answer.entry ≡ Answer.Chunk chunk → reading.prepared ≡ true
             → self.old.phase ≡ Phase.Ready
             → ReadAnyIs result.items self.old (passed read self.old) reading chunk self.new)
-            ((chunk : Chunk) → answer ≢ Answer.Chunk chunk)
+            ((chunk : Chunk) → answer.entry ≢ Answer.Chunk chunk)
             result.items self.old self.new }
     {
         match answer {
@@ -110,20 +115,20 @@ impl Session {
     }
 
     /// The next block of a fetch.
-    pub(crate) fn hear_next(&mut self, answer: Answer) -> Vec<u8>
+    pub(crate) fn hear_next(&mut self, answer: Answer<'_>) -> Vec<u8>
         ensures { ReadUnless
             ((reading : Reading) (chunk : Chunk) (found : Fetched)
-            → answer ≡ Answer.Chunk chunk → self.old.phase ≡ Phase.Fetches reading
+            → answer.entry ≡ Answer.Chunk chunk → self.old.phase ≡ Phase.Fetches reading
             → FoundAs reading chunk found → reading.prepared ≡ true
             → self.old.cutter.dropped ≡ 0
             → ReadHeardIs result.items self.old (in_phase (session_view self.old) model.Ready)
             reading found self.new)
-            ((reading : Reading) (chunk : Chunk) → answer ≡ Answer.Chunk chunk
+            ((reading : Reading) (chunk : Chunk) → answer.entry ≡ Answer.Chunk chunk
             → self.old.phase ≡ Phase.Fetches reading → reading.prepared ≡ true
             → self.old.cutter.dropped ≡ 0
             → ReadAnyIs result.items self.old (in_phase (session_view self.old) model.Ready)
             reading chunk self.new)
-            ((chunk : Chunk) → answer ≢ Answer.Chunk chunk)
+            ((chunk : Chunk) → answer.entry ≢ Answer.Chunk chunk)
             result.items self.old self.new }
     {
         match answer {
@@ -136,13 +141,14 @@ impl Session {
     }
 
     /// A block of a fetch: it goes on, or what it found is said.
-    fn hear_block(&mut self, mut reading: Reading, chunk: Chunk) -> Vec<u8>
-        ensures heard { (found : Fetched) → FoundAs reading chunk found → reading.prepared ≡ true
-            → self.old.phase ≡ Phase.Ready → self.old.cutter.dropped ≡ 0
+    fn hear_block(&mut self, mut reading: Reading, chunk: Chunk<'_>) -> Vec<u8>
+        ensures heard { (found : Fetched) → FoundAs reading chunk.entry found
+            → reading.prepared ≡ true → self.old.phase ≡ Phase.Ready
+            → self.old.cutter.dropped ≡ 0
             → ReadHeardIs result.items self.old (session_view self.old) reading found self.new }
         ensures given { reading.prepared ≡ true → self.old.phase ≡ Phase.Ready
             → self.old.cutter.dropped ≡ 0
-            → ReadAnyIs result.items self.old (session_view self.old) reading chunk self.new }
+            → ReadAnyIs result.items self.old (session_view self.old) reading chunk.entry self.new }
     {
         match reading.hear(chunk) {
             Some(octets) => octets,
@@ -154,13 +160,13 @@ impl Session {
     }
 
     /// What was taken of a feed's queue.
-    pub(crate) fn hear_queue(&mut self, read: usize, room: Room, answer: Answer) -> Vec<u8>
+    pub(crate) fn hear_queue(&mut self, read: usize, room: Room, answer: Answer<'_>) -> Vec<u8>
         ensures { HeardUnless
-            ((taken : Taken) → answer ≡ Answer.Queue taken
+            ((taken : Taken) → answer.entry ≡ Answer.Queue taken
             → length taken.items.items ≤ room → self.old.phase ≡ Phase.Ready
             → HeardIs result.items self.old (says (passed read self.old)
             (QueueFollows taken.missed (map item_view taken.items.items))) self.new)
-            ((taken : Taken) → answer ≢ Answer.Queue taken)
+            ((taken : Taken) → answer.entry ≢ Answer.Queue taken)
             result.items self.old self.new }
     {
         match answer {

@@ -44,13 +44,13 @@ pub(crate) fn leaving_due(
 
 impl Session {
     /// The oldest open offer was released.
-    pub(crate) fn hear_released(&mut self, answer: Answer) -> Vec<u8>
+    pub(crate) fn hear_released(&mut self, answer: Answer<'_>) -> Vec<u8>
         ensures { HeardUnless
-            ((id : List ℕ) (later : List (List ℕ)) → answer ≡ Answer.Nothing
+            ((id : List ℕ) (later : List (List ℕ)) → answer.entry ≡ Answer.Nothing
             → self.old.phase ≡ Phase.Leaving → self.old.offers ≡ id ∷ later
             → HeardIs result.items self.old (silent (with_offers (session_view self.old) later))
             self.new)
-            (answer ≢ Answer.Nothing)
+            (answer.entry ≢ Answer.Nothing)
             result.items self.old self.new }
     {
         if let Answer::Nothing = answer {
@@ -60,11 +60,11 @@ impl Session {
     }
 
     /// Nothing was left.
-    pub(crate) fn hear_ended(&mut self, answer: Answer) -> Vec<u8>
+    pub(crate) fn hear_ended(&mut self, answer: Answer<'_>) -> Vec<u8>
         ensures { HeardUnless
-            (answer ≡ Answer.Nothing → HeardIs result.items self.old
+            (answer.entry ≡ Answer.Nothing → HeardIs result.items self.old
             (silent (in_phase (session_view self.old) model.Ended)) self.new)
-            (answer ≢ Answer.Nothing)
+            (answer.entry ≢ Answer.Nothing)
             result.items self.old self.new }
     {
         if let Answer::Nothing = answer {

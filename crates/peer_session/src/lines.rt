@@ -129,15 +129,15 @@ impl Session {
         id: MsgId,
         owed: Option<MsgId>,
         room: Room,
-        answer: Answer,
+        answer: Answer<'_>,
     ) -> Vec<u8>
         ensures { HeardUnless
-            ((told : Offer) → answer ≡ Answer.Offer told
+            ((told : Offer) → answer.entry ≡ Answer.Offer told
             → (transfer ≡ Transfer.Has → owed ≡ Some id) → is_full self.old.offers id ≡ false
             → self.old.phase ≡ Phase.Ready
             → HeardIs result.items self.old (offer_heard (passed read self.old)
             (transfer_view transfer) id (offer_view told)) self.new)
-            ((told : Offer) → answer ≢ Answer.Offer told)
+            ((told : Offer) → answer.entry ≢ Answer.Offer told)
             result.items self.old self.new }
     {
         match answer {

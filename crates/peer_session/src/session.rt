@@ -189,14 +189,14 @@ impl Session {
     /// The session of this number hears the answer to the step that it planned: what it says, in
     /// octets. It takes no memory. The answer `Memory` leaves the session as it was before the
     /// plan, and nothing planned; so does one to another step, and nothing is said.
-    pub fn absorb(&mut self, number: u64, answer: Answer) -> Vec<u8>
-        ensures heard { Heeds number self.old answer result.items self.new }
-        ensures given { HeedsRead self.old answer result.items self.new }
-        ensures other { IsOther self.old.planned.todo answer
+    pub fn absorb(&mut self, number: u64, answer: Answer<'_>) -> Vec<u8>
+        ensures heard { Heeds number self.old answer.entry result.items self.new }
+        ensures given { HeedsRead self.old answer.entry result.items self.new }
+        ensures other { IsOther self.old.planned.todo answer.entry
             → LeavesAsIs result.items (without_plan self.old) self.new }
-        ensures memory { answer ≡ answers.Memory → Forgets self.old self.new }
-        ensures plan { answer ≡ answers.Memory → self.new ≡ without_plan self.old }
-        ensures quiet { answer ≡ answers.Memory → result.items ≡ [] }
+        ensures memory { answer.entry ≡ answers.Memory → Forgets self.old self.new }
+        ensures plan { answer.entry ≡ answers.Memory → self.new ≡ without_plan self.old }
+        ensures quiet { answer.entry ≡ answers.Memory → result.items ≡ [] }
     {
         let rest = Plan::new(Planned {
             todo: Todo::Rest,
@@ -211,8 +211,8 @@ impl Session {
     }
 
     /// The answer to the step of this plan, which is the session's no more.
-    fn hear(&mut self, number: u64, planned: Planned, answer: Answer) -> Vec<u8>
-        ensures { HearsPlanned number (record self.old { planned = planned }) self.old answer
+    fn hear(&mut self, number: u64, planned: Planned, answer: Answer<'_>) -> Vec<u8>
+        ensures { HearsPlanned number (record self.old { planned = planned }) self.old answer.entry
             result.items self.new }
     {
         let Planned { todo, read } = planned;
@@ -244,12 +244,12 @@ impl Session {
     }
 
     /// Nothing is said, and a block of this id follows.
-    fn hear_owed(&mut self, read: usize, id: Option<MsgId>, answer: Answer) -> Vec<u8>
+    fn hear_owed(&mut self, read: usize, id: Option<MsgId>, answer: Answer<'_>) -> Vec<u8>
         ensures { HeardUnless
-            (answer ≡ answers.Nothing
+            (answer.entry ≡ answers.Nothing
             → HeardIs result.items self.old (silent (in_phase (passed read self.old)
             (model.AwaitsBlock model.TakesThis id))) self.new)
-            (answer ≢ answers.Nothing)
+            (answer.entry ≢ answers.Nothing)
             result.items self.old self.new }
     {
         if let Answer::Nothing = answer {
@@ -260,12 +260,12 @@ impl Session {
     }
 
     /// This is said.
-    fn hear_said(&mut self, read: usize, octets: Vec<u8>, answer: Answer) -> Vec<u8>
+    fn hear_said(&mut self, read: usize, octets: Vec<u8>, answer: Answer<'_>) -> Vec<u8>
         ensures { HeardUnless
-            ((reply : Reply) → answer ≡ answers.Nothing → IsReply octets.items reply
+            ((reply : Reply) → answer.entry ≡ answers.Nothing → IsReply octets.items reply
             → HeardIs result.items self.old
             (says (in_phase (passed read self.old) model.Ready) reply) self.new)
-            (answer ≢ answers.Nothing)
+            (answer.entry ≢ answers.Nothing)
             result.items self.old self.new }
     {
         match answer {
@@ -280,12 +280,12 @@ impl Session {
     }
 
     /// This is said, and the session leaves.
-    fn hear_left(&mut self, read: usize, octets: Vec<u8>, answer: Answer) -> Vec<u8>
+    fn hear_left(&mut self, read: usize, octets: Vec<u8>, answer: Answer<'_>) -> Vec<u8>
         ensures { HeardUnless
-            ((reply : Reply) → answer ≡ answers.Nothing → IsReply octets.items reply
+            ((reply : Reply) → answer.entry ≡ answers.Nothing → IsReply octets.items reply
             → HeardIs result.items self.old
             (parts (passed read self.old) reply) self.new)
-            (answer ≢ answers.Nothing)
+            (answer.entry ≢ answers.Nothing)
             result.items self.old self.new }
     {
         match answer {
@@ -300,7 +300,7 @@ impl Session {
     }
 
     /// Nothing is said, and the answer is let go.
-    pub(crate) fn unheard(&self, answer: Answer) -> Vec<u8>
+    pub(crate) fn unheard(&self, answer: Answer<'_>) -> Vec<u8>
         ensures { result.items ≡ [] }
     {
         drop(answer);

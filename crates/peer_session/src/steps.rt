@@ -42,14 +42,15 @@ pub enum Outcome {
 
 /// What the step was answered.
 #[derive(Drop)]
-pub enum Answer {
+pub enum Answer<'a> {
     /// Memory was refused, and nothing was done.
     Memory,
     /// It is done: the answer to `Nothing`, `Refuse` and `Release`.
     Nothing,
     Offer(Offer),
     Look(Option<Token>),
-    Chunk(Chunk),
+    /// What was read of a block: its octets are lent.
+    Chunk(Chunk<'a>),
     Queue(Taken),
     Take(Take),
     Pushed(bool),

@@ -60,14 +60,14 @@ pub(crate) fn push_due(job: &Job) -> Due
 
 impl Session {
     /// The answer to a held article.
-    pub(crate) fn hear_held(&mut self, number: u64, copy: MsgId, answer: Answer) -> Vec<u8>
+    pub(crate) fn hear_held(&mut self, number: u64, copy: MsgId, answer: Answer<'_>) -> Vec<u8>
         ensures { HeardUnless
-            ((article : Accepted) (room : Room) (told : Take) → answer ≡ Answer.Take told
+            ((article : Accepted) (room : Room) (told : Take) → answer.entry ≡ Answer.Take told
             → self.old.phase ≡ Phase.Holds copy article room → self.old.cutter.dropped ≡ 0
             → HeardIs result.items self.old
             (take_heard number (in_phase (session_view self.old) model.Ready) model.TakesThis copy
             (article_view article) (take_view told)) self.new)
-            ((told : Take) → answer ≢ Answer.Take told)
+            ((told : Take) → answer.entry ≢ Answer.Take told)
             result.items self.old self.new }
     {
         match answer {
@@ -90,14 +90,14 @@ impl Session {
     }
 
     /// What was found in the slot.
-    pub(crate) fn hear_slot(&mut self, answer: Answer) -> Vec<u8>
+    pub(crate) fn hear_slot(&mut self, answer: Answer<'_>) -> Vec<u8>
         ensures { HeardUnless
             ((transfer : Transfer) (id : MsgId) (room : Room) (told : Option Outcome)
-            → answer ≡ Answer.Slot told → self.old.phase ≡ Phase.Waits transfer id room
+            → answer.entry ≡ Answer.Slot told → self.old.phase ≡ Phase.Waits transfer id room
             → self.old.cutter.dropped ≡ 0
             → HeardIs result.items self.old (slot_heard (session_view self.old)
             (transfer_view transfer) id (option_map outcome_view told)) self.new)
-            ((told : Option Outcome) → answer ≢ Answer.Slot told)
+            ((told : Option Outcome) → answer.entry ≢ Answer.Slot told)
             result.items self.old self.new }
     {
         match answer {

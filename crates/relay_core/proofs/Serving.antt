@@ -1,6 +1,6 @@
 -- A Turn with its peer taken out: plan, share and hear are one Turn of the definitions.
 use Rattle.std.proofs.Common.{◌≡◌, ◌≢◌, ◌<◌, ◌+◌, ℕ, Bool, true, false, List}
-use Rattle.std.proofs.Common.{Some, refl, sym, ap, subst, ◌∙◌, ⊎_elim, arith}
+use Rattle.std.proofs.Common.{Option, Some, refl, sym, ap, subst, ◌∙◌, ⊎_elim, arith}
 use Rattle.std.proofs.lemmas.Bool.Decides.{nat_tests}
 use Rattle.std.proofs.lemmas.Option.{slice_get_within}
 use Rattle.std.specs.Prelude.{length, nat_lt}
@@ -13,8 +13,8 @@ use Rattle.peer_session.specs.Answers.{AsksOf}
 use Rattle.peer_session.specs.Hearing.{Gathers}
 use Rattle.peer_session.specs.Planning.{DueGiven, Planned}
 use Rattle.peer_session.specs.declared.session.Session.{Session}
-use Rattle.peer_session.specs.declared.steps.Answer.{Answer}
 use Rattle.peer_session.specs.declared.steps.Answer.TheVariants as answers
+use Rattle.peer_session.specs.declared.steps.Outcome.{Outcome}
 use Rattle.peer_session.specs.declared.steps.Step.{Step}
 use Rattle.relay_model.specs.Asks as asks
 use Rattle.relay_model.specs.Asks.{Ask, Due, IsDue}
@@ -33,9 +33,9 @@ use Rattle.relay_model.specs.World.{World}
 use Rattle.relay_core.specs.declared.peers.Peer.{Peer}
 use Rattle.relay_core.proofs.Dues.{after_read}
 use Rattle.relay_core.proofs.Found.{found_whole}
-use Rattle.relay_core.specs.Agreement.{IsFront, HasNone, HasSome, IsGathered}
-use Rattle.relay_core.specs.Sharing.{AskFits, LeavesAll, SharesStep}
-use Rattle.relay_core.specs.Turns.{HeardAs, HearsMemory, Serves, StandsStill}
+use Rattle.relay_core.specs.Agreement.{IsFront, HasNone, HasSome, IsGathered, SlotIs}
+use Rattle.relay_core.specs.Sharing.{AskFits}
+use Rattle.relay_core.specs.Turns.{Serves, StandsStill, StepTaken}
 use Rattle.relay_core.specs.Views.{output_view}
 use Rattle.relay_core.specs.declared.event.CoreError.TheVariants as faults
 use Rattle.relay_core.specs.declared.event.Output.{Output}
@@ -202,24 +202,21 @@ fronts_after w x n now m d told y heard later due shares hears model.Leaving at 
 fronts_after w x n now m d told y heard later due shares hears model.Ended at gathers = gathers
 
 module _ {S : Type 0} {g : Ghosts S} (n now : ℕ) (old : System S g) (peer : Peer)
-    (session : Session) (step : Step) (answer : Answer) (new : System S g) (peer' : Peer)
-    (output : Output) (heard : Session) where
-  -- three clauses make a Turn
+    (session : Session) (step : Step) (new : System S g) (peer' : Peer) (output : Output) where
+  -- a plan and its step make a Turn
   pub served : DueGiven (terms_of old.config) peer.session now step session
-      → SharesStep n now step old (record peer { session = session }) answer new peer'
-      → HeardAs n peer'.session answer output heard
-      → HearsMemory peer'.session answer output heard
-      → Serves n now old peer output new (record peer' { session = heard })
-  served due shared hears told = λ leaving x m but there stands well other.
+      → StepTaken n now step old (record peer { session = session }) output new peer'
+      → Serves n now old peer output new peer'
+  served due taken = λ leaving x m but there stands well other.
       let w : Terms = terms_of old.config in
-      let some : answer ≢ answers.Memory = λ e. other (told.told e) in
+      let some : taken.answer ≢ answers.Memory = λ e. other (taken.memory.told e) in
       let p = due m stands.gathered stands.stands in
       let fits = ask_fits w x n m stands.gathered well there (stands.fronts refl) p.due.ask
       p.asks_of in
-      let s = shared leaving x m p.due stands.gathered but stands.slot_is fits p.planned p.is_step
-      some in
+      let s = taken.shared leaving x m p.due stands.gathered but stands.slot_is fits p.planned
+      p.is_step some in
       let gives = s.0 in
-      let v = hears w m p.due stands.gathered gives.told some s.1 gives.answers in
+      let v = taken.heard w m p.due stands.gathered gives.told some s.1 gives.answers in
       record {
         between = gives.between;
         session = v.heard.session;
@@ -242,26 +239,27 @@ module _ {S : Type 0} {g : Ghosts S} (n now : ℕ) (old : System S g) (peer : Pe
           stands = v.stands;
           fronts = λ trusted. fronts_after w x n now m p.due gives.told gives.between v.heard
               v.later p.is_due gives.shares v.hears v.heard.session.phase refl v.gathers;
-          slot_is = gives.slot_is;
+          slot_is = subst (λ (slot : Option Outcome). SlotIs slot (gives.between.work.slot n))
+              (sym taken.same_slot) gives.slot_is;
         };
       }
 
   -- want of memory leaves all as it was
   pub stood_still : DueGiven (terms_of old.config) peer.session now step session
-      → (answer ≡ answers.Memory → LeavesAll n old (record peer { session = session }) new peer')
-      → HearsMemory peer'.session answer output heard
-      → output ≡ outputs.Refused faults.Memory
-      → StandsStill n old peer new (record peer' { session = heard })
-  stood_still due leaves told memory =
-      let is : answer ≡ answers.Memory = told.only world.Memory (ap output_view memory) in
-      let left = leaves is in
+      → StepTaken n now step old (record peer { session = session }) output new peer'
+      → output ≡ outputs.Refused faults.Memory → StandsStill n old peer new peer'
+  stood_still due taken memory =
+      let is : taken.answer ≡ answers.Memory =
+      taken.memory.only world.Memory (ap output_view memory) in
+      let left = taken.left is in
       record {
         agrees = left.agrees;
         stands = λ m gathered stands.
             let p = due m gathered stands in
-            let same : peer'.session ≡ session = ap (λ (one : Peer). one.session) left.same_peer in
-            told.forgets is (terms_of old.config) m p.due gathered
+            let same : taken.between.session ≡ session =
+            ap (λ (one : Peer). one.session) left.same_peer in
+            taken.memory.forgets is (terms_of old.config) m p.due gathered
             (subst (λ (one : Session). Planned (terms_of old.config) one m p.due gathered false)
             (sym same) p.planned);
-        slot = ap (λ (one : Peer). one.slot) left.same_peer;
+        slot = taken.same_slot ∙ ap (λ (one : Peer). one.slot) left.same_peer;
       }

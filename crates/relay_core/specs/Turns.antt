@@ -9,6 +9,7 @@ use Rattle.peer_session.specs.Session.{Stands, session_view}
 use Rattle.peer_session.specs.declared.session.Session.{Session}
 use Rattle.peer_session.specs.declared.steps.Answer.{Answer}
 use Rattle.peer_session.specs.declared.steps.Answer.TheVariants as answers
+use Rattle.peer_session.specs.declared.steps.Step.{Step}
 use Rattle.relay_model.specs.Asks.{Due}
 use Rattle.relay_model.specs.Hears.{Heard, Hears}
 use Rattle.relay_model.specs.Invariants.{IsWell}
@@ -21,6 +22,7 @@ use Rattle.relay_core.specs.Peers.{ClosesPeer, GivesPeer}
 use Rattle.relay_core.specs.declared.peers.Peer.{Peer}
 use Rattle.relay_core.specs.declared.peers.Peers.{Peers}
 use Rattle.relay_core.specs.Agreement.{AgreesBut, PeerStands}
+use Rattle.relay_core.specs.Sharing.{KeepsFrame, LeavesAll, SharesStep}
 use Rattle.relay_core.specs.Views.{output_view}
 use Rattle.relay_core.specs.declared.event.CoreError.TheVariants as faults
 use Rattle.relay_core.specs.declared.event.Output.{Output}
@@ -52,6 +54,20 @@ pub record HearsMemory (old : Session) (answer : Answer) (output : Output) (new 
   pub told : answer ≡ answers.Memory → output ≡ outputs.Refused faults.Memory
   pub forgets : answer ≡ answers.Memory → Forgets old new
   pub only : (fault : Fault) → output_view output ≡ Refuses fault → answer ≡ answers.Memory
+
+-- the step that the session of a peer planned is done, and the session heard what it is answered
+pub record StepTaken {S : Type 0} {g : Ghosts S} (n now : ℕ) (step : Step) (old : System S g)
+    (peer : Peer) (output : Output) (new : System S g) (peer' : Peer)
+    : Type 0 where
+  pub answer : Answer
+  pub between : Peer
+  pub shared : SharesStep n now step old peer answer new between
+  pub left : answer ≡ answers.Memory → LeavesAll n old peer new between
+  pub heard : HeardAs n between.session answer output peer'.session
+  pub memory : HearsMemory between.session answer output peer'.session
+  pub same_slot : peer'.slot ≡ between.slot
+  pub frame : KeepsFrame old new
+  pub peers : new.peers ≡ old.peers
 
 -- no other refusal is answered than want of memory
 abbrev pub IsMemoryAlone : Output → Type 0

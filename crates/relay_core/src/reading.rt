@@ -9,17 +9,17 @@ use cyc_block::{BlockStore, CHUNK_OCTETS};
 use cyc_buffer::{BufError, Fault, Found};
 use cyc_token::Token;
 
-/// Reads block k of the article under a token.
-pub(crate) fn read_chunk<S: BlockStore>(
+/// Reads block k of the article under a token into this room, whose octets the chunk lends.
+pub(crate) fn read_chunk<'a, S: BlockStore>(
     buffer_set: &mut BufferSet<S>,
     token: &Token,
     k: u32,
-) -> Chunk
+    room: &'a mut [u8; CHUNK_OCTETS],
+) -> Chunk<'a>
     ensures { ReadsChunk (token_view token.now) k buffer_set.old result buffer_set.new }
 {
-    let mut octets = [0; CHUNK_OCTETS];
-    let found = buffer_set.read(token, k, &mut octets);
-    Chunk::of_read(found_or_fault(found), octets)
+    let found = buffer_set.read(token, k, room);
+    Chunk::of_read(found_or_fault(found), room)
 }
 
 /// What a read found, or the fault of the device. Nothing else refuses a read: it would find

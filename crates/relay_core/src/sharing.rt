@@ -3,7 +3,6 @@ ghost use Rattle.std.specs.Prelude.{◌≡◌};
 ghost use Rattle.relay_core.specs.Sharing.{queue_answer};
 
 use crate::peers::Peer;
-use crate::reading::read_chunk;
 use crate::system::System;
 use cyc_block::BlockStore;
 use feed_queue::Taken;
@@ -11,13 +10,22 @@ use peer_session::{Answer, Step};
 use std::alloc::AllocError;
 
 impl<S: BlockStore> System<S> {
-    ghost use Rattle.std.specs.Prelude.{◌≡◌, ℕ};
+    ghost use Rattle.std.specs.Prelude.{◌≡◌, ◌≢◌, ℕ};
+    ghost use Rattle.cyc_token.specs.declared.Token.{Token};
     ghost use Rattle.peer_session.specs.declared.steps.Answer.TheVariants as answers;
     ghost use Rattle.peer_session.specs.declared.steps.Step.TheVariants as steps;
     ghost use Rattle.relay_core.specs.Sharing.{KeepsFrame, LeavesAll, SharesStep, WantsMemory};
 
-    /// Does the step that a session planned. The session's peer is taken out.
-    pub(crate) fn share(&mut self, peer: &mut Peer, number: u64, step: &Step, now: u64) -> Answer
+    /// Does the step that a session planned, but for a read, which lends what it found
+    /// (`take_read`). The session's peer is taken out.
+    pub(crate) fn share<'a>(
+        &mut self,
+        peer: &mut Peer,
+        number: u64,
+        step: &Step,
+        now: u64,
+    ) -> Answer<'a>
+        requires { (token : Token) (k : ℕ) → step.now ≢ steps.Read token k }
         ensures shared { SharesStep number now step.now self.old peer.old result self.new peer.new }
         ensures memory { result ≡ answers.Memory
             → LeavesAll number self.old peer.old self.new peer.new }
@@ -32,7 +40,7 @@ impl<S: BlockStore> System<S> {
                 Err(_) => Answer::Memory,
             },
             Step::Look(id) => Answer::Look(self.shards.look(id)),
-            Step::Read(token, k) => Answer::Chunk(read_chunk(&mut self.buffer_set, token, *k)),
+            Step::Read(_, _) => unreachable!(),
             Step::TakeQueue(feed, most) => queue_answer(self.desk.take(self.alloc, *feed, *most)),
             Step::Refuse(id) => match self.shards.refuse(id, number, now) {
                 Ok(()) => Answer::Nothing,
@@ -52,7 +60,7 @@ impl<S: BlockStore> System<S> {
     }
 
     /// The job in a session's hand joins the queue of its group, if that has room.
-    fn push(&mut self, peer: &mut Peer, group: usize) -> Answer
+    fn push<'a>(&mut self, peer: &mut Peer, group: usize) -> Answer<'a>
         ensures shared { (number : ℕ) (now : ℕ)
             → SharesStep number now (steps.Push group) self.old peer.old result self.new peer.new }
         ensures memory { (number : ℕ) → result ≡ answers.Memory
@@ -78,7 +86,7 @@ impl<S: BlockStore> System<S> {
 }
 
 /// What a session is answered where tokens were taken of a ring. A feed that isn't there has none.
-fn queue_answer(taken: Result<Option<Taken>, AllocError>) -> Answer
+fn queue_answer<'a>(taken: Result<Option<Taken>, AllocError>) -> Answer<'a>
     ensures { result ≡ queue_answer taken }
 {
     match taken {

@@ -8,20 +8,23 @@ ghost use Rattle.relay_model.specs.Terms.{last_moment};
 
 use crate::event::{CoreError, Output};
 use crate::peers::{Peer, Peers};
+use crate::reading::read_chunk;
 use crate::system::System;
-use cyc_block::BlockStore;
+use cyc_block::{BlockStore, CHUNK_OCTETS};
+use cyc_token::Token;
 use id_history::LAST_MOMENT;
 use line_words::Octets;
-use peer_session::{Answer, Session};
+use peer_session::{Answer, Session, Step};
 
 impl<S: BlockStore> System<S> {
-    ghost use Rattle.std.specs.Prelude.{◌≡◌, ◌≤◌};
+    ghost use Rattle.std.specs.Prelude.{◌≡◌, ◌≤◌, ℕ};
+    ghost use Rattle.peer_session.specs.declared.steps.Step.TheVariants as steps;
     ghost use Rattle.relay_model.specs.Run as run;
     ghost use Rattle.relay_model.specs.Terms.{last_moment};
     ghost use Rattle.relay_core.specs.Refusals.{RefusesRightly};
     ghost use Rattle.relay_core.specs.Sharing.{KeepsFrame};
     ghost use Rattle.relay_core.specs.Steps.{StepsAs};
-    ghost use Rattle.relay_core.specs.Turns.{IsMemoryAlone, Serves, StandsStill};
+    ghost use Rattle.relay_core.specs.Turns.{IsMemoryAlone, Serves, StandsStill, StepTaken};
     ghost use Rattle.relay_core.specs.declared.event.CoreError.TheVariants as faults;
     ghost use Rattle.relay_core.specs.declared.event.Output.TheVariants as outputs;
 
@@ -58,13 +61,37 @@ impl<S: BlockStore> System<S> {
         ensures peers { self.new.peers ≡ self.old.peers }
     {
         match peer.session.plan(&self.config, now) {
-            Ok(step) => {
+            Ok(step) => self.take_step(peer, number, step, now),
+            Err(_) => Output::Refused(CoreError::Memory),
+        }
+    }
+
+    /// The step that a session planned is done, and it hears the answer.
+    fn take_step(&mut self, peer: &mut Peer, number: u64, step: Step, now: u64) -> Output
+        ensures { StepTaken number now step self.old peer.old result self.new peer.new }
+    {
+        match step {
+            Step::Read(token, k) => {
+                drop(step);
+                self.take_read(peer, number, token, k)
+            }
+            _ => {
                 let answer = self.share(peer, number, &step, now);
                 drop(step);
                 hear(&mut peer.session, number, answer)
             }
-            Err(_) => Output::Refused(CoreError::Memory),
         }
+    }
+
+    /// The same of a step that reads a block. Room for the block's octets is made here and in no
+    /// other turn.
+    fn take_read(&mut self, peer: &mut Peer, number: u64, token: Token, k: u32) -> Output
+        ensures { (now : ℕ) → StepTaken number now (steps.Read token k) self.old peer.old result
+            self.new peer.new }
+    {
+        let mut room = [0; CHUNK_OCTETS];
+        let chunk = read_chunk(&mut self.buffer_set, &token, k, &mut room);
+        hear(&mut peer.session, number, Answer::Chunk(chunk))
     }
 }
 
@@ -82,9 +109,9 @@ fn take_back(peers: &mut Peers, number: u64, peer: Peer)
 }
 
 /// A session hears the answer to what it planned.
-fn hear(session: &mut Session, number: u64, answer: Answer) -> Output
-    ensures heard { HeardAs number session.old answer result session.new }
-    ensures memory { HearsMemory session.old answer result session.new }
+fn hear(session: &mut Session, number: u64, answer: Answer<'_>) -> Output
+    ensures heard { HeardAs number session.old answer.entry result session.new }
+    ensures memory { HearsMemory session.old answer.entry result session.new }
 {
     if let Answer::Memory = answer {
         session.absorb(number, Answer::Memory);

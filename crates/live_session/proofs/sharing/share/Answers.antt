@@ -1,12 +1,10 @@
-use Rattle.std.proofs.Common.{◌∙◌, ap, refl, subst, sym}
-use Rattle.std.proofs.lemmas.Option.{same_Some}
+use Rattle.std.proofs.Common.{refl, subst, sym}
 use Rattle.live_jobs.specs.Seats.{IsSeatOf}
 use Rattle.live_jobs.specs.declared.session.SessionSeat.{SessionSeat}
-use Rattle.live_session.proofs.Differs.{chunk-memory}
 use Rattle.live_session.proofs.Sharings.{looked, nothing, offered, queued, refused, released}
-use Rattle.live_session.proofs.Sharings.{taken_up, was_read}
+use Rattle.live_session.proofs.Sharings.{taken_up}
 use Rattle.live_session.proofs.sharing.share.Goals as goal
-use Rattle.live_session.specs.Going.{IsReadAt, IsStepRead, SharesFor, block_in}
+use Rattle.live_session.specs.Going.{IsStepRead, SharesFor}
 use Rattle.live_session.specs.Turns.{DidStep}
 use Rattle.peer_session.specs.declared.steps.Answer.TheVariants as answers
 use Rattle.peer_session.specs.declared.steps.Step.{Step}
@@ -58,26 +56,6 @@ returns-in-Look g c =
       slot = tt;
       push = tt;
       memory = λ same. record { session = refl; reads = refl; hands = refl };
-    }
-
-pub returns-in-Read : goal.returns-in-Read
-returns-in-Read g c =
-    let live = c.args.live.now in
-    let new = record live { reads = c.read.new.reads } in
-    let P : Step → Type 0 =
-    λ s. (w : Terms) → SharesFor w s live (answers.Chunk c.read.result) new in
-    record {
-      seat = c.requires.seat;
-      place = record { number = refl; end_is = refl };
-      shared = subst P (sym c.in-Read.is)
-          (λ w. was_read w live c.in-Read.token c.in-Read.k c.read.result new
-          (record { session = refl; hands = refl; place = record { number = refl; end_is = refl } })
-          c.read.ensures.reads);
-      reads = λ k is. subst (λ n. ∥ IsReadAt n live.reads.shown new.reads.shown c.read.result ∥₁)
-          (same_Some c.in-Read.k k (sym (ap block_in c.in-Read.is) ∙ is)) c.read.ensures.cause;
-      slot = tt;
-      push = tt;
-      memory = λ is. absurd (chunk-memory c.read.result is);
     }
 
 pub returns-in-Ok-take_queue : goal.returns-in-Ok-take_queue

@@ -3,15 +3,24 @@ use Rattle.live_jobs.specs.Seats.{IsSeatOf}
 use Rattle.live_jobs.specs.declared.session.SessionSeat.{SessionSeat}
 use Rattle.live_session.proofs.LiveSessions.{turned}
 use Rattle.live_session.proofs.turn.take_planned.Goals as goal
-use Rattle.live_session.specs.Going.{said_in}
+use Rattle.live_session.specs.Going.{TakesPlanned, said_in}
+use Rattle.peer_session.specs.declared.steps.Step.{Step}
 
-pub returns-clause-seat : goal.returns-clause-seat
-returns-clause-seat g c =
+-- a block is read
+pub returns-in-Read-clause-went : goal.returns-in-Read-clause-went
+returns-in-Read-clause-went g c = λ w.
+    subst (λ (step : Step). TakesPlanned w c.args.context.now.moment step c.args.live.now
+    (said_in c.take_read.result) c.take_read.new.live) (sym c.in-Read.is)
+    (c.take_read.ensures.went w)
+
+-- any other step
+pub returns-in_default-clause-seat : goal.returns-in_default-clause-seat
+returns-in_default-clause-seat g c =
     let P : SessionSeat → Type 0 = λ s. IsSeatOf c.args.context.now.channels.now s in
     subst P (sym c.hear.ensures.seat) c.share-answer.ensures.seat
 
-pub returns-clause-went : goal.returns-clause-went
-returns-clause-went g c = λ w old plans rest.
+pub returns-in_default-clause-went : goal.returns-in_default-clause-went
+returns-in_default-clause-went g c = λ w old plans rest.
     let share = c.share-answer in
     turned w old c.hear.new.live c.args.step c.args.context.now.moment
     c.args.live.now share.new.live share.result (said_in c.hear.result) c.requires.moment plans rest

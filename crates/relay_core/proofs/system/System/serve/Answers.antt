@@ -3,21 +3,20 @@ use Rattle.article_verdict.specs.Config.{terms_of}
 use Rattle.relay_core.proofs.Serving.{served, stood_still}
 use Rattle.relay_core.proofs.system.System.serve.Goals as goal
 
--- three clauses make a Turn
+-- a plan and its step make a Turn
 pub returns-in-Ok : goal.returns-in-Ok
 returns-in-Ok g c =
+    let taken = c.take_step.ensures in
     record {
       served = served c.args.number c.args.now c.args.self.now c.args.peer.now c.plan.new.self
-          c.in-Ok.step c.share-answer.result c.share-answer.new.self c.share-answer.new.peer
-          c.hear.result c.hear.new.session c.in-Ok.ensures.due c.share-answer.ensures.shared
-          c.hear.ensures.heard c.hear.ensures.memory;
+          c.in-Ok.step c.take_step.new.self c.take_step.new.peer c.take_step.result
+          c.in-Ok.ensures.due taken;
       memory = stood_still c.args.number c.args.now c.args.self.now c.args.peer.now c.plan.new.self
-          c.in-Ok.step c.share-answer.result c.share-answer.new.self c.share-answer.new.peer
-          c.hear.result c.hear.new.session c.in-Ok.ensures.due c.share-answer.ensures.memory
-          c.hear.ensures.memory;
-      only = λ fault is. c.hear.ensures.memory.told (c.hear.ensures.memory.only fault is);
-      frame = c.share-answer.ensures.frame;
-      peers = c.share-answer.ensures.peers;
+          c.in-Ok.step c.take_step.new.self c.take_step.new.peer c.take_step.result
+          c.in-Ok.ensures.due taken;
+      only = λ fault is. taken.memory.told (taken.memory.only fault is);
+      frame = taken.frame;
+      peers = taken.peers;
     }
 
 -- a plan without memory leaves the session as it was

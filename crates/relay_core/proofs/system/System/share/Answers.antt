@@ -6,7 +6,6 @@ use Rattle.relay_core.proofs.Arms.{claims_left, look_shared, none_shared, offer_
 use Rattle.relay_core.proofs.Arms.{queue_left, queue_shared, refuse_shared, release_shared}
 use Rattle.relay_core.proofs.Arms.{slot_shared, take_shared}
 use Rattle.relay_core.proofs.Dispatch.{never}
-use Rattle.relay_core.proofs.ReadArm.{read_shared}
 use Rattle.relay_core.specs.Sharing.{SharesStep, WantsMemory}
 use Rattle.relay_core.proofs.system.System.share.Goals as goal
 
@@ -51,18 +50,6 @@ returns-in-Look g c =
           c.look.result c.look.ensures c.args.step.now c.in-Look.is;
       memory = never (answers.Look c.look.result) refl;
       wants = never (answers.Look c.look.result) refl;
-      frame = record { config = refl; group_writers = refl };
-      peers = refl;
-    }
-
-pub returns-in-Read : goal.returns-in-Read
-returns-in-Read g c =
-    record {
-      shared = read_shared c.args.number c.args.now c.args.self.now c.args.peer.now
-          c.in-Read.token c.in-Read.k c.read_chunk.result c.read_chunk.new.buffer_set
-          c.read_chunk.ensures c.args.step.now c.in-Read.is;
-      memory = never (answers.Chunk c.read_chunk.result) refl;
-      wants = never (answers.Chunk c.read_chunk.result) refl;
       frame = record { config = refl; group_writers = refl };
       peers = refl;
     }

@@ -1,0 +1,89 @@
+-- What was read of an article before it is asked for.
+use Rattle.std.specs.Prelude.{◌≡◌, ℕ, ◌+◌, ◌-◌, ◌*◌, ◌<◌, ◌≤◌, Bool, true, List, length, min}
+use Rattle.std.specs.Prelude.{Option, None, Some, Result, Ok, Err, IsSome, IsSomeAnd}
+use Rattle.std.specs.Prelude.{nat_le, if◌then◌else◌}
+use Rattle.boxcar.specs.Table.{Shelves, Where}
+use Rattle.cyc_block.specs.declared.store.BlockStore.{Ghosts}
+use Rattle.cyc_buffer.specs.Agreement.{Follows, buffer_state_of}
+use Rattle.cyc_buffer.specs.Calls.{ReadsBlock}
+use Rattle.cyc_buffer.specs.declared.answers.Fault.{Fault}
+use Rattle.cyc_buffer.specs.declared.answers.Found.{Found}
+use Rattle.cyc_buffer.specs.declared.buffer.Buffer.{Buffer}
+use Rattle.cyc_token.specs.Token.{token_view}
+use Rattle.cyc_token.specs.declared.Token.{Token}
+use Rattle.live_store.specs.Steps.{IsChunkOf, as_found, buffer_of, found_in, numbers_of, ones_found}
+use Rattle.live_store.specs.Steps.{open_write_of}
+use Rattle.live_store.specs.declared.ahead.Ahead.{Ahead}
+use Rattle.live_store.specs.declared.answers.OneRead.{OneRead}
+use Rattle.live_store.specs.declared.answers.Reading.{Reading}
+use Rattle.live_store.specs.declared.numbered.NumberedBuffer.{NumberedBuffer}
+use Rattle.live_store.specs.declared.record.StorePremises as store_premises
+use Rattle.live_store.specs.declared.writing.entering.Record.{Record}
+use Rattle.news_terms.specs.BlockImage.{chunk, chunk_size}
+use Rattle.news_terms.specs.Places.{size_of}
+
+-- how many blocks are read behind block k of an article of so many octets, under one lock: all that
+-- it has, at most 127
+abbrev pub blocks_behind : (k octets : ℕ) → ℕ
+blocks_behind k octets = min (size_of octets - k - 1) 127
+
+-- block k under a token is one of those of which the chunks are there
+pub record IsAhead (ahead : Ahead) (token : Token) (k : ℕ) : Type 0 where
+  pub named : token ≡ ahead.token
+  pub behind : ahead.from ≤ k
+  pub there : chunk_size * (k - ahead.from) < length ahead.octets.items
+
+-- the chunk that is there of block k
+abbrev pub chunk_ahead : Ahead → (k : ℕ) → List ℕ
+chunk_ahead ahead k = chunk (k - ahead.from) ahead.octets.items
+
+-- the chunk of block k is the last one that is there, or none of a block behind it is
+abbrev pub ends_with : Ahead → (k : ℕ) → Bool
+ends_with ahead k = nat_le (length ahead.octets.items) (chunk_size * (k - ahead.from + 1))
+
+-- what is there once the chunk of block k was given: nothing behind the last one
+abbrev pub left_behind : (k : ℕ) → Option Ahead → Option Ahead
+left_behind k None = None
+left_behind k (Some ahead) = if ends_with ahead k then None else Some ahead
+
+-- each chunk that is there is that of its block of the article under the token, of the record of
+-- this number
+abbrev pub AreChunksOf : Shelves → Ahead → Where Record → Type 0
+AreChunksOf register ahead shown = (i : ℕ) → chunk_size * i < length ahead.octets.items
+    → IsChunkOf register (token_view ahead.token) (ahead.from + i) (chunk i ahead.octets.items)
+    shown
+
+-- What reads have read ahead: there is a chunk, and they have a record; where the stores are
+-- trusted each chunk is of that.
+pub record IsReadAhead (trusted : Bool) (register : Shelves) (own : Option (Where Record))
+    (ahead : Ahead)
+    : Type 0 where
+  pub some : 0 < length ahead.octets.items
+  pub has : IsSome own
+  pub chunks : trusted ≡ true → IsSomeAnd own (AreChunksOf register ahead)
+
+-- what reads that had this record are told of what a read came to
+abbrev pub told_of : Result Reading Fault → Option (Where Record) → Result Found Fault
+told_of (Ok reading) own = Ok (found_in reading own)
+told_of (Err fault) own = Err fault
+
+-- Reads that had this record are told what the buffer's own read of block k came to, whatever comes
+-- of the blocks behind it.
+pub record IsToldOfRead {S : Type 0} {s : Ghosts S} {J : Type 0} {j : store_premises.Ghosts J}
+    (old : NumberedBuffer S J s j) (token : Token) (k : ℕ) (before : List ℕ)
+    (own : Option (Where Record)) (result : Result OneRead Fault) (after : List ℕ)
+    : Type 0 where
+  pub reading : Result Reading Fault
+  pub read : Buffer S s
+  pub reads : ReadsBlock (buffer_of old) token k before (as_found reading) after read
+  pub told : ones_found result ≡ told_of reading own
+
+-- blocks were merely read: the buffer is what it was, in memory too, and so is what stands beside
+-- it
+pub record WasMerelyRead {S : Type 0} {s : Ghosts S} {J : Type 0} {j : store_premises.Ghosts J}
+    (old new : NumberedBuffer S J s j)
+    : Type 0 where
+  pub same : Follows (λ h. h) (buffer_of old) (buffer_of new)
+  pub buffer_state : buffer_state_of (buffer_of new) ≡ buffer_state_of (buffer_of old)
+  pub open_write : open_write_of new ≡ open_write_of old
+  pub numbers : numbers_of new ≡ numbers_of old
