@@ -117,6 +117,8 @@ class Row:
 
         def meant(found):
             word, *words = found[1].split(" ")
+            if '"' in found[1]:
+                return found[0]
             if word.isdigit():
                 return found[1].partition(" ")[2] * int(word)
             if word in TEXTS:

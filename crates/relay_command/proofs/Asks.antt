@@ -1,5 +1,5 @@
 -- What a call that asks was handed, and what is told where it isn't heard.
-use Rattle.std.proofs.Common.{◌≡◌, ℕ, List, Option, Result, Err, refl, subst}
+use Rattle.std.proofs.Common.{◌≡◌, ℕ, List, Option, Result, Ok, Err, refl, subst}
 use denote.Ref.{Bor}
 use Rattle.std.specs.Global.{Vec}
 use Rattle.std.specs.IoError.{error_kind}
@@ -7,8 +7,11 @@ use Rattle.std.specs.declared.io.Error.{Error}
 use Rattle.std.specs.declared.io.ErrorKind.{ErrorKind}
 use Rattle.std.specs.declared.io.ErrorKind.TheVariants.{ConnectionRefused, NotFound, OutOfMemory}
 use Rattle.relay_command.specs.Ask.{Answered, Asking, AsksIn, IsUnheard}
+use Rattle.relay_command.specs.Ask.{not_asked, not_formed}
 use Rattle.relay_command.specs.declared.ask.AskError.{AskError}
-use Rattle.relay_command.specs.declared.ask.AskError.TheVariants.{Unwritten}
+use Rattle.relay_command.specs.declared.ask.AskError.TheVariants.{Memory, Unwritten}
+use Rattle.relay_command.specs.declared.ask.Form.{Form}
+use Rattle.relay_command.specs.declared.ask.Form.TheVariants.{Metrics}
 use Rattle.relay_command.specs.declared.ask.Request.{Request}
 use Rattle.relay_command.proofs.Checks.{keeps_same}
 
@@ -30,11 +33,20 @@ not_unheard folder ConnectionRefused is = is
 not_unheard folder kind is = cc
 
 -- Where a relay isn't heard, that is told and nothing is written.
-pub unheard : (asking : Asking) (folder : List ℕ) (request : Request) (failure : Error)
-    (kind : ErrorKind) (error : AskError) (held : Option (List ℕ))
+pub unheard : (asking : Asking) (folder : List ℕ) (request : Request) (form : Form)
+    (failure : Error) (kind : ErrorKind) (error : AskError) (held : Option (List ℕ))
     → asking folder request (Err failure) → kind ≡ error_kind failure → IsUnheard folder kind error
-    → AsksIn asking folder request (Err error) held held
-unheard asking folder request failure kind Unwritten held asked same is =
+    → AsksIn asking folder request form (Err error) held held
+unheard asking folder request form failure kind Unwritten held asked same is =
     absurd (not_unheard folder kind is)
-unheard asking folder request failure kind error held asked same is =
-    (failure, asked, subst (λ k. IsUnheard folder k error) same is, keeps_same held)
+unheard asking folder request form failure kind error held asked same is = (
+  not_asked failure asked (subst (λ k. IsUnheard folder k error) same is),
+  keeps_same held,
+)
+
+-- Where there is no memory for the metrics, that is told and nothing is written.
+pub unformed : (asking : Asking) (folder : List ℕ) (request : Request) (form : Form) (told : Vec ℕ)
+    (held : Option (List ℕ)) → asking folder request (Ok told) → form ≡ Metrics
+    → AsksIn asking folder request form (Err Memory) held held
+unformed asking folder request form told held asked is =
+    (not_formed told asked is refl, keeps_same held)

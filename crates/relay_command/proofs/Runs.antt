@@ -39,7 +39,7 @@ module _ {W : Type 0} (contents : W → Option (List ℕ))
   never_words (Tells text) error input before after does = does
   never_words (Serves folder sessions fresh) error input before after does = does
   never_words (Stops folder) error input before after does = does
-  never_words (Reports folder) error input before after does = does
+  never_words (Reports folder form) error input before after does = does
   never_words (Adds folder) error input before after does = does
 
   -- What the words ask for was done, or failed.

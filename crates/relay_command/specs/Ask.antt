@@ -12,7 +12,10 @@ use Rattle.relay_report.specs.Written.{GainsFront}
 use Rattle.relay_command.specs.declared.ask.AskError.{AskError}
 use Rattle.relay_command.specs.declared.ask.AskError.TheVariants.{Memory, Unserved, Unusable}
 use Rattle.relay_command.specs.declared.ask.AskError.TheVariants.{Unwritten}
+use Rattle.relay_command.specs.declared.ask.Form.{Form}
+use Rattle.relay_command.specs.declared.ask.Form.TheVariants.{Metrics, Told}
 use Rattle.relay_command.specs.declared.ask.Request.{Request}
+use Rattle.relay_metrics.specs.Exposition.{exposition_of}
 
 -- what asking may come to: of the folder in which a relay is served, and of what it is asked for,
 -- what it tells, or the system's error
@@ -49,14 +52,30 @@ IsUnheard folder NotFound error = IsUnserved folder error
 IsUnheard folder ConnectionRefused error = IsUnserved folder error
 IsUnheard folder kind error = error ≡ Unusable
 
--- What asking a relay that is served in a folder answers: what it told was written, or the writer
--- failed, with a front of it; or it could not be asked, and nothing was written.
-abbrev pub AsksIn : Asking → (folder : List ℕ) → Request → Result (Unit {0}) AskError
+-- what was told, as it is printed in this form (docs/FORMATS.md, Metrics)
+abbrev pub formed : Form → (told : List ℕ) → List ℕ
+formed Told told = told
+formed Metrics told = exposition_of told
+
+-- why nothing is told of what a relay was asked for, to be printed in this form
+pub data IsUntold (asking : Asking) (folder : List ℕ) (request : Request) (form : Form)
+    (error : AskError) : Type 0 where
+  -- it could not be asked
+  not_asked : (failure : io.Error) → asking folder request (Err failure)
+      → IsUnheard folder (error_kind failure) error → IsUntold asking folder request form error
+  -- it told something, and there was no memory for its metrics
+  not_formed : (told : Vec ℕ) → asking folder request (Ok told) → form ≡ Metrics → error ≡ Memory
+      → IsUntold asking folder request form error
+
+-- What asking a relay that is served in a folder answers: what it told was written in this form, or
+-- the writer failed, with a front of it; or there is nothing to tell, and nothing was written.
+abbrev pub AsksIn : Asking → (folder : List ℕ) → Request → Form → Result (Unit {0}) AskError
     → (before after : Option (List ℕ)) → Type 0
-AsksIn asking folder request (Ok done) before after =
-    (told : Vec ℕ) × asking folder request (Ok told) × Appends before after told.items
-AsksIn asking folder request (Err Unwritten) before after =
-    (told : Vec ℕ) × asking folder request (Ok told) × GainsFront told.items before after
-AsksIn asking folder request (Err error) before after =
-    (failure : io.Error) × asking folder request (Err failure)
-    × IsUnheard folder (error_kind failure) error × Keeps before after
+AsksIn asking folder request form (Ok done) before after =
+    (told : Vec ℕ) × asking folder request (Ok told)
+    × Appends before after (formed form told.items)
+AsksIn asking folder request form (Err Unwritten) before after =
+    (told : Vec ℕ) × asking folder request (Ok told)
+    × GainsFront (formed form told.items) before after
+AsksIn asking folder request form (Err error) before after =
+    IsUntold asking folder request form error × Keeps before after

@@ -16,6 +16,8 @@ use Rattle.clap.specs.declared.error.kind.ErrorKind.TheVariants.{OutOfMemory}
 use Rattle.relay_command.specs.Numbers.{number_of}
 use Rattle.relay_command.specs.Questions.{Asking, question_given, question_of}
 use Rattle.relay_command.specs.Questions as questions
+use Rattle.relay_command.specs.declared.ask.Form.{Form}
+use Rattle.relay_command.specs.declared.ask.Form.TheVariants.{Metrics, Told}
 use Rattle.relay_command.specs.declared.command_line.Job.{Job}
 use Rattle.relay_command.specs.declared.command_line.Job.TheVariants as jobs
 
@@ -34,8 +36,8 @@ pub data Asked : Type 0 where
   Serves : (folder : List ℕ) (sessions : Option ℕ) (fresh : Bool) → Asked
   -- to have the relay end that is served in a folder
   Stops : (folder : List ℕ) → Asked
-  -- to print the report of the relay that is served in a folder
-  Reports : (folder : List ℕ) → Asked
+  -- to print the report of the relay that is served in a folder, in this form
+  Reports : (folder : List ℕ) (form : Form) → Asked
   -- to make the files of the buffers that the configuration in a folder has behind those of the
   -- relay that was stopped there
   Adds : (folder : List ℕ) → Asked
@@ -48,7 +50,7 @@ asked (jobs.Explain folder question) = Explains (string_bytes folder) (question_
 asked (jobs.Token text) = Tells (string_bytes text)
 asked (jobs.Serve folder sessions fresh) = Serves (string_bytes folder) sessions fresh
 asked (jobs.Stop folder) = Stops (string_bytes folder)
-asked (jobs.Report folder) = Reports (string_bytes folder)
+asked (jobs.Report folder form) = Reports (string_bytes folder) form
 asked (jobs.Add folder) = Adds (string_bytes folder)
 
 -- a word that has to be there
@@ -72,9 +74,15 @@ drill_words =
 abbrev pub explain_words : App
 explain_words = questions.explain_words (needed (codes "DIR"))
 
--- `report DIR`
+-- a word of this name that has no value and may be left out
+abbrev pub flag_rule : Text → Rule
+flag_rule name = record (new_rule name) { long = Some name; action = Some SetTrue }
+
+-- `report DIR [--openmetrics]`
 abbrev pub report_words : App
-report_words = with_rule (new_app (codes "report")) (needed (codes "DIR"))
+report_words =
+    with_rule (with_rule (new_app (codes "report")) (needed (codes "DIR")))
+    (flag_rule (codes "openmetrics"))
 
 -- `--sessions N`, a number of 1 to 1,000,000 that may be left out
 abbrev pub sessions_rule : Rule
@@ -87,8 +95,7 @@ sessions_rule = record (new_rule (codes "sessions")) {
 
 -- `--fresh`, which has no value and may be left out
 abbrev pub fresh_rule : Rule
-fresh_rule =
-    record (new_rule (codes "fresh")) { long = Some (codes "fresh"); action = Some SetTrue }
+fresh_rule = flag_rule (codes "fresh")
 
 -- `serve DIR [--sessions N] [--fresh]`
 abbrev pub serve_words : App
@@ -134,9 +141,22 @@ word_given name rows = unwrap_or (first_of name rows) []
 abbrev pub sessions_given : List Row → Option ℕ
 sessions_given rows = option_and_then number_of (one_of (codes "sessions") rows)
 
--- whether `--fresh` is given, which stands for `true` then, as clap has it
+-- whether a word without a value is given, which stands for `true` then, as clap has it
+abbrev pub flag_given : Text → List Row → Bool
+flag_given name rows = bytes_eq (word_given name rows) (codes "true")
+
+-- whether `--fresh` is given
 abbrev pub fresh_given : List Row → Bool
-fresh_given rows = bytes_eq (word_given (codes "fresh") rows) (codes "true")
+fresh_given rows = flag_given (codes "fresh") rows
+
+-- the form in which the report is printed: as metrics where `--openmetrics` is given, else as it is
+-- told
+abbrev pub form_given : List Row → Form
+form_given rows = if flag_given (codes "openmetrics") rows then Metrics else Told
+
+-- what `report` asks, with what is given for its names
+abbrev pub reports_by : List Row → Asked
+reports_by rows = Reports (word_given (codes "DIR") rows) (form_given rows)
 
 -- what `serve` asks, with what is given for its names
 abbrev pub serves_by : List Row → Asked
@@ -157,7 +177,7 @@ asked_by (Some met) =
     else if bytes_eq met.0 (codes "token") then Tells (word_given (codes "TEXT") met.1)
     else if bytes_eq met.0 (codes "serve") then serves_by met.1
     else if bytes_eq met.0 (codes "stop") then Stops (word_given (codes "DIR") met.1)
-    else if bytes_eq met.0 (codes "report") then Reports (word_given (codes "DIR") met.1)
+    else if bytes_eq met.0 (codes "report") then reports_by met.1
     else if bytes_eq met.0 (codes "add-buffer") then Adds (word_given (codes "DIR") met.1)
     else Drills (word_given (codes "DIR") met.1) (word_given (codes "SCRIPT") met.1)
 

@@ -15,6 +15,8 @@ use Rattle.relay_command.specs.Explain.{ExplainsFolder}
 use Rattle.relay_command.specs.Files.{CannotBeRead}
 use Rattle.relay_command.specs.Serving.{Serving}
 use Rattle.relay_command.specs.Tell.{TellGives}
+use Rattle.relay_command.specs.declared.ask.Form.{Form}
+use Rattle.relay_command.specs.declared.ask.Form.TheVariants.{Told}
 use Rattle.relay_command.specs.declared.ask.Request.{Request}
 use Rattle.relay_command.specs.declared.ask.Request.TheVariants.{Stop, Report}
 use Rattle.relay_command.specs.declared.failure.Failure.{Failure}
@@ -135,14 +137,15 @@ AddsFolder adding folder (Err (Check error)) before after =
     HasError folder error × Keeps before after
 AddsFolder adding folder (Err failure) before after = ⊥
 
--- what the relay of a folder was asked for it told, or that failed so; no configuration is read
-abbrev pub AsksFolder : Asking → (folder : List ℕ) → Request → Result (Unit {0}) Failure
+-- what the relay of a folder was asked for it told, and that was printed in this form, or that
+-- failed so; no configuration is read
+abbrev pub AsksFolder : Asking → (folder : List ℕ) → Request → Form → Result (Unit {0}) Failure
     → (before after : Option (List ℕ)) → Type 0
-AsksFolder asking folder request (Ok done) before after =
-    AsksIn asking folder request (Ok done) before after
-AsksFolder asking folder request (Err (Ask error)) before after =
-    AsksIn asking folder request (Err error) before after
-AsksFolder asking folder request (Err failure) before after = ⊥
+AsksFolder asking folder request form (Ok done) before after =
+    AsksIn asking folder request form (Ok done) before after
+AsksFolder asking folder request form (Err (Ask error)) before after =
+    AsksIn asking folder request form (Err error) before after
+AsksFolder asking folder request form (Err failure) before after = ⊥
 
 -- what was asked for is done, or failed with a failure of its own; only a drill reads standard
 -- input
@@ -159,9 +162,9 @@ Performs serving adding standing asking (Tells text) result input before after =
 Performs serving adding standing asking (Serves folder sessions fresh) result input before after =
     ServesFolder serving folder sessions fresh result before after
 Performs serving adding standing asking (Stops folder) result input before after =
-    AsksFolder asking folder Stop result before after
-Performs serving adding standing asking (Reports folder) result input before after =
-    AsksFolder asking folder Report result before after
+    AsksFolder asking folder Stop Told result before after
+Performs serving adding standing asking (Reports folder form) result input before after =
+    AsksFolder asking folder Report form result before after
 Performs serving adding standing asking (Adds folder) result input before after =
     AddsFolder adding folder result before after
 

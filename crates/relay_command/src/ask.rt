@@ -1,11 +1,13 @@
 //! Asking the relay that is served in a folder (docs/PROTOCOL.md, `stop` and `report`).
-ghost use Rattle.std.specs.Prelude.{Some};
-ghost use Rattle.relay_command.specs.Ask.{Answered, IsUnheard, IsUnserved, ask_text};
+ghost use Rattle.std.specs.Prelude.{◌≡◌, IfErr, IfOk, Some};
+ghost use Rattle.relay_command.specs.Ask.{Answered, IsUnheard, IsUnserved, ask_text, formed};
+ghost use Rattle.relay_command.specs.declared.ask.Form.TheVariants.{Metrics};
 ghost use Rattle.relay_command.specs.Run.{AsksFolder};
 
 use crate::failure::Failure;
+use relay_metrics::exposition;
 use relay_report::put;
-use std::alloc::Global;
+use std::alloc::{AllocError, Global};
 use std::error::Error;
 use std::fmt::{Display, Formatter};
 use std::io::{ErrorKind, Write};
@@ -18,6 +20,15 @@ pub enum Request {
     Stop,
     /// The report of what it has then.
     Report,
+}
+
+/// In which form it is printed what a relay tells.
+#[derive(Clone, Copy)]
+pub enum Form {
+    /// As it is told.
+    Told,
+    /// As metrics (docs/FORMATS.md, Metrics).
+    Metrics,
 }
 
 /// Why what a relay tells can't be had, or is not printed. Its text is what the program prints.
@@ -54,26 +65,45 @@ impl fmt::Debug for AskError {
 
 impl Error for AskError {}
 
-/// Has the relay asked for this that is served in a folder, and writes what it tells.
+/// Has the relay asked for this that is served in a folder, and writes what it tells in this form.
 pub fn ask_in<W: Write, A>(
     alloc: Global,
     folder: &str,
     request: Request,
+    form: Form,
     writer: &mut W,
     ask: A,
 ) -> Result<(), Failure>
 where
     A: FnOnce(&str, Request) -> io::Result<Vec<u8>>,
     requires { A.IsAlwaysCallable ask }
-    ensures { AsksFolder (Answered (A.post ask)) folder.now request result
+    ensures { AsksFolder (Answered (A.post ask)) folder.now request form result
         (W.contents writer.old) (W.contents writer.new) }
 {
     match ask(folder, request) {
-        Ok(told) => match put(writer, &told) {
-            Ok(()) => Ok(()),
-            Err(_) => Err(Failure::Ask(AskError::Unwritten)),
+        Ok(told) => match in_form(alloc, form, told) {
+            Ok(text) => match put(writer, &text) {
+                Ok(()) => Ok(()),
+                Err(_) => Err(Failure::Ask(AskError::Unwritten)),
+            },
+            Err(_) => Err(Failure::Ask(AskError::Memory)),
         },
         Err(error) => Err(Failure::Ask(unheard(alloc, folder, error.kind()))),
+    }
+}
+
+/// What a relay told, in this form. Only metrics take memory.
+fn in_form(alloc: Global, form: Form, told: Vec<u8>) -> Result<Vec<u8>, AllocError>
+    ensures text { IfOk result (λ text. text.items ≡ formed form told.items) }
+    ensures memory { IfErr result (λ error. form ≡ Metrics) }
+{
+    match form {
+        Form::Told => Ok(told),
+        Form::Metrics => {
+            let text = exposition(alloc, &told);
+            drop(told);
+            text
+        }
     }
 }
 

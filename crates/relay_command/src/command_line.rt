@@ -4,12 +4,13 @@ ghost use Rattle.std.specs.Prelude.{IfOk, Some, bytes_eq};
 ghost use Rattle.clap.specs.Words.{found_of, one_of, rows_of, subcommand_rows_of};
 ghost use Rattle.relay_command.specs.CommandLine.{ReadsWords, asked, asked_by};
 ghost use Rattle.relay_command.specs.CommandLine.{word_given};
-ghost use Rattle.relay_command.specs.CommandLine.{Drills, Explains, Serves};
-ghost use Rattle.relay_command.specs.CommandLine.{fresh_given};
+ghost use Rattle.relay_command.specs.CommandLine.{Drills, Explains, Reports, Serves};
+ghost use Rattle.relay_command.specs.CommandLine.{flag_given, form_given, fresh_given};
 ghost use Rattle.relay_command.specs.CommandLine.{sessions_given};
 ghost use Rattle.relay_command.specs.Numbers.{number_of};
 ghost use Rattle.relay_command.specs.Questions.{question_given};
 
+use crate::ask::Form;
 use crate::question::{Question, question_in};
 use crate::words::command;
 use clap::{ArgMatches, Error};
@@ -43,8 +44,11 @@ pub enum Job {
     },
     /// To have the relay end that is served in this folder.
     Stop(String),
-    /// To print the report of the relay that is served in this folder.
-    Report(String),
+    /// To print the report of the relay that is served in this folder, in this form.
+    Report {
+        folder: String,
+        form: Form,
+    },
     /// To make the files of the buffers that the configuration in this folder, or the built-in one,
     /// has behind those of the relay that was stopped there.
     Add(String),
@@ -107,7 +111,7 @@ fn job_named(alloc: Global, name: &str, given: &ArgMatches<'_>) -> Result<Job, A
         return Ok(Job::Stop(folder));
     }
     if is(name, "report") {
-        return Ok(Job::Report(folder));
+        return Ok(reporting(given, folder));
     }
     if is(name, "add-buffer") {
         return Ok(Job::Add(folder));
@@ -138,11 +142,31 @@ fn service(given: &ArgMatches<'_>, folder: String) -> Job
         (fresh_given (rows_of (found_of given.now))) }
 {
     let sessions = number(given, "sessions");
-    let fresh = fresh(given);
+    let fresh = flag(given, "fresh");
     Job::Serve {
         folder,
         sessions,
         fresh,
+    }
+}
+
+/// What `report` asks for of this folder, with what was given for its words.
+fn reporting(given: &ArgMatches<'_>, folder: String) -> Job
+    ensures { asked result ≡ Reports (string_bytes folder)
+        (form_given (rows_of (found_of given.now))) }
+{
+    let form = form(given);
+    Job::Report { folder, form }
+}
+
+/// In which form the report is printed.
+fn form(given: &ArgMatches<'_>) -> Form
+    ensures { result ≡ form_given (rows_of (found_of given.now)) }
+{
+    if flag(given, "openmetrics") {
+        Form::Metrics
+    } else {
+        Form::Told
     }
 }
 
@@ -163,11 +187,11 @@ pub(crate) fn number(given: &ArgMatches<'_>, name: &str) -> Option<u32>
     given.get_one::<u32>(name)
 }
 
-/// Whether all buffers are to be formatted.
-fn fresh(given: &ArgMatches<'_>) -> bool
-    ensures { result ≡ fresh_given (rows_of (found_of given.now)) }
+/// Whether a word was given that has no value.
+fn flag(given: &ArgMatches<'_>, name: &str) -> bool
+    ensures { result ≡ flag_given name.now (rows_of (found_of given.now)) }
 {
-    match given.get_str("fresh") {
+    match given.get_str(name) {
         Some(word) => word == "true",
         None => false,
     }

@@ -15,7 +15,7 @@ ghost use Rattle.relay_command.specs.declared.failure.Failure.TheVariants as fai
 ghost use Rattle.relay_command.specs.declared.failure.Unbegun.TheVariants as begin;
 
 use crate::add::add_in;
-use crate::ask::{Request, ask_in};
+use crate::ask::{Form, Request, ask_in};
 use crate::check::check;
 use crate::command_line::{Job, read_words};
 use crate::explain::explain_folder;
@@ -185,8 +185,10 @@ where
             sessions,
             fresh,
         } => serve_in(rt, alloc, folder, *sessions, *fresh, writer, serve),
-        Job::Stop(folder) => ask_in(alloc, folder, Request::Stop, writer, ask),
-        Job::Report(folder) => ask_in(alloc, folder, Request::Report, writer, ask),
+        Job::Stop(folder) => ask_in(alloc, folder, Request::Stop, Form::Told, writer, ask),
+        Job::Report { folder, form } => {
+            ask_in(alloc, folder, Request::Report, *form, writer, ask)
+        }
         Job::Add(folder) => add_in(rt, alloc, folder, writer, add),
     }
 }

@@ -95,6 +95,13 @@ const FRESH: Word = Word {
     kind: Kind::Flag,
 };
 
+/// That the report is told as metrics.
+const OPENMETRICS: Word = Word {
+    name: "openmetrics",
+    told: "Prints it as metrics, for a monitor to read",
+    kind: Kind::Flag,
+};
+
 /// The text of a token.
 const TEXT: Word = Word {
     name: "TEXT",
@@ -127,7 +134,7 @@ const COMMANDS: &[Words] = &[
     Words {
         name: "report",
         does: "Prints the report of a relay that is served",
-        words: &[SERVED],
+        words: &[SERVED, OPENMETRICS],
     },
     Words {
         name: "serve",

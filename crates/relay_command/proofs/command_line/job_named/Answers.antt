@@ -1,5 +1,5 @@
 use Rattle.std.proofs.Common.{◌∙◌, ap, sym}
-use Rattle.relay_command.specs.CommandLine.{Adds, Checks, Stops, Reports}
+use Rattle.relay_command.specs.CommandLine.{Adds, Checks, Stops}
 use Rattle.relay_command.proofs.command_line.job_named.Goals as goal
 
 pub returns-then-is-2 : goal.returns-then-is-2
@@ -38,7 +38,7 @@ returns-then-is-6 c =
     let serve = sym c.is-4.ensures ∙ c.if-is-4.false in
     let stop = sym c.is-5.ensures ∙ c.if-is-5.false in
     let report = sym c.is-6.ensures ∙ c.if-is-6.true in
-    rw (check, explain, token, serve, stop, report) (ap Reports c.in_ok-folder.ensures)
+    rw (check, explain, token, serve, stop, report, ← c.in_ok-folder.ensures) c.reporting.ensures
 
 pub returns-then-is-7 : goal.returns-then-is-7
 returns-then-is-7 c =

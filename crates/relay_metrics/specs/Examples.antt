@@ -1,0 +1,143 @@
+-- Worked expositions (docs/FORMATS.md, Metrics): what a relay told, and what is printed of it.
+use Rattle.std.specs.Prelude.{ℕ, List, ◌++◌, codes}
+
+-- what a relay tells that is being repaired
+abbrev pub recovering : List ℕ
+recovering =
+    codes "recovering\n"
+    ++ codes "buffer A\n"
+
+-- and its exposition
+abbrev pub recovering_metrics : List ℕ
+recovering_metrics =
+    codes "# HELP cnrelay_recovering Whether the relay is being repaired and serves nobody"
+    ++ codes " yet.\n"
+    ++ codes "# TYPE cnrelay_recovering gauge\n"
+    ++ codes "cnrelay_recovering 1\n"
+    ++ codes "# HELP cnrelay_buffer_recovering A buffer of a relay that is being repaired.\n"
+    ++ codes "# TYPE cnrelay_buffer_recovering gauge\n"
+    ++ codes "cnrelay_buffer_recovering{buffer=\"A\"} 1\n"
+    ++ codes "# HELP cnrelay_report_lines_unread Lines of the report that are not in this"
+    ++ codes " exposition.\n"
+    ++ codes "# TYPE cnrelay_report_lines_unread gauge\n"
+    ++ codes "cnrelay_report_lines_unread 0\n"
+    ++ codes "# EOF\n"
+
+-- the report after *ring*, with a peer of whom as many octets were read as are ever counted in 128
+-- bits
+abbrev pub ring : List ℕ
+ring =
+    codes "buffer A                         0                   3          3          3\n"
+    ++ codes "feed   p2                        0                   3          1\n"
+    ++ codes "ids              0          0          3          0\n"
+    ++ codes "peer p2 open=1 accepted=0 known=2 refused=0 later=0"
+    ++ codes " octets=340282366920938463463374607431768211455\n"
+
+-- and its exposition
+abbrev pub ring_metrics : List ℕ
+ring_metrics =
+    codes "# HELP cnrelay_recovering Whether the relay is being repaired and serves nobody"
+    ++ codes " yet.\n"
+    ++ codes "# TYPE cnrelay_recovering gauge\n"
+    ++ codes "cnrelay_recovering 0\n"
+    ++ codes "# HELP cnrelay_buffer_cycles_total The cycle that the newest article of the buffer"
+    ++ codes " is in.\n"
+    ++ codes "# TYPE cnrelay_buffer_cycles_total counter\n"
+    ++ codes "cnrelay_buffer_cycles_total{buffer=\"A\"} 0\n"
+    ++ codes "# HELP cnrelay_buffer_front_blocks_total The front of the buffer in blocks of 512"
+    ++ codes " octets, counted on over all cycles.\n"
+    ++ codes "# TYPE cnrelay_buffer_front_blocks_total counter\n"
+    ++ codes "# UNIT cnrelay_buffer_front_blocks blocks\n"
+    ++ codes "cnrelay_buffer_front_blocks_total{buffer=\"A\"} 3\n"
+    ++ codes "# HELP cnrelay_buffer_articles_begun_total Articles that were begun in the buffer.\n"
+    ++ codes "# TYPE cnrelay_buffer_articles_begun_total counter\n"
+    ++ codes "cnrelay_buffer_articles_begun_total{buffer=\"A\"} 3\n"
+    ++ codes "# HELP cnrelay_buffer_articles_stored_total Articles that are whole in the buffer,"
+    ++ codes " or were.\n"
+    ++ codes "# TYPE cnrelay_buffer_articles_stored_total counter\n"
+    ++ codes "cnrelay_buffer_articles_stored_total{buffer=\"A\"} 3\n"
+    ++ codes "# HELP cnrelay_feed_tokens_waiting Tokens that wait in the ring of the feed of the"
+    ++ codes " peer.\n"
+    ++ codes "# TYPE cnrelay_feed_tokens_waiting gauge\n"
+    ++ codes "cnrelay_feed_tokens_waiting{peer=\"p2\"} 0\n"
+    ++ codes "# HELP cnrelay_feed_tokens_gained_total Tokens that the feed of the peer has"
+    ++ codes " gained.\n"
+    ++ codes "# TYPE cnrelay_feed_tokens_gained_total counter\n"
+    ++ codes "cnrelay_feed_tokens_gained_total{peer=\"p2\"} 3\n"
+    ++ codes "# HELP cnrelay_feed_tokens_overwritten_total Tokens of the feed of the peer that"
+    ++ codes " were overwritten before they were taken.\n"
+    ++ codes "# TYPE cnrelay_feed_tokens_overwritten_total counter\n"
+    ++ codes "cnrelay_feed_tokens_overwritten_total{peer=\"p2\"} 1\n"
+    ++ codes "# HELP cnrelay_message_ids_offered Message-ids that a session was told to send.\n"
+    ++ codes "# TYPE cnrelay_message_ids_offered gauge\n"
+    ++ codes "cnrelay_message_ids_offered 0\n"
+    ++ codes "# HELP cnrelay_message_ids_storing Message-ids whose articles are being stored.\n"
+    ++ codes "# TYPE cnrelay_message_ids_storing gauge\n"
+    ++ codes "cnrelay_message_ids_storing 0\n"
+    ++ codes "# HELP cnrelay_message_ids_stored Message-ids that are remembered as stored.\n"
+    ++ codes "# TYPE cnrelay_message_ids_stored gauge\n"
+    ++ codes "cnrelay_message_ids_stored 3\n"
+    ++ codes "# HELP cnrelay_message_ids_refused Message-ids that are remembered as refused.\n"
+    ++ codes "# TYPE cnrelay_message_ids_refused gauge\n"
+    ++ codes "cnrelay_message_ids_refused 0\n"
+    ++ codes "# HELP cnrelay_peer_sessions_open Sessions of the peer that are open.\n"
+    ++ codes "# TYPE cnrelay_peer_sessions_open gauge\n"
+    ++ codes "cnrelay_peer_sessions_open{peer=\"p2\"} 1\n"
+    ++ codes "# HELP cnrelay_peer_articles_accepted_total Replies 239 and 235 to the peer since"
+    ++ codes " the start.\n"
+    ++ codes "# TYPE cnrelay_peer_articles_accepted_total counter\n"
+    ++ codes "cnrelay_peer_articles_accepted_total{peer=\"p2\"} 0\n"
+    ++ codes "# HELP cnrelay_peer_articles_known_total Replies 438 and 435 to the peer since the"
+    ++ codes " start.\n"
+    ++ codes "# TYPE cnrelay_peer_articles_known_total counter\n"
+    ++ codes "cnrelay_peer_articles_known_total{peer=\"p2\"} 2\n"
+    ++ codes "# HELP cnrelay_peer_articles_refused_total Replies 439 and 437 to the peer since"
+    ++ codes " the start.\n"
+    ++ codes "# TYPE cnrelay_peer_articles_refused_total counter\n"
+    ++ codes "cnrelay_peer_articles_refused_total{peer=\"p2\"} 0\n"
+    ++ codes "# HELP cnrelay_peer_articles_later_total Replies 431 and 436 to the peer since the"
+    ++ codes " start.\n"
+    ++ codes "# TYPE cnrelay_peer_articles_later_total counter\n"
+    ++ codes "cnrelay_peer_articles_later_total{peer=\"p2\"} 0\n"
+    ++ codes "# HELP cnrelay_peer_received_bytes_total Octets that were read of the peer since"
+    ++ codes " the start.\n"
+    ++ codes "# TYPE cnrelay_peer_received_bytes_total counter\n"
+    ++ codes "# UNIT cnrelay_peer_received_bytes bytes\n"
+    ++ codes "cnrelay_peer_received_bytes_total{peer=\"p2\"}"
+    ++ codes " 340282366920938463463374607431768211455\n"
+    ++ codes "# HELP cnrelay_report_lines_unread Lines of the report that are not in this"
+    ++ codes " exposition.\n"
+    ++ codes "# TYPE cnrelay_report_lines_unread gauge\n"
+    ++ codes "cnrelay_report_lines_unread 0\n"
+    ++ codes "# EOF\n"
+
+-- lines of which one is known, by a name that no configuration has, and no LF ends the last
+abbrev pub odd : List ℕ
+odd =
+    codes "feed a\"\\ 1 2 3\n"
+    ++ codes "feed b 1 2 3 4\n"
+    ++ codes "feed c 1 2 x\n"
+    ++ codes "memory 5\n"
+    ++ codes "\n"
+    ++ codes "ids 1 2"
+
+-- and their exposition
+abbrev pub odd_metrics : List ℕ
+odd_metrics =
+    codes "# HELP cnrelay_feed_tokens_waiting Tokens that wait in the ring of the feed of the"
+    ++ codes " peer.\n"
+    ++ codes "# TYPE cnrelay_feed_tokens_waiting gauge\n"
+    ++ codes "cnrelay_feed_tokens_waiting{peer=\"a\\\"\\\\\"} 1\n"
+    ++ codes "# HELP cnrelay_feed_tokens_gained_total Tokens that the feed of the peer has"
+    ++ codes " gained.\n"
+    ++ codes "# TYPE cnrelay_feed_tokens_gained_total counter\n"
+    ++ codes "cnrelay_feed_tokens_gained_total{peer=\"a\\\"\\\\\"} 2\n"
+    ++ codes "# HELP cnrelay_feed_tokens_overwritten_total Tokens of the feed of the peer that"
+    ++ codes " were overwritten before they were taken.\n"
+    ++ codes "# TYPE cnrelay_feed_tokens_overwritten_total counter\n"
+    ++ codes "cnrelay_feed_tokens_overwritten_total{peer=\"a\\\"\\\\\"} 3\n"
+    ++ codes "# HELP cnrelay_report_lines_unread Lines of the report that are not in this"
+    ++ codes " exposition.\n"
+    ++ codes "# TYPE cnrelay_report_lines_unread gauge\n"
+    ++ codes "cnrelay_report_lines_unread 5\n"
+    ++ codes "# EOF\n"

@@ -1,0 +1,80 @@
+-- The forms of the lines of a report (docs/FORMATS.md, Report; cnrelay(1), Asking).
+use Rattle.std.specs.Prelude.{ℕ, Bool, true, false, List, [], ◌∷◌, codes, map}
+use Rattle.relay_metrics.specs.declared.forms.Form as code
+use Rattle.relay_metrics.specs.declared.lines.Subject.{Subject}
+use Rattle.relay_metrics.specs.declared.lines.Subject.TheVariants.{Buffer, Feed, Ids, Peer}
+use Rattle.relay_metrics.specs.declared.lines.Subject.TheVariants.{Recovering, Repaired}
+
+-- A form of lines: what such a line is about, its first word, whether a name follows that, and what
+-- stands before each of its numbers.
+pub record Form : Type 0 where
+  pub subject : Subject
+  pub word : List ℕ
+  pub is_named : Bool
+  pub keys : List (List ℕ)
+
+-- a form of the code as the definitions have it
+abbrev pub form_view : code.Form → Form
+form_view form =
+    record {
+      subject = form.subject;
+      word = form.word.now;
+      is_named = form.is_named;
+      keys = map (λ key. key.now) form.keys.now;
+    }
+
+-- `buffer A 0 1 1 1`: cycle, front, articles begun, articles whole
+abbrev pub buffer_form : Form
+buffer_form =
+    record {
+      subject = Buffer;
+      word = codes "buffer";
+      is_named = true;
+      keys = [] ∷ [] ∷ [] ∷ [] ∷ [];
+    }
+
+-- `feed p2 1 1 0`: tokens waiting, gained, overwritten
+abbrev pub feed_form : Form
+feed_form =
+    record {
+      subject = Feed;
+      word = codes "feed";
+      is_named = true;
+      keys = [] ∷ [] ∷ [] ∷ [];
+    }
+
+-- `ids 0 0 1 0`: message-ids offered, storing, stored, refused
+abbrev pub ids_form : Form
+ids_form =
+    record {
+      subject = Ids;
+      word = codes "ids";
+      is_named = false;
+      keys = [] ∷ [] ∷ [] ∷ [] ∷ [];
+    }
+
+-- `peer p1 open=1 accepted=2 known=3 refused=4 later=5 octets=6`
+abbrev pub peer_form : Form
+peer_form =
+    record {
+      subject = Peer;
+      word = codes "peer";
+      is_named = true;
+      keys = codes "open=" ∷ codes "accepted=" ∷ codes "known=" ∷ codes "refused="
+          ∷ codes "later=" ∷ codes "octets=" ∷ [];
+    }
+
+-- `recovering`
+abbrev pub recovering_form : Form
+recovering_form =
+    record { subject = Recovering; word = codes "recovering"; is_named = false; keys = [] }
+
+-- `buffer A`, while the relay is repaired
+abbrev pub repaired_form : Form
+repaired_form =
+    record { subject = Repaired; word = codes "buffer"; is_named = true; keys = [] }
+
+-- the forms that there are
+abbrev pub report_forms : List Form
+report_forms =
+    buffer_form ∷ feed_form ∷ ids_form ∷ peer_form ∷ recovering_form ∷ repaired_form ∷ []

@@ -1,0 +1,61 @@
+//! The forms of the lines of a report (docs/FORMATS.md, Report; cnrelay(1), Asking).
+use crate::lines::Subject;
+
+/// A form of lines.
+pub(crate) struct Form {
+    /// What such a line is about.
+    pub subject: Subject,
+    /// Its first word.
+    pub word: &'static [u8],
+    /// Whether a name follows that.
+    pub is_named: bool,
+    /// What stands before each of its numbers.
+    pub keys: &'static [&'static [u8]],
+}
+
+/// The forms that there are. A line is of the first one that it has.
+pub(crate) const FORMS: &[Form] = &[
+    Form {
+        subject: Subject::Buffer,
+        word: b"buffer",
+        is_named: true,
+        keys: &[b"", b"", b"", b""],
+    },
+    Form {
+        subject: Subject::Feed,
+        word: b"feed",
+        is_named: true,
+        keys: &[b"", b"", b""],
+    },
+    Form {
+        subject: Subject::Ids,
+        word: b"ids",
+        is_named: false,
+        keys: &[b"", b"", b"", b""],
+    },
+    Form {
+        subject: Subject::Peer,
+        word: b"peer",
+        is_named: true,
+        keys: &[
+            b"open=",
+            b"accepted=",
+            b"known=",
+            b"refused=",
+            b"later=",
+            b"octets=",
+        ],
+    },
+    Form {
+        subject: Subject::Recovering,
+        word: b"recovering",
+        is_named: false,
+        keys: &[],
+    },
+    Form {
+        subject: Subject::Repaired,
+        word: b"buffer",
+        is_named: true,
+        keys: &[],
+    },
+];
