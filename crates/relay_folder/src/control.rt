@@ -1,31 +1,22 @@
 //! The socket of a relay that is served.
-ghost use Rattle.std.specs.Prelude.{◌↔◌, IsTrue};
-ghost use Rattle.std.specs.IoError.{error_kind};
-ghost use Rattle.relay_folder.specs.Files.{IsWait};
-
+use crate::askers::{Askers, WAITED_FOR};
 use crate::socket_place::{Identity, listen_in, take_away};
 use crate::teller::Teller;
-use crate::words::{LONGEST, Word, word_of};
+use crate::waits::is_wait;
+use crate::words::Word;
 use libc::net::{POLLIN, poll};
 use libc::types::pollfd;
 use std::alloc::Global;
 use std::fs::Files;
-use std::io::{ErrorKind, Read};
 use std::net::Net;
 use std::os::fd::AsRawFd;
-use std::os::unix::net::{UnixListener, UnixStream};
+use std::os::unix::net::UnixListener;
 use std::sync::atomic::{AtomicBool, Ordering};
 use std::time::{Clock, Duration};
 use std::{io, thread};
 
 /// How many milliseconds it waits at once for whoever asks.
 const PART: i32 = 100;
-
-/// How many milliseconds it waits at once for his word, and until he takes what he is told.
-const HIS_PART: u64 = 250;
-
-/// How many such parts it waits for his word, at most.
-const HIS_PARTS: usize = 4;
 
 /// How many milliseconds it waits after nobody could be heard for another cause, as where the
 /// machine has no further descriptor.
@@ -71,61 +62,62 @@ impl Control {
         }
     }
 
-    /// Waits until somebody asks, or a part of the wait has passed: whether somebody asks. The end
-    /// of the wait is a moment of the machine's clock: where the program is stopped and goes on it
-    /// comes no later. Where the wait of `accept` is interrupted it begins anew.
-    fn has_one<C: Clock>(&self, clock: &C) -> bool {
-        let mut ready = [pollfd {
+    /// Waits until somebody connects, one of those who have says something, or a part of the wait
+    /// has passed: whether somebody connects. The end of the wait is a moment of the machine's
+    /// clock: where the program is stopped and goes on it comes no later. Where the wait of
+    /// `accept` is interrupted it begins anew.
+    fn has_one<C: Clock>(&self, clock: &C, askers: &Askers) -> bool {
+        let nobody = pollfd {
+            fd: -1,
+            events: 0,
+            revents: 0,
+        };
+        let mut ready = [nobody; WAITED_FOR + 1];
+        ready[0] = pollfd {
             fd: self.listener.as_raw_fd(),
             events: POLLIN,
             revents: 0,
-        }];
+        };
+        askers.put_into(&mut ready);
         let part = if self.is_closed.load(Ordering::SeqCst) {
             0
         } else {
             PART
         };
-        let count = poll(&mut ready, part);
-        if count < 0 {
+        if poll(&mut ready, part) < 0 {
             thread::sleep(clock, Duration::from_millis(PAUSE));
+            return false;
         }
-        count > 0
+        ready[0].revents != 0
     }
 
-    /// Whoever asks next: nobody where none has asked for a part of a second.
-    fn accept_one<C: Clock>(&self, clock: &C) -> Option<UnixStream> {
-        if !self.has_one(clock) {
-            return None;
+    /// Whoever connects next is one of those whose words are waited for: nobody where none has for
+    /// a part of a second.
+    fn accept_one<C: Clock>(&self, clock: &C, askers: &mut Askers) {
+        if !self.has_one(clock, askers) {
+            return;
         }
         match self.listener.accept() {
-            Ok((stream, _address)) => Some(stream),
+            Ok((stream, _address)) => askers.add(clock, stream),
             Err(error) => {
                 if !is_wait(&error) {
                     thread::sleep(clock, Duration::from_millis(PAUSE));
                 }
-                None
             }
         }
     }
 
-    /// What is asked for next, and by whom: none where nobody has asked for a part of a second, or
-    /// what was asked for is no word; then he is told so.
-    pub fn next_word<C: Clock>(&self, clock: &C) -> Option<(Word, Teller)> {
-        let stream = self.accept_one(clock)?;
-        let word = hear(&stream);
-        let teller = Teller::new(stream);
-        match word {
-            Ok(Some(word)) => return Some((word, teller)),
-            Ok(None) => teller.tell(clock, b"?\n"),
-            Err(_) => {}
-        }
-        drop(teller);
-        None
+    /// What is asked for next, and by whom: none where nobody has said a word for a part of a
+    /// second, or what was said is none; then he is told so. Nobody waits for another's word.
+    pub fn next_word<C: Clock>(&self, clock: &C, askers: &mut Askers) -> Option<(Word, Teller)> {
+        self.accept_one(clock, askers);
+        askers.next_word(clock)
     }
 
     /// Whoever asks next, whatever for: his word isn't waited for.
-    pub fn next_one<C: Clock>(&self, clock: &C) -> Option<Teller> {
-        Some(Teller::new(self.accept_one(clock)?))
+    pub fn next_one<C: Clock>(&self, clock: &C, askers: &mut Askers) -> Option<Teller> {
+        self.accept_one(clock, askers);
+        askers.next_one()
     }
 
     /// Takes the socket away from its folder, where it is this one. Who has asked meanwhile is
@@ -134,38 +126,4 @@ impl Control {
         let _left = take_away(rt, alloc, folder, self.identity);
         self.is_closed.store(true, Ordering::SeqCst);
     }
-}
-
-/// The word that somebody says, none where what he says is no word, or no whole one in time.
-fn hear(stream: &UnixStream) -> io::Result<Option<Word>> {
-    stream.set_read_timeout(Some(Duration::from_millis(HIS_PART)))?;
-    stream.set_write_timeout(Some(Duration::from_millis(HIS_PART)))?;
-    let mut room = [0; LONGEST];
-    let mut heard = 0;
-    for _ in 0..HIS_PARTS {
-        let mut from = stream;
-        match from.read(&mut room[heard..]) {
-            Ok(0) => return Ok(None),
-            Ok(n) => heard += n,
-            Err(error) => {
-                if !is_wait(&error) {
-                    return Err(error);
-                }
-            }
-        }
-        if let Some(word) = word_of(&room[..heard]) {
-            return Ok(Some(word));
-        }
-    }
-    Ok(None)
-}
-
-/// Whether a part of a wait has passed, and nothing came.
-fn is_wait(error: &io::Error) -> bool
-    ensures { IsTrue result ↔ IsWait (error_kind error.now) }
-{
-    matches!(
-        error.kind(),
-        ErrorKind::WouldBlock | ErrorKind::TimedOut | ErrorKind::Interrupted
-    )
 }

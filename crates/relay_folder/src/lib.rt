@@ -14,6 +14,7 @@
 //! what it holds (docs/PROTOCOL.md, `stop` and `report`).
 #![tactic(auto)]
 
+mod askers;
 mod asking;
 mod control;
 mod history_place;
@@ -25,8 +26,10 @@ mod keeping;
 mod origin;
 mod socket_place;
 mod teller;
+mod waits;
 mod words;
 
+pub use askers::{Askers, WAITED_FOR};
 pub use asking::{ask, is_served};
 pub use control::Control;
 pub use history_place::HistoryPlace;

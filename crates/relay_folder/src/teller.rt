@@ -1,10 +1,13 @@
 //! Whoever asked a relay.
 use std::io::Write;
 use std::os::unix::net::UnixStream;
-use std::time::{Clock, Instant};
+use std::time::{Clock, Duration, Instant};
 
 /// How many octets he is told at once, at most.
 const PIECE: usize = 16_384;
+
+/// How many milliseconds it waits at once until he takes what he is told.
+const HIS_PART: u64 = 250;
 
 /// For how many seconds he is told, at most.
 const TELLING: u64 = 1;
@@ -25,6 +28,16 @@ impl Teller {
     /// Whoever asked over this connection.
     pub(crate) fn new(stream: UnixStream) -> Teller {
         Teller { stream }
+    }
+
+    /// Whoever asked over this connection, on which nothing was waited for; nobody where it can't be
+    /// bounded how long he is waited for.
+    pub(crate) fn of_asker(stream: UnixStream) -> Option<Teller> {
+        let part = Some(Duration::from_millis(HIS_PART));
+        if stream.set_nonblocking(false).is_err() || stream.set_write_timeout(part).is_err() {
+            return None;
+        }
+        Some(Teller { stream })
     }
 
     /// Tells him this, at most for some seconds: where he is gone, or reads too slowly, the rest is

@@ -6,17 +6,18 @@ use crate::gate::CountingGate;
 use crate::side_thread::Figured;
 use crate::syncing::Syncing;
 use live_wire::Stop;
-use relay_folder::{Control, JournalFile, Teller, Word};
+use relay_folder::{Askers, Control, JournalFile, Teller, WAITED_FOR, Word};
 use relay_journal::{JournalLines, Journaling, second_of};
 use std::alloc::{AllocError, Global};
 use std::fs::Files;
 use std::mem;
-use std::sync::Wait;
+use std::sync::{Mutex, Wait};
 use std::sync::atomic::{AtomicBool, Ordering};
 use std::time::Clock;
 
-/// How many of those who have asked while the relay ended wait for the end, at most.
-const LAST_ONES: usize = 64;
+/// How many of those who have asked while the relay ended wait for the end, at most: all whose
+/// words were waited for, and as many behind them.
+const LAST_ONES: usize = WAITED_FOR + 64;
 
 /// Answers what is asked at the socket of a relay's folder: `report` is told what the relay tells
 /// of itself, `stop` has its ports end, and who asked for that hears no end before the program has
@@ -27,6 +28,8 @@ pub(crate) struct Desk<'a> {
     stop: &'a Stop,
     gate: &'a CountingGate<'a>,
     control: Control,
+    /// Those who have connected, and whose words are waited for.
+    askers: Mutex<Askers>,
     /// What is flushed meanwhile.
     syncing: Option<Syncing<'a>>,
     ended: AtomicBool,
@@ -48,6 +51,7 @@ impl<'a> Desk<'a> {
             stop,
             gate,
             control,
+            askers: Mutex::new(Askers::new(alloc)),
             syncing,
             ended: AtomicBool::new(false),
         }
@@ -76,8 +80,8 @@ impl<'a> Desk<'a> {
     }
 
     /// Answers whoever asks next, if anybody does.
-    fn answer<F: Figured<R>, R: Clock + Eprint>(&self, rt: &R, relay: &F) {
-        match self.control.next_word(rt) {
+    fn answer<F: Figured<R>, R: Clock + Eprint>(&self, rt: &R, relay: &F, askers: &mut Askers) {
+        match self.control.next_word(rt, askers) {
             Some((Word::Stop, teller)) => self.stop(rt, teller),
             Some((Word::Report, teller)) => {
                 let _untold = self.report(rt, relay, &teller);
@@ -88,10 +92,11 @@ impl<'a> Desk<'a> {
 
     /// Takes the socket away. Who has asked meanwhile waits, as those who asked for the stop, until
     /// the program has ended, whatever he has said by now.
-    pub(crate) fn close<R: Clock + Files>(&self, rt: &R, folder: &str) {
+    pub(crate) fn close<R: Wait + Clock + Files>(&self, rt: &R, folder: &str) {
         self.control.close(rt, self.alloc, folder);
+        let mut askers = self.askers.lock(rt);
         for _ in 0..LAST_ONES {
-            match self.control.next_one(rt) {
+            match self.control.next_one(rt, &mut askers) {
                 Some(teller) => mem::forget(teller),
                 None => break,
             }
@@ -102,11 +107,12 @@ impl<'a> Desk<'a> {
     pub(crate) fn attend<F: Figured<R>, R: Wait + Clock + Eprint>(&self, rt: &R, relay: &F) {
         let begun = second_of(rt);
         let mut last_round = begun;
+        let mut askers = self.askers.lock(rt);
         for _ in rt.forever() {
             if self.ended.load(Ordering::SeqCst) {
                 return;
             }
-            self.answer(rt, relay);
+            self.answer(rt, relay, &mut askers);
             let second = second_of(rt);
             self.stop.pass(second);
             if second.saturating_sub(last_round) >= relay.between() {
