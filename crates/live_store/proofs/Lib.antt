@@ -6,6 +6,7 @@ pub mod NumberLemmas
 pub mod OpenLemmas
 pub mod ReadBackLemmas
 pub mod ReadLemmas
+mod RunLemmas
 pub mod Spans
 pub mod StartLemmas
 pub mod StartedLemmas

@@ -1,5 +1,6 @@
 -- What was read of an article before it is asked for.
-use Rattle.std.specs.Prelude.{◌≡◌, ℕ, ◌+◌, ◌-◌, ◌*◌, ◌<◌, ◌≤◌, Bool, true, List, length, min}
+use Rattle.std.specs.Prelude.{◌≡◌, ◌≢◌, ◌⊎◌, ℕ, ◌+◌, ◌-◌, ◌*◌, ◌<◌, ◌≤◌, Bool, true, List}
+use Rattle.std.specs.Prelude.{length, min, take}
 use Rattle.std.specs.Prelude.{Option, None, Some, Result, Ok, Err, IsSome, IsSomeAnd}
 use Rattle.std.specs.Prelude.{nat_le, if◌then◌else◌}
 use Rattle.boxcar.specs.Table.{Shelves, Where}
@@ -15,7 +16,9 @@ use Rattle.live_store.specs.Steps.{IsChunkOf, as_found, buffer_of, found_in, num
 use Rattle.live_store.specs.Steps.{open_write_of}
 use Rattle.live_store.specs.declared.ahead.Ahead.{Ahead}
 use Rattle.live_store.specs.declared.answers.OneRead.{OneRead}
+use Rattle.live_store.specs.declared.answers.OneRead.TheVariants as ones
 use Rattle.live_store.specs.declared.answers.Reading.{Reading}
+use Rattle.live_store.specs.declared.answers.Reading.TheVariants as readings
 use Rattle.live_store.specs.declared.numbered.NumberedBuffer.{NumberedBuffer}
 use Rattle.live_store.specs.declared.record.StorePremises as store_premises
 use Rattle.live_store.specs.declared.writing.entering.Record.{Record}
@@ -87,3 +90,59 @@ pub record WasMerelyRead {S : Type 0} {s : Ghosts S} {J : Type 0} {j : store_pre
   pub buffer_state : buffer_state_of (buffer_of new) ≡ buffer_state_of (buffer_of old)
   pub open_write : open_write_of new ≡ open_write_of old
   pub numbers : numbers_of new ≡ numbers_of old
+
+-- What was read ahead of block k is told in the place of a read, and what is behind it stays.
+pub record IsGivenAhead (k : ℕ) (ahead : Ahead) (result : Result OneRead Fault)
+    (octets : List ℕ) (left : Option Ahead)
+    : Type 0 where
+  pub count : ℕ
+  pub told : result ≡ Ok (ones.Chunk count)
+  pub chunk : take count octets ≡ chunk_ahead ahead k
+  pub stays : left ≡ left_behind k (Some ahead)
+
+-- what a read of a block is to a record: a chunk of it has so many octets, all else is none of it
+abbrev pub IsOfRecord : Where Record → Result Reading Fault → Option ℕ → Type 0
+IsOfRecord own (Ok (readings.Chunk octets shown)) result =
+    (result ≡ Some octets) ⊎ ((result ≡ None) × (shown.index ≢ own.index))
+IsOfRecord own (Ok (readings.Gone front)) result = result ≡ None
+IsOfRecord own (Ok (readings.Unknown unfound)) result = result ≡ None
+IsOfRecord own (Err fault) result = result ≡ None
+
+-- the buffer's own read of block k came to this chunk of the record, or to none of it
+pub record ReadsOfRecord {S : Type 0} {s : Ghosts S} {J : Type 0} {j : store_premises.Ghosts J}
+    (old : NumberedBuffer S J s j) (token : Token) (k : ℕ) (own : Where Record)
+    (result : Option ℕ)
+    : Type 0 where
+  pub before : List ℕ
+  pub after : List ℕ
+  pub reading : Result Reading Fault
+  pub read : Buffer S s
+  pub reads : ReadsBlock (buffer_of old) token k before (as_found reading) after read
+  pub own_one : IsOfRecord own reading result
+
+-- block k is none of the record, or has no octet of it, as the buffer tells that was merely read
+-- until then
+pub record IsNoneOfRecord {S : Type 0} {s : Ghosts S} {J : Type 0} {j : store_premises.Ghosts J}
+    (old : NumberedBuffer S J s j) (token : Token) (k : ℕ) (own : Where Record)
+    : Type 0 where
+  pub there : NumberedBuffer S J s j
+  pub merely : WasMerelyRead old there
+  pub told : ReadsOfRecord there token k own None ⊎ ReadsOfRecord there token k own (Some 0)
+
+-- How far blocks of a record are read that follow each other, of so many: to the last of them, to
+-- one that isn't full, or to the one before a block that is none of the record.
+pub data GoesAsFar {S : Type 0} {s : Ghosts S} {J : Type 0} {j : store_premises.Ghosts J}
+    (old : NumberedBuffer S J s j) (own : Where Record) (blocks : ℕ) (ahead : Ahead)
+    : Type 0 where
+  ToTheLast : length ahead.octets.items ≡ chunk_size * blocks → GoesAsFar old own blocks ahead
+  ToAShortOne : (n : ℕ) → chunk_size * n < length ahead.octets.items
+      → length ahead.octets.items < chunk_size * (n + 1) → GoesAsFar old own blocks ahead
+  ToTheRecordsLast : (n : ℕ) → length ahead.octets.items ≡ chunk_size * n
+      → IsNoneOfRecord old ahead.token (ahead.from + n) own → GoesAsFar old own blocks ahead
+
+-- nothing is read behind block k: there is no block, or the next is none of the record
+abbrev pub HasNoneBehind
+    : {S : Type 0} {s : Ghosts S} {J : Type 0} {j : store_premises.Ghosts J}
+    (old : NumberedBuffer S J s j) (own : Where Record) (token : Token) (k : ℕ) → Type 0
+HasNoneBehind old own token k =
+    (blocks_behind k token.length ≡ 0) ⊎ IsNoneOfRecord old token (k + 1) own

@@ -9,7 +9,7 @@ use cyc_block::CHUNK_OCTETS;
 use cyc_buffer::size_of;
 use cyc_token::Token;
 use line_words::put_octets;
-use std::alloc::Global;
+use std::alloc::{AllocError, Global};
 
 /// The blocks of an article that are read under one lock, at most.
 pub const RUN_BLOCKS: u32 = 128;
@@ -34,7 +34,7 @@ pub(crate) struct Ahead {
 
 impl Ahead {
     ghost use Rattle.std.specs.Prelude.{◌≡◌, ◌+◌, ◌-◌, ◌*◌, ◌^◌, ◌<◌, ◌≤◌, ◌++◌, [], true, None};
-    ghost use Rattle.std.specs.Prelude.{IfSome, OnSome, length, take};
+    ghost use Rattle.std.specs.Prelude.{◌↔◌, IfOk, IfSome, OnSome, length, take};
     ghost use Rattle.std.specs.Prelude.{vec_capacity, vec_len};
     ghost use Rattle.boxcar.specs.Table.{Shows};
     ghost use Rattle.cyc_token.specs.Token.{token_view};
@@ -44,35 +44,33 @@ impl Ahead {
 
     /// Room for the chunks of the blocks behind block k, as many as are read under one lock. It is
     /// taken for the token of a record alone, a chunk of which was found; none where no block is
-    /// behind it, or memory is refused.
+    /// behind it.
     pub(crate) fn behind<J: StorePremises>(
         alloc: Global,
         own: &RecordNumber,
         token: &Token,
         k: u32,
-    ) -> Option<Ahead>
+    ) -> Result<Option<Ahead>, AllocError>
         requires shown { Shows J.register own.now }
         requires found { J.trusted ≡ true → token_in own.now ≡ token_view token.now }
-        ensures token { IfSome result (λ ahead. ahead.token ≡ token.now) }
-        ensures from { IfSome result (λ ahead. ahead.from ≡ k + 1) }
-        ensures none { IfSome result (λ ahead. ahead.octets.items ≡ []) }
-        ensures room { IfSome result (λ ahead. vec_capacity ahead.octets
-            ≡ chunk_size * blocks_behind k token.now.length) }
-        ensures some { blocks_behind k token.now.length ≡ 0 → result ≡ None }
+        ensures token { IfOk result (λ room. IfSome room (λ ahead. ahead.token ≡ token.now)) }
+        ensures from { IfOk result (λ room. IfSome room (λ ahead. ahead.from ≡ k + 1)) }
+        ensures none { IfOk result (λ room. IfSome room (λ ahead. ahead.octets.items ≡ [])) }
+        ensures room { IfOk result (λ room. IfSome room (λ ahead. vec_capacity ahead.octets
+            ≡ chunk_size * blocks_behind k token.now.length)) }
+        ensures some { IfOk result (λ room.
+            room ≡ None ↔ blocks_behind k token.now.length ≡ 0) }
     {
         let _ = own;
         let blocks = Ahead::blocks_behind(token, k);
         if blocks == 0 {
-            return None;
+            return Ok(None);
         }
-        let Ok(octets) = Vec::with_capacity(alloc, blocks as usize * CHUNK_OCTETS) else {
-            return None;
-        };
-        Some(Ahead {
+        Ok(Some(Ahead {
             token: *token,
             from: k + 1,
-            octets,
-        })
+            octets: Vec::with_capacity(alloc, blocks as usize * CHUNK_OCTETS)?,
+        }))
     }
 
     /// Puts a chunk behind the others.

@@ -33,13 +33,14 @@ pub struct OneRecord<J: StorePremises> {
 
 impl<J: StorePremises> OneRecord<J> {
     ghost use Rattle.std.specs.Prelude.{◌≡◌, ◌≢◌, ℕ, true, None, Some, length, IfOk, IfErr, IfSome};
-    ghost use Rattle.std.specs.Prelude.{◌+◌, ◌≤◌, IsSome, OnErr, OnOk, OnSome};
+    ghost use Rattle.std.specs.Prelude.{◌+◌, ◌≤◌, ◌<◌, IsSome, OnErr, OnOk, OnSome, take};
     ghost use Rattle.std.specs.Option.{IsSomeAnd};
     ghost use Rattle.boxcar.specs.Table.{Shows};
     ghost use Rattle.cyc_buffer.specs.Answers.{HasRoom};
     ghost use Rattle.cyc_buffer.specs.declared.answers.Found.TheVariants as found;
     ghost use Rattle.cyc_token.specs.Token.{token_view};
-    ghost use Rattle.live_store.specs.Ahead.{IsAhead, IsToldOfRead, WasMerelyRead, left_behind};
+    ghost use Rattle.live_store.specs.Ahead.{GoesAsFar, IsAhead, IsGivenAhead, IsToldOfRead};
+    ghost use Rattle.live_store.specs.Ahead.{WasMerelyRead, blocks_behind, chunk_ahead, left_behind};
     ghost use Rattle.live_store.specs.Causes.{cause_of};
     ghost use Rattle.live_store.specs.Steps.{IsFoundIn, IsFoundGone, IsReadFault, IsRecordAfter};
     ghost use Rattle.live_store.specs.Steps.{IsShown, IsOneNowhere, IsOneThere, IsOneUnfound};
@@ -92,6 +93,10 @@ impl<J: StorePremises> OneRecord<J> {
         // Without a buffer of the token's number there is no chunk.
         ensures there { IfOk result (IsOneThere (length buffers.now) (token_view token.now)) }
         ensures fault { IfErr result (IsReadFault (token_view token.now)) }
+        // What was read ahead is told without another read, and the rest of it stays.
+        ensures ahead { IfSome self.old.ahead (λ a. IsAhead a token.now k
+            → (token_view token.now).buffer < length buffers.now
+            → IsGivenAhead k a result chunk.new self.new.ahead) }
     {
         let Some(buffer) = buffers.get(usize::from(token.buffer)) else {
             return Ok(OneRead::Unknown(Unfound::no_buffer(buffers.len(), token)));
@@ -110,6 +115,8 @@ impl<J: StorePremises> OneRecord<J> {
         ensures chunk { J.trusted ≡ true → IfSome result (λ n.
             IsFoundIn J.register (token_view token.now) k chunk.new self.old.shown
             (found.Chunk n)) }
+        ensures octets { IfSome result (λ n.
+            IfSome self.old.ahead (λ a. take n chunk.new ≡ chunk_ahead a k)) }
         ensures room { IfSome result (λ n. n ≤ chunk_size) }
         ensures own { OnSome result (IsSome self.old.shown) }
         ensures shown { self.new.shown ≡ self.old.shown }
@@ -186,12 +193,18 @@ impl<J: StorePremises> OneRecord<J> {
             → IfSome self.old.shown (λ own. token_in own ≡ token_view token.now) }
         ensures shown { self.new.shown ≡ self.old.shown }
         ensures ahead { IfSome self.new.ahead (λ a. (a.token ≡ token.now) × (a.from ≡ k + 1)) }
+        ensures far { IfSome self.new.ahead (λ a. IfSome self.old.shown (λ own.
+            GoesAsFar buffer.old own (blocks_behind k token.now.length) a)) }
         ensures buffer { WasMerelyRead buffer.old buffer.new }
     {
         let Some(own) = &self.shown else {
             return;
         };
-        self.ahead = read_behind(self.alloc, buffer, register, own, token, k);
+        // Without memory the next block is read when it is asked for.
+        self.ahead = match read_behind(self.alloc, buffer, register, own, token, k) {
+            Ok(read) => read,
+            Err(_) => None,
+        };
     }
 
     /// What a reading of block k is to these reads: a chunk of another record than theirs is

@@ -1,10 +1,12 @@
 //! Blocks of an article are read behind one that was found, under the same lock.
 ghost use Rattle.std.specs.Prelude.{◌≡◌, ◌+◌, ◌*◌, ◌^◌, ◌≤◌, ◌<◌, [], true, length, take, IfSome};
+ghost use Rattle.std.specs.Prelude.{IfOk, None, Ok};
 ghost use Rattle.std.specs.Prelude.{vec_capacity};
 ghost use Rattle.boxcar.specs.Table.{Shows};
 ghost use Rattle.cyc_token.specs.Token.{token_view};
 ghost use Rattle.news_terms.specs.BlockImage.{chunk_size};
-ghost use Rattle.live_store.specs.Ahead.{AreChunksOf, WasMerelyRead};
+ghost use Rattle.live_store.specs.Ahead.{AreChunksOf, GoesAsFar, HasNoneBehind, ReadsOfRecord};
+ghost use Rattle.live_store.specs.Ahead.{WasMerelyRead, blocks_behind};
 ghost use Rattle.live_store.specs.Steps.{IsChunkOf};
 ghost use Rattle.live_store.specs.Tied.{token_in};
 
@@ -15,10 +17,11 @@ use crate::numbered::NumberedBuffer;
 use crate::record::{ArticleLog, RecordNumber, StorePremises};
 use cyc_block::{BlockStore, CHUNK_OCTETS};
 use cyc_token::Token;
-use std::alloc::Global;
+use std::alloc::{AllocError, Global};
 
 /// Reads the blocks behind block k of an article, a chunk of which was found: those that follow,
-/// until one is no chunk of this record. None where there is none, or no memory for them.
+/// until one is no chunk of this record. None where there is none. The error is want of memory,
+/// where none was read.
 pub(crate) fn read_behind<S: BlockStore, J: StorePremises>(
     alloc: Global,
     buffer: &mut NumberedBuffer<S, J>,
@@ -26,24 +29,29 @@ pub(crate) fn read_behind<S: BlockStore, J: StorePremises>(
     own: &RecordNumber,
     token: &Token,
     k: u32,
-) -> Option<Ahead>
+) -> Result<Option<Ahead>, AllocError>
     requires register { register.now ≡ J.register }
     requires shown { Shows J.register own.now }
     requires found { J.trusted ≡ true → token_in own.now ≡ token_view token.now }
-    ensures token { IfSome result (λ ahead. ahead.token ≡ token.now) }
-    ensures from { IfSome result (λ ahead. ahead.from ≡ k + 1) }
-    ensures some { IfSome result (λ ahead. 0 < length ahead.octets.items) }
-    ensures chunks { J.trusted ≡ true
-        → IfSome result (λ ahead. AreChunksOf J.register ahead own.now) }
+    ensures token { IfOk result (λ read. IfSome read (λ ahead. ahead.token ≡ token.now)) }
+    ensures from { IfOk result (λ read. IfSome read (λ ahead. ahead.from ≡ k + 1)) }
+    ensures some { IfOk result (λ read. IfSome read (λ ahead. 0 < length ahead.octets.items)) }
+    ensures chunks { J.trusted ≡ true → IfOk result (λ read.
+        IfSome read (λ ahead. AreChunksOf J.register ahead own.now)) }
+    ensures far { IfOk result (λ read. IfSome read
+        (GoesAsFar buffer.old own.now (blocks_behind k token.now.length))) }
+    ensures none { result ≡ Ok None → HasNoneBehind buffer.old own.now token.now k }
     ensures buffer { WasMerelyRead buffer.old buffer.new }
 {
-    let mut ahead = Ahead::behind::<J>(alloc, own, token, k)?;
+    let Some(mut ahead) = Ahead::behind::<J>(alloc, own, token, k)? else {
+        return Ok(None);
+    };
     let blocks = Ahead::blocks_behind(token, k);
     read_on(buffer, register, own, &mut ahead, blocks);
     if ahead.octets.is_empty() {
-        return None;
+        return Ok(None);
     }
-    Some(ahead)
+    Ok(Some(ahead))
 }
 
 /// Reads so many blocks, for which there is room, until one is no chunk of this record or isn't
@@ -63,6 +71,7 @@ fn read_on<S: BlockStore, J: StorePremises>(
     ensures token { ahead.new.token ≡ ahead.old.token }
     ensures from { ahead.new.from ≡ ahead.old.from }
     ensures chunks { J.trusted ≡ true → AreChunksOf J.register ahead.new own.now }
+    ensures far { GoesAsFar buffer.old own.now blocks ahead.new }
     ensures buffer { WasMerelyRead buffer.old buffer.new }
 {
     let token = ahead.token;
@@ -93,6 +102,8 @@ fn read_same<S: BlockStore, J: StorePremises>(
     ensures chunk { J.trusted ≡ true → IfSome result (λ n.
         IsChunkOf J.register (token_view token.now) k (take n chunk.new) own.now) }
     ensures room { IfSome result (λ n. n ≤ chunk_size) }
+    // It is the buffer's own read of this block.
+    ensures own { ReadsOfRecord buffer.old token.now k own.now result }
     ensures buffer { WasMerelyRead buffer.old buffer.new }
 {
     match buffer.read(token, k, chunk) {

@@ -10,6 +10,7 @@
 #![tactic(auto)]
 
 mod connections;
+mod door;
 mod line;
 mod port;
 mod stop;
@@ -17,6 +18,7 @@ mod tally;
 mod wire;
 
 pub use connections::Connections;
+pub use door::Door;
 pub use line::Line;
 pub use port::Port;
 pub use stop::Stop;

@@ -3,6 +3,7 @@ ghost use Rattle.std.specs.Prelude.{◌≡◌, IfOk};
 ghost use Rattle.live_wire.specs.Ports.{left_of};
 
 use crate::connections::Connections;
+use crate::door::Door;
 use crate::line::{Line, is_wait};
 use crate::stop::Stop;
 use crate::wire::{RecordingReader, RecordingWriter};
@@ -95,6 +96,12 @@ impl<'a> Port<'a> {
             patience: self.patience,
             is_served: AtomicBool::new(false),
         })
+    }
+
+    /// Its door, at which connections wait that none of its ends has taken. The error is the
+    /// system's.
+    pub fn door(&self) -> io::Result<Door<'a>> {
+        Ok(Door::of(self.listener.try_clone()?, self.stop))
     }
 
     /// Its number, where the system chose it.

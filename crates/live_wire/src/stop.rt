@@ -6,7 +6,8 @@ use std::sync::atomic::{AtomicBool, AtomicU64, Ordering};
 /// For how many seconds lines still write what they owe once it was asked.
 const LATE_SECONDS: u64 = 8;
 
-/// How many seconds pass at least between two lines that tell of want of descriptors.
+/// How many seconds pass at least between two lines that tell of want of descriptors, and between
+/// two that tell of too many connections.
 const BETWEEN_LINES: u64 = 60;
 
 /// What the ports of a relay and their connections look at: whether they are to stop, which is
@@ -23,6 +24,8 @@ pub struct Stop {
     begun: AtomicU64,
     /// The second after that in which want of descriptors was last told of, 0 before that.
     told: AtomicU64,
+    /// The same of too many connections.
+    told_of_many: AtomicU64,
 }
 
 // Written out, so that no crate above proves anew how each part is let go.
@@ -35,6 +38,7 @@ impl Drop for Stop {
             made: _,
             begun: _,
             told: _,
+            told_of_many: _,
         } = self;
     }
 }
@@ -49,6 +53,7 @@ impl Stop {
             made: AtomicU64::new(0),
             begun: AtomicU64::new(0),
             told: AtomicU64::new(0),
+            told_of_many: AtomicU64::new(0),
         }
     }
 
@@ -101,19 +106,30 @@ impl Stop {
 
     /// Whether want of descriptors may be told of in this second: once a minute, by one port.
     pub(crate) fn may_tell(&self, second: u64) -> bool {
-        let told = self.told.load(Ordering::SeqCst);
-        let now = second.saturating_add(1);
-        if told != 0 && !have_passed(told, BETWEEN_LINES, now) {
-            return false;
-        }
-        self.told
-            .compare_exchange(told, now, Ordering::SeqCst, Ordering::SeqCst)
-            .is_ok()
+        may_tell(&self.told, second)
+    }
+
+    /// Whether it may be told in this second that there are too many connections: once a minute, of
+    /// one port.
+    pub(crate) fn may_tell_of_many(&self, second: u64) -> bool {
+        may_tell(&self.told_of_many, second)
     }
 }
 
+/// Whether something may be told of in this second that was told of last in the one before this
+/// number, not yet at 0: once a minute, by whoever asks first.
+fn may_tell(last: &AtomicU64, second: u64) -> bool {
+    let told = last.load(Ordering::SeqCst);
+    let now = second.saturating_add(1);
+    if told != 0 && !have_passed(told, BETWEEN_LINES, now) {
+        return false;
+    }
+    last.compare_exchange(told, now, Ordering::SeqCst, Ordering::SeqCst)
+        .is_ok()
+}
+
 /// Whether so many seconds have passed between these two.
-fn have_passed(first: u64, seconds: u64, now: u64) -> bool
+pub(crate) fn have_passed(first: u64, seconds: u64, now: u64) -> bool
     ensures { IsTrue result ↔ (first + seconds ≤ now) }
 {
     match first.checked_add(seconds) {

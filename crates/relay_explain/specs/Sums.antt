@@ -29,6 +29,14 @@ served_of peer = if peer.port == 0 then 0 else peer.connections
 unfoldable pub connections_of : List Peer → ℕ
 connections_of peers = sum_by served_of peers
 
+-- the ports of a peer: its own, where it has one
+abbrev pub port_of : Peer → ℕ
+port_of peer = if peer.port == 0 then 0 else 1
+
+-- the ports
+unfoldable pub ports_of : List Peer → ℕ
+ports_of peers = sum_by port_of peers
+
 -- the octets of memory from the start: for buffers, and the two runs of blocks of each, for rings,
 -- the queue of each group, what is printed, and what is said to the journal, two batches of 4 MB
 unfoldable pub memory_of : Config → ℕ
@@ -42,12 +50,12 @@ abbrev pub openings_of : (sync : Option ℕ) → (files : ℕ) → ℕ
 openings_of None files = files
 openings_of (Some seconds) files = files * 2
 
--- the descriptors: of the files of buffers, three of each connection, of the socket and of whoever
--- asks there, of the journal, and of the standard streams
+-- the descriptors: of the files of buffers, three of each connection, one of each port for who waits
+-- there, of the socket and of one who asks there, of the journal, and of the standard streams
 unfoldable pub descriptors_of : Config → ℕ
 descriptors_of config =
     openings_of config.relay.sync (length config.buffers.buffers.items)
-    + connections_of config.relay.peers.items * 3 + 6
+    + connections_of config.relay.peers.items * 3 + ports_of config.relay.peers.items + 6
 
 -- what a configuration takes of the machine
 unfoldable pub wants_text : Config → List ℕ

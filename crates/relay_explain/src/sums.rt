@@ -81,6 +81,26 @@ fn served_of(peer: &Peer) -> u32
     if peer.port == 0 { 0 } else { peer.connections }
 }
 
+/// The ports.
+#[tactic(auto, unfolding(crate::specs::Sums::ports_of))]
+fn ports_of(peers: &[Peer]) -> u128
+    ensures value { result ≡ terms.ports_of peers.now }
+    ensures most { result ≤ length peers.now * 2 ^ 32 }
+{
+    let mut ports = 0;
+    for peer in peers {
+        ports += u128::from(port_of(peer));
+    }
+    ports
+}
+
+/// The ports of a peer.
+fn port_of(peer: &Peer) -> u32
+    ensures { result ≡ terms.port_of peer.now }
+{
+    if peer.port == 0 { 0 } else { 1 }
+}
+
 /// The octets of memory from the start.
 #[tactic(auto, unfolding(crate::specs::Sums::memory_of))]
 fn memory_of(config: &Config) -> u128
@@ -100,7 +120,8 @@ fn descriptors_of(config: &Config) -> u128
 {
     let openings = openings_of(config.relay.sync, config.buffers.buffers.len());
     let connections = connections_of(&config.relay.peers);
-    openings + connections * 3 + 6
+    let ports = ports_of(&config.relay.peers);
+    openings + connections * 3 + ports + 6
 }
 
 /// The descriptors of so many files of buffers.

@@ -5,14 +5,14 @@ ghost use Rattle.relay_serve.specs.Syncing.{syncing_in};
 use crate::gate::CountingGate;
 use crate::side_thread::Figured;
 use crate::syncing::Syncing;
-use live_wire::Stop;
+use live_wire::{Door, Stop};
 use relay_folder::{Askers, Control, JournalFile, Teller, WAITED_FOR, Word};
 use relay_journal::{JournalLines, Journaling, second_of};
 use std::alloc::{AllocError, Global};
 use std::fs::Files;
 use std::mem;
-use std::sync::{Mutex, Wait};
 use std::sync::atomic::{AtomicBool, Ordering};
+use std::sync::{Mutex, Wait};
 use std::time::Clock;
 
 /// How many of those who have asked while the relay ended wait for the end, at most: all whose
@@ -21,7 +21,7 @@ const LAST_ONES: usize = WAITED_FOR + 64;
 
 /// Answers what is asked at the socket of a relay's folder: `report` is told what the relay tells
 /// of itself, `stop` has its ports end, and who asked for that hears no end before the program has
-/// ended. Meanwhile it goes the relay's rounds.
+/// ended. Meanwhile it goes the relay's rounds, and looks once a second who waits at a port.
 #[derive(Drop)]
 pub(crate) struct Desk<'a> {
     alloc: Global,
@@ -30,6 +30,8 @@ pub(crate) struct Desk<'a> {
     control: Control,
     /// Those who have connected, and whose words are waited for.
     askers: Mutex<Askers>,
+    /// Where connections wait that no port has taken.
+    doors: Vec<Door<'a>>,
     /// What is flushed meanwhile.
     syncing: Option<Syncing<'a>>,
     ended: AtomicBool,
@@ -42,6 +44,7 @@ impl<'a> Desk<'a> {
         stop: &'a Stop,
         gate: &'a CountingGate<'a>,
         control: Control,
+        doors: Vec<Door<'a>>,
         syncing: Option<Syncing<'a>>,
     ) -> Desk<'a>
         ensures syncing { syncing_in result ≡ syncing.entry }
@@ -52,6 +55,7 @@ impl<'a> Desk<'a> {
             gate,
             control,
             askers: Mutex::new(Askers::new(alloc)),
+            doors,
             syncing,
             ended: AtomicBool::new(false),
         }
@@ -103,10 +107,18 @@ impl<'a> Desk<'a> {
         }
     }
 
+    /// Looks at each door in this second.
+    fn look_out<R: Clock + Eprint>(&self, rt: &R, second: u64) {
+        for door in &self.doors {
+            door.look(rt, second);
+        }
+    }
+
     /// Goes on until what it goes on beside has ended.
     pub(crate) fn attend<F: Figured<R>, R: Wait + Clock + Eprint>(&self, rt: &R, relay: &F) {
         let begun = second_of(rt);
         let mut last_round = begun;
+        let mut last_look = begun;
         let mut askers = self.askers.lock(rt);
         for _ in rt.forever() {
             if self.ended.load(Ordering::SeqCst) {
@@ -115,6 +127,10 @@ impl<'a> Desk<'a> {
             self.answer(rt, relay, &mut askers);
             let second = second_of(rt);
             self.stop.pass(second);
+            if second != last_look {
+                self.look_out(rt, second);
+                last_look = second;
+            }
             if second.saturating_sub(last_round) >= relay.between() {
                 relay.go_round(rt, second.saturating_sub(begun));
                 last_round = second;

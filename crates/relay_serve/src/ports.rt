@@ -6,7 +6,7 @@ ghost use Rattle.relay_conf.specs.declared.relay.Peer.{Peer};
 ghost use Rattle.relay_serve.specs.Ports.{IsPortFault, ends_from, lost_port};
 ghost use Rattle.relay_serve.specs.Ports as terms;
 
-use live_wire::{Port, Stop};
+use live_wire::{Door, Port, Stop};
 use relay_conf::{Peer, Relay};
 use relay_live::PeerSource;
 use relay_report::{LostPort, Reason, ServeError};
@@ -154,6 +154,30 @@ fn port_reason(kind: ErrorKind) -> Reason
         ErrorKind::AddrNotAvailable => Reason::NoAddress,
         _ => Reason::Refused,
     }
+}
+
+/// The doors of the ports behind which these are, one of each: none where each port takes so many
+/// connections and no more, for one that comes behind those, and none of a port whose door can't be
+/// had.
+pub(crate) fn open_doors<'a>(
+    alloc: Global,
+    peer_sources: &[PeerSource<Port<'a>>],
+    sessions: Option<u32>,
+) -> Result<Vec<Door<'a>>, AllocError> {
+    let mut doors = Vec::new(alloc);
+    if sessions.is_some() {
+        return Ok(doors);
+    }
+    let mut last = None;
+    for peer_source in peer_sources {
+        if last != Some(peer_source.peer) {
+            last = Some(peer_source.peer);
+            if let Ok(door) = peer_source.connections.door() {
+                doors.push(door)?;
+            }
+        }
+    }
+    Ok(doors)
 }
 
 /// Adds a peer source.

@@ -12,7 +12,7 @@ use crate::clock::MachineClock;
 use crate::desk::Desk;
 use crate::gate::CountingGate;
 use crate::keeping::keep_finished;
-use crate::ports::open_ports;
+use crate::ports::{open_doors, open_ports};
 use crate::repairing::begin_again;
 use crate::running::{Finished, Records, Surroundings, channels_of, run_relay};
 use crate::syncing::{Syncing, open_syncing};
@@ -148,9 +148,10 @@ where
     ensures { ServeGives config.now result (W.contents writer.old) (W.contents writer.new) }
 {
     let (unbegun, peer_sources, syncing) = open_all(rt, alloc, config, asked, stop)?;
+    let doors = open_doors(alloc, &peer_sources, asked.sessions)?;
     match Control::listen(rt, alloc, asked.folder) {
         Ok(control) => {
-            let desk = Desk::new(alloc, stop, gate, control, syncing);
+            let desk = Desk::new(alloc, stop, gate, control, doors, syncing);
             tell_serving(rt, peer_sources.len(), unbegun.stores.len());
             let access = Access {
                 peer_sources,
@@ -165,6 +166,7 @@ where
             answer
         }
         Err(error) => {
+            drop(doors);
             drop(syncing);
             drop(peer_sources);
             drop(unbegun);

@@ -1,0 +1,103 @@
+//! Whoever waits at a port all of whose connections are taken.
+use crate::stop::{Stop, have_passed};
+use libc::net::{POLLIN, poll};
+use libc::types::pollfd;
+use std::io;
+use std::io::Write;
+use std::net::{Shutdown, TcpListener, TcpStream};
+use std::os::fd::AsRawFd;
+use std::sync::atomic::{AtomicU64, Ordering};
+use std::time::Clock;
+
+/// For how many seconds a connection waits for one of the port's ends, at least.
+const PATIENCE: u64 = 2;
+
+/// What one is told that waited for longer (RFC 3977 section 5.1.1).
+const REFUSAL: &[u8] = b"400 Too many connections\r\n";
+
+/// The number of no second.
+const NEVER: u64 = u64::MAX;
+
+/// The door of a port, at which connections wait until one of the port's ends takes them.
+pub struct Door<'a> {
+    listener: TcpListener,
+    /// By what the port is told to end.
+    stop: &'a Stop,
+    /// Since which second some have waited each time that it was looked.
+    since: AtomicU64,
+}
+
+// Written out, so that no crate above proves anew how each part is let go.
+impl Drop for Door<'_> {
+    fn drop(self) {
+        let Door {
+            listener: _,
+            stop: _,
+            since: _,
+        } = self;
+    }
+}
+
+impl<'a> Door<'a> {
+    /// The door of the port that listens so.
+    pub(crate) fn of(listener: TcpListener, stop: &'a Stop) -> Door<'a> {
+        Door {
+            listener,
+            stop,
+            since: AtomicU64::new(NEVER),
+        }
+    }
+
+    /// Looks at the door in this second. Where some have waited there at each look for two seconds,
+    /// the first of them is told that there are too many, and let go.
+    pub fn look<C: Clock + Eprint>(&self, rt: &C, second: u64) {
+        if !self.has_waiting() {
+            self.since.store(NEVER, Ordering::SeqCst);
+            return;
+        }
+        let since = self.since.load(Ordering::SeqCst).min(second);
+        self.since.store(since, Ordering::SeqCst);
+        if have_passed(since, PATIENCE, second) {
+            self.refuse(rt, second);
+        }
+    }
+
+    /// Whether a connection waits while the port takes connections.
+    fn has_waiting(&self) -> bool {
+        if self.stop.is_asked() || !self.stop.have_all_begun() {
+            return false;
+        }
+        let mut ready = [pollfd {
+            fd: self.listener.as_raw_fd(),
+            events: POLLIN,
+            revents: 0,
+        }];
+        poll(&mut ready, 0) > 0
+    }
+
+    /// Tells the first who waits that there are too many, where an end of the port hasn't taken him
+    /// meanwhile; that this was so is told in one line a minute at most.
+    fn refuse<R: Eprint>(&self, rt: &R, second: u64) {
+        let Ok((stream, _address)) = self.listener.accept() else {
+            return;
+        };
+        let _lost = dismiss(&stream);
+        if self.stop.may_tell_of_many(second) {
+            let _unseen = self.tell(rt);
+        }
+    }
+
+    /// Tells that a connection of the port was refused.
+    fn tell<R: Eprint>(&self, rt: &R) -> io::Result<()> {
+        let number = self.listener.local_addr()?.port();
+        eprintln!(rt; "refused port={number} for=connections")
+    }
+}
+
+/// Tells who is connected that there are too many, without waiting for him.
+fn dismiss(stream: &TcpStream) -> io::Result<()> {
+    stream.set_nonblocking(true)?;
+    let mut to = stream;
+    to.write_all(REFUSAL)?;
+    stream.shutdown(Shutdown::Write)
+}
