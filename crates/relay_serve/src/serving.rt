@@ -148,7 +148,9 @@ where
     ensures { ServeGives config.now result (W.contents writer.old) (W.contents writer.new) }
 {
     let (unbegun, peer_sources, syncing) = open_all(rt, alloc, config, asked, stop)?;
-    let doors = open_doors(alloc, &peer_sources, asked.sessions)?;
+    let Ok(doors) = open_doors(alloc, &peer_sources, asked.sessions) else {
+        return Err(ServeError::Memory);
+    };
     match Control::listen(rt, alloc, asked.folder) {
         Ok(control) => {
             let desk = Desk::new(alloc, stop, gate, control, doors, syncing);
