@@ -23,6 +23,8 @@ pub struct Door<'a> {
     listener: TcpListener,
     /// By what the port is told to end.
     stop: &'a Stop,
+    /// The place of the port there.
+    place: u64,
     /// Since which second some have waited each time that it was looked.
     since: AtomicU64,
 }
@@ -33,6 +35,7 @@ impl Drop for Door<'_> {
         let Door {
             listener: _,
             stop: _,
+            place: _,
             since: _,
         } = self;
     }
@@ -40,18 +43,22 @@ impl Drop for Door<'_> {
 
 impl<'a> Door<'a> {
     /// The door of the port that listens so.
-    pub(crate) fn of(listener: TcpListener, stop: &'a Stop) -> Door<'a> {
+    pub(crate) fn of(listener: TcpListener, stop: &'a Stop, place: u64) -> Door<'a> {
         Door {
             listener,
             stop,
+            place,
             since: AtomicU64::new(NEVER),
         }
     }
 
-    /// Looks at the door in this second. Where some have waited there at each look for two seconds,
-    /// the first of them is told that there are too many, and let go.
+    /// Looks at the door in this second. Where some wait there, a connection of the port makes room
+    /// that was silent for a minute. Where some have waited at each look for two seconds, the first
+    /// of them is told that there are too many, and let go.
     pub fn look<C: Clock + Eprint>(&self, rt: &C, second: u64) {
-        if !self.has_waiting() {
+        let waits = self.has_waiting();
+        self.stop.wait_at(self.place, waits);
+        if !waits {
             self.since.store(NEVER, Ordering::SeqCst);
             return;
         }

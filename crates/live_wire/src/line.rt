@@ -18,6 +18,10 @@ const PART: u64 = 500;
 /// How many such parts make a second.
 const PARTS_A_SECOND: u32 = 2;
 
+/// For how many parts in a row a peer is silent before its connection makes room for another that
+/// waits at its port: a minute.
+const SILENT_PARTS: u32 = 60 * PARTS_A_SECOND;
+
 /// How many milliseconds a wait takes at once after the session has ended, or is to stop.
 const LATE_PART: u64 = 100;
 
@@ -37,13 +41,16 @@ const MOST_DROPPED: usize = 1 << 20;
 const DROPPED_AT_ONCE: usize = 4_096;
 
 /// One side of a peer's connection. It waits for its peer in parts of a second: it reads the end of
-/// the input once the relay is to stop or the peer has been silent for too many of them. A write
+/// the input once the relay is to stop or the peer has been silent for too many of them, or for a
+/// minute while another of its connections waits at its port. A write
 /// fails once the peer has taken nothing for too many of them, which are fewer once the relay is to
 /// stop, or once the time is up that lines have then.
 #[derive(Drop)]
 pub struct Line<'a> {
     stream: TcpStream,
     stop: &'a Stop,
+    /// The place of its port.
+    place: u64,
     /// How many parts in a row it waits for its peer.
     parts: u32,
 }
@@ -54,6 +61,7 @@ impl<'a> Line<'a> {
     pub(crate) fn both(
         stream: TcpStream,
         stop: &'a Stop,
+        place: u64,
         patience: u32,
     ) -> io::Result<(Line<'a>, Line<'a>)> {
         stream.set_nodelay(true)?;
@@ -64,14 +72,22 @@ impl<'a> Line<'a> {
         let reader = Line {
             stream,
             stop,
+            place,
             parts,
         };
         let writer = Line {
             stream: other,
             stop,
+            place,
             parts,
         };
         Ok((reader, writer))
+    }
+
+    /// Whether it makes room for another connection that waits at its port: the peer was silent for
+    /// so many parts, which are a minute at least.
+    fn makes_room(&self, silent: u32) -> bool {
+        silent >= SILENT_PARTS && self.stop.is_waited_at(self.place)
     }
 
     /// Lets the peer read all that was written, where it does so in time: it is told that no more
@@ -136,8 +152,8 @@ impl<'a> Line<'a> {
 
 impl Read for Line<'_> {
     fn read(&mut self, buf: &mut [u8]) -> io::Result<usize> {
-        for _ in 0..self.parts {
-            if self.stop.is_asked() {
+        for silent in 0..self.parts {
+            if self.stop.is_asked() || self.makes_room(silent) {
                 return Ok(0);
             }
             if let Some(answer) = came_of(self.stream.read(buf)) {

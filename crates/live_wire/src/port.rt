@@ -37,6 +37,8 @@ pub struct Port<'a> {
     left: Option<u32>,
     /// By what it is told to end.
     stop: &'a Stop,
+    /// Its place there.
+    place: u64,
     /// For how many seconds in a row its connections wait for the peer.
     patience: u32,
     /// Whether it is served.
@@ -50,6 +52,7 @@ impl Drop for Port<'_> {
             listener: _,
             left: _,
             stop: _,
+            place: _,
             patience: _,
             is_served: _,
         } = self;
@@ -77,6 +80,7 @@ impl<'a> Port<'a> {
             listener,
             left: connections,
             stop,
+            place: stop.place(),
             patience,
             is_served: AtomicBool::new(false),
         })
@@ -93,6 +97,7 @@ impl<'a> Port<'a> {
             listener,
             left: self.left,
             stop: self.stop,
+            place: self.place,
             patience: self.patience,
             is_served: AtomicBool::new(false),
         })
@@ -101,7 +106,7 @@ impl<'a> Port<'a> {
     /// Its door, at which connections wait that none of its ends has taken. The error is the
     /// system's.
     pub fn door(&self) -> io::Result<Door<'a>> {
-        Ok(Door::of(self.listener.try_clone()?, self.stop))
+        Ok(Door::of(self.listener.try_clone()?, self.stop, self.place))
     }
 
     /// Its number, where the system chose it.
@@ -119,7 +124,7 @@ impl<'a> Port<'a> {
     /// Takes one connection, where one has come that no other end behind this port has taken.
     fn accept(&self) -> io::Result<(Line<'a>, Line<'a>)> {
         let (stream, _peer) = self.listener.accept()?;
-        Line::both(stream, self.stop, self.patience)
+        Line::both(stream, self.stop, self.place, self.patience)
     }
 
     /// Waits until a connection has come, or a part of the wait has passed: whether one has come.

@@ -10,6 +10,9 @@ const LATE_SECONDS: u64 = 8;
 /// two that tell of too many connections.
 const BETWEEN_LINES: u64 = 60;
 
+/// How many numbers have a bit for each port: a relay has 1,024 peers at most.
+const WAITED: usize = 16;
+
 /// What the ports of a relay and their connections look at: whether they are to stop, which is
 /// asked once, and for good; and how many of them are there.
 pub struct Stop {
@@ -26,6 +29,10 @@ pub struct Stop {
     told: AtomicU64,
     /// The same of too many connections.
     told_of_many: AtomicU64,
+    /// How many ports have a place here.
+    placed: AtomicU64,
+    /// A bit for each of them by its place: whether a connection waits at it.
+    waited: [AtomicU64; WAITED],
 }
 
 // Written out, so that no crate above proves anew how each part is let go.
@@ -39,6 +46,8 @@ impl Drop for Stop {
             begun: _,
             told: _,
             told_of_many: _,
+            placed: _,
+            waited: _,
         } = self;
     }
 }
@@ -54,6 +63,25 @@ impl Stop {
             begun: AtomicU64::new(0),
             told: AtomicU64::new(0),
             told_of_many: AtomicU64::new(0),
+            placed: AtomicU64::new(0),
+            waited: [
+                AtomicU64::new(0),
+                AtomicU64::new(0),
+                AtomicU64::new(0),
+                AtomicU64::new(0),
+                AtomicU64::new(0),
+                AtomicU64::new(0),
+                AtomicU64::new(0),
+                AtomicU64::new(0),
+                AtomicU64::new(0),
+                AtomicU64::new(0),
+                AtomicU64::new(0),
+                AtomicU64::new(0),
+                AtomicU64::new(0),
+                AtomicU64::new(0),
+                AtomicU64::new(0),
+                AtomicU64::new(0),
+            ],
         }
     }
 
@@ -104,6 +132,28 @@ impl Stop {
         self.begun.load(Ordering::SeqCst) >= self.made.load(Ordering::SeqCst)
     }
 
+    /// A place for one more port.
+    pub(crate) fn place(&self) -> u64 {
+        self.placed.fetch_add(1, Ordering::SeqCst)
+    }
+
+    /// Is told whether a connection waits at the port of this place, by one thread alone.
+    pub(crate) fn wait_at(&self, place: u64, waits: bool) {
+        if let Some(bits) = self.waited.get((place / 64) as usize) {
+            let others = bits.load(Ordering::SeqCst) & !bit_of(place);
+            let own = if waits { bit_of(place) } else { 0 };
+            bits.store(others | own, Ordering::SeqCst);
+        }
+    }
+
+    /// Whether a connection waits at the port of this place.
+    pub(crate) fn is_waited_at(&self, place: u64) -> bool {
+        match self.waited.get((place / 64) as usize) {
+            Some(bits) => bits.load(Ordering::SeqCst) & bit_of(place) != 0,
+            None => false,
+        }
+    }
+
     /// Whether want of descriptors may be told of in this second: once a minute, by one port.
     pub(crate) fn may_tell(&self, second: u64) -> bool {
         may_tell(&self.told, second)
@@ -114,6 +164,11 @@ impl Stop {
     pub(crate) fn may_tell_of_many(&self, second: u64) -> bool {
         may_tell(&self.told_of_many, second)
     }
+}
+
+/// The bit of a port of this place.
+fn bit_of(place: u64) -> u64 {
+    1 << (place % 64)
 }
 
 /// Whether something may be told of in this second that was told of last in the one before this
