@@ -5,6 +5,7 @@ mod Places
 mod Puts
 mod SaidEntries
 mod Shadows
+mod Smalls
 mod Taking
 mod Told
 mod Totals

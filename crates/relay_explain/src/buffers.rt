@@ -33,7 +33,7 @@ pub(crate) fn file_octets(blocks: u32) -> u64
 
 /// The octets of articles that so many blocks hold.
 #[tactic(auto, unfolding(crate::specs::Buffers::room_of))]
-fn room_of(blocks: u32) -> u64
+pub(crate) fn room_of(blocks: u32) -> u64
     ensures { result ≡ terms.room_of blocks }
 {
     u64::from(blocks) * BLOCK_ROOM

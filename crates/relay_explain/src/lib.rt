@@ -13,6 +13,7 @@ mod found;
 mod groups;
 pub mod laws;
 mod lines;
+mod newsgroups;
 mod patterns;
 mod peers;
 mod rows;

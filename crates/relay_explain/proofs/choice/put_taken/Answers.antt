@@ -7,4 +7,5 @@ returns-in-None c = rw c.in-None.is c.add.ensures
 
 pub returns-in-Some : goal.returns-in-Some
 unfolding taken_text
-returns-in-Some c = rw c.in-Some.is c.put_class.ensures
+returns-in-Some c =
+    rw (c.in-Some.is, ← c.group_at-group.ensures, ← c.deref.ensures.value) c.put_class.ensures
