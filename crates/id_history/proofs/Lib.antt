@@ -6,7 +6,7 @@ mod EachLemmas
 mod ExpiryLemmas
 pub mod Fields
 mod FitLemmas
-mod Histories
+pub mod Histories
 pub mod JoinLemmas
 pub mod LastingJoins
 pub mod LastingLaws
@@ -20,5 +20,5 @@ mod OwnLemmas
 mod RoomLemmas
 mod RoomOfAll
 mod ShardsLemmas
-mod Tests
+pub mod Tests
 pub mod Tokens

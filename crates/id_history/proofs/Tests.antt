@@ -19,7 +19,7 @@ use Rattle.id_history.specs.History.{KeptId, KeptFeed, Kept, Setting, IsThere, F
 use Rattle.id_history.specs.History.{IdHolds, Rises, Holds}
 
 -- a conjunction of what holds holds
-both : (a b : Bool) → a ≡ true → b ≡ true → (a && b) ≡ true
+pub both : (a b : Bool) → a ≡ true → b ≡ true → (a && b) ≡ true
 both true b first second = second
 both false b first second = first
 

@@ -52,7 +52,7 @@ fn are_there(buffers: u32, tokens: &[Token]) -> bool
 }
 
 /// Whether a feed whose ring holds so many tokens can have come to this.
-fn feed_holds(buffers: u32, feed: &KeptFeed, ring: u32) -> bool
+pub fn feed_holds(buffers: u32, feed: &KeptFeed, ring: u32) -> bool
     ensures { result ≡ feed_holds buffers (feed_view feed.now) ring }
 {
     if feed.taken > feed.passed || feed.passed > feed.gained || feed.gained > MOST_GAINED {
@@ -63,7 +63,7 @@ fn feed_holds(buffers: u32, feed: &KeptFeed, ring: u32) -> bool
 }
 
 /// Whether each feed can have come to this, with its ring.
-fn feeds_hold(buffers: u32, feeds: &[KeptFeed], rings: &[u32]) -> bool
+pub fn feeds_hold(buffers: u32, feeds: &[KeptFeed], rings: &[u32]) -> bool
     ensures { result ≡ feeds_hold buffers (map feed_view feeds.now) rings.now }
 {
     let mut left = feeds;
@@ -95,7 +95,7 @@ fn id_holds(buffers: u32, one: &KeptId) -> bool
 }
 
 /// Whether each message-id can have come to this.
-fn ids_hold(buffers: u32, ids: &[KeptId]) -> bool
+pub fn ids_hold(buffers: u32, ids: &[KeptId]) -> bool
     ensures { result ≡ ids_hold buffers (map id_view ids.now) }
 {
     let mut left = ids;
@@ -119,7 +119,7 @@ fn is_before(one: &KeptId, others: &[KeptId]) -> bool
 }
 
 /// Whether each message-id comes before the next by its octets.
-fn rise(ids: &[KeptId]) -> bool
+pub fn rise(ids: &[KeptId]) -> bool
     ensures { result ≡ rise (map id_view ids.now) }
 {
     let mut left = ids;

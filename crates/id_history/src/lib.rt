@@ -28,11 +28,11 @@ pub mod text_laws;
 mod writing;
 
 pub use claims::{Offer, Settled, Shard, Take};
-pub use conditions::LAST_MOMENT;
+pub use conditions::{LAST_MOMENT, feed_holds, feeds_hold, ids_hold, rise};
 pub use counts::Counts;
 pub use fault::HistoryError;
 pub use kept::{History, KeptFeed, KeptId, Setting};
 pub use lasting::sort;
-pub use reading::read;
+pub use reading::{read, read_any};
 pub use shards::{SHARD_COUNT, Shards, shard_of};
 pub use writing::write;

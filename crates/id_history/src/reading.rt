@@ -292,3 +292,10 @@ pub fn read(alloc: Global, text: &[u8], setting: &Setting) -> Result<History, Hi
     }
     Ok(history)
 }
+
+/// The history that a text is, whatever the configuration.
+pub fn read_any(alloc: Global, text: &[u8]) -> Result<History, HistoryError>
+    ensures { Gives history_view result (all_of text.now) }
+{
+    all(alloc, text)
+}
