@@ -4,6 +4,8 @@ use Rattle.std.specs.Prelude.{ℕ, List, ◌++◌, codes, string_bytes}
 use Rattle.relay_report.specs.declared.keeping.BufferFault.{BufferFault}
 use Rattle.relay_report.specs.declared.keeping.BufferFault.TheVariants.{Device, NoHead, Unclosed}
 use Rattle.relay_report.specs.declared.keeping.BufferFault.TheVariants.{Damaged, Mixed}
+use Rattle.relay_report.specs.declared.keeping.HistoryFault.{HistoryFault}
+use Rattle.relay_report.specs.declared.keeping.HistoryFault.TheVariants as causes
 use Rattle.relay_report.specs.declared.keeping.StartFault.{StartFault}
 use Rattle.relay_report.specs.declared.keeping.StartFault.TheVariants as starts
 use Rattle.relay_report.specs.declared.keeping.StopFault.{StopFault}
@@ -17,10 +19,20 @@ buffer_fault_text Unclosed = codes "3 Unclosed"
 buffer_fault_text Damaged = codes "4 Damaged"
 buffer_fault_text Mixed = codes "6 Mixed"
 
+-- the file that has no history of a relay of the configuration, the code and its name, and the word
+-- of the cause (docs/FORMATS.md, History file)
+abbrev pub history_fault_text : HistoryFault → List ℕ
+history_fault_text causes.Missing = codes "relay.hist: 5 BadHistory missing"
+history_fault_text causes.Text = codes "relay.hist: 5 BadHistory text"
+history_fault_text causes.Groups = codes "relay.hist: 5 BadHistory groups"
+history_fault_text causes.Feeds = codes "relay.hist: 5 BadHistory feeds"
+history_fault_text causes.Ring = codes "relay.hist: 5 BadHistory ring"
+history_fault_text causes.Buffers = codes "relay.hist: 5 BadHistory buffers"
+
 -- the fault of a start, behind the name of the buffer or of the file that has it
 abbrev pub start_text : StartFault → List ℕ
 start_text starts.History = codes "relay.hist: unusable"
-start_text starts.BadHistory = codes "relay.hist: 5 BadHistory"
+start_text (starts.BadHistory fault) = history_fault_text fault
 start_text (starts.Buffer name fault) =
     string_bytes name ++ (codes ": " ++ buffer_fault_text fault)
 start_text starts.Ahead = codes "relay.hist: 7 Ahead"

@@ -1,6 +1,7 @@
 //! Why a relay can't start from its files, or can't be stopped so that it can start again.
 ghost use Rattle.std.specs.Prelude.{◌≡◌, Some};
-ghost use Rattle.relay_report.specs.Keeping.{buffer_fault_text, start_text, stop_text};
+ghost use Rattle.relay_report.specs.Keeping.{buffer_fault_text, history_fault_text};
+ghost use Rattle.relay_report.specs.Keeping.{start_text, stop_text};
 
 use std::fmt;
 use std::fmt::{Display, Formatter};
@@ -35,13 +36,47 @@ impl BufferFault {
     }
 }
 
+/// Why there is no history of a relay of this configuration, in the order of trial
+/// (docs/FORMATS.md, History file).
+#[derive(Clone, Copy)]
+pub enum HistoryFault {
+    /// There is no `relay.hist`, or an empty one.
+    Missing,
+    /// It is the text of no history, whatever the configuration.
+    Text,
+    /// It has another number of groups, or a group's position that isn't one of its buffers.
+    Groups,
+    /// It has another number of feeds.
+    Feeds,
+    /// Of a feed as many tokens wait as its ring can't have left.
+    Ring,
+    /// A token names no buffer.
+    Buffers,
+}
+
+impl HistoryFault {
+    /// The file, the code and its name, and the word of the cause.
+    pub fn text(self) -> &'static str
+        ensures { result.now ≡ history_fault_text self }
+    {
+        match self {
+            HistoryFault::Missing => "relay.hist: 5 BadHistory missing",
+            HistoryFault::Text => "relay.hist: 5 BadHistory text",
+            HistoryFault::Groups => "relay.hist: 5 BadHistory groups",
+            HistoryFault::Feeds => "relay.hist: 5 BadHistory feeds",
+            HistoryFault::Ring => "relay.hist: 5 BadHistory ring",
+            HistoryFault::Buffers => "relay.hist: 5 BadHistory buffers",
+        }
+    }
+}
+
 /// Why a relay can't start from its files (docs/PROTOCOL.md, Clean stop and start).
 #[derive(Drop)]
 pub enum StartFault {
     /// `relay.hist` is there and can't be read, or not be taken away before all is formatted.
     History,
-    /// What `relay.hist` has is no history of a relay of this configuration.
-    BadHistory,
+    /// There is no history of a relay of this configuration, for this cause.
+    BadHistory(HistoryFault),
     /// The buffer of this name in cycbuff.conf has a fault.
     Buffer(String, BufferFault),
     /// `relay.hist` speaks of articles that the buffers haven't.
@@ -58,7 +93,7 @@ impl Display for StartFault {
                 return write!(formatter, "{name}: {text}");
             }
             StartFault::History => "relay.hist: unusable",
-            StartFault::BadHistory => "relay.hist: 5 BadHistory",
+            StartFault::BadHistory(fault) => fault.text(),
             StartFault::Ahead => "relay.hist: 7 Ahead",
         })
     }

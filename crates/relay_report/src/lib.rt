@@ -26,7 +26,7 @@ mod written;
 
 pub use fault::{LostFile, LostPort, ServeError};
 pub use figures::{FeedFigures, Figures, NamedBuffer, NamedFeed};
-pub use keeping::{BufferFault, StartFault, StopFault};
+pub use keeping::{BufferFault, HistoryFault, StartFault, StopFault};
 pub use printing::print_totals;
 pub use reason::Reason;
 pub use text::text_of;

@@ -31,4 +31,15 @@ pub history_adds : (config : Config) (error : ServeError) → IsHistoryFault err
     → IsAddFault config error
 history_adds config error (inl memory) = subst (IsAddFault config) (sym memory) tt
 history_adds config error (inr (inl unread)) = subst (IsAddFault config) (sym unread) tt
-history_adds config error (inr (inr none)) = subst (IsAddFault config) (sym none) tt
+history_adds config (faults.Start (starts.BadHistory cause)) (inr (inr none)) = tt
+history_adds config (faults.File lost) (inr (inr none)) = absurd none
+history_adds config (faults.Port lost) (inr (inr none)) = absurd none
+history_adds config faults.Control (inr (inr none)) = absurd none
+history_adds config (faults.Start starts.History) (inr (inr none)) = absurd none
+history_adds config (faults.Start (starts.Buffer name fault)) (inr (inr none)) = absurd none
+history_adds config (faults.Start starts.Ahead) (inr (inr none)) = absurd none
+history_adds config faults.Unseeded (inr (inr none)) = absurd none
+history_adds config faults.Memory (inr (inr none)) = absurd none
+history_adds config faults.NoThread (inr (inr none)) = absurd none
+history_adds config (faults.Stop fault) (inr (inr none)) = absurd none
+history_adds config faults.Unwritten (inr (inr none)) = absurd none

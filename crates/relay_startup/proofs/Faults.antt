@@ -97,7 +97,8 @@ of_buffer g config stores number fault (faults.Start (starts.Buffer name found))
       e.0,
     )
 of_buffer g config stores number fault (faults.Start starts.History) (Some buffer) at e = tt
-of_buffer g config stores number fault (faults.Start starts.BadHistory) (Some buffer) at e = tt
+of_buffer g config stores number fault (faults.Start (starts.BadHistory cause)) (Some buffer) at e =
+    tt
 of_buffer g config stores number fault (faults.Start starts.Ahead) (Some buffer) at e = tt
 of_buffer g config stores number fault (faults.File lost) (Some buffer) at e =
     subst (IsRelayFault g config stores) (sym e) tt
@@ -171,7 +172,18 @@ pub history_serves : (config : Config) (error : ServeError) → IsHistoryFault e
     → IsServeFault config error
 history_serves config error (inl memory) = subst (IsServeFault config) (sym memory) tt
 history_serves config error (inr (inl unread)) = subst (IsServeFault config) (sym unread) tt
-history_serves config error (inr (inr bad)) = subst (IsServeFault config) (sym bad) tt
+history_serves config (faults.Start (starts.BadHistory cause)) (inr (inr bad)) = tt
+history_serves config (faults.File lost) (inr (inr bad)) = absurd bad
+history_serves config (faults.Port lost) (inr (inr bad)) = absurd bad
+history_serves config faults.Control (inr (inr bad)) = absurd bad
+history_serves config (faults.Start starts.History) (inr (inr bad)) = absurd bad
+history_serves config (faults.Start (starts.Buffer name fault)) (inr (inr bad)) = absurd bad
+history_serves config (faults.Start starts.Ahead) (inr (inr bad)) = absurd bad
+history_serves config faults.Unseeded (inr (inr bad)) = absurd bad
+history_serves config faults.Memory (inr (inr bad)) = absurd bad
+history_serves config faults.NoThread (inr (inr bad)) = absurd bad
+history_serves config (faults.Stop fault) (inr (inr bad)) = absurd bad
+history_serves config faults.Unwritten (inr (inr bad)) = absurd bad
 
 -- what a run ends for is a reason that a relay isn't served
 pub run_fault_serves : (config : Config) (error : ServeError) → IsRunFault error

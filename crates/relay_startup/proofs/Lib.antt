@@ -1,4 +1,5 @@
 mod AddFaults
+mod CauseLemmas
 mod Counted
 pub mod Faults
 pub mod FileFaults
@@ -10,4 +11,5 @@ mod Listed
 mod Looks
 pub mod Rows
 pub mod Sizes
+mod ToldCauses
 mod Uncalled

@@ -3,7 +3,7 @@ use Rattle.std.proofs.Common.{◌≡◌, ◌⊎◌, ◌∷◌, [], inl, inr, ℕ
 use Rattle.std.proofs.Common.{Err, arith, length, refl, subst, sym}
 use Rattle.std.specs.Result.{OnOk}
 use Rattle.std.proofs.lemmas.Option.{get_or_from_slice_get, slice_get_within}
-use Rattle.std.specs.Io.KnownBytes.{Keeps}
+use Rattle.std.specs.Io.KnownBytes.{Appends, Keeps}
 use Rattle.std.specs.declared.io.ErrorKind.{ErrorKind}
 use Rattle.std.specs.declared.io.ErrorKind.TheVariants.{OutOfMemory}
 use Rattle.block_shelf.specs.Each.{AreEach}
@@ -11,11 +11,13 @@ use Rattle.block_shelf.specs.Starting.{IsUnwritten}
 use Rattle.cyc_block.specs.declared.store.BlockStore.{Ghosts}
 use Rattle.cyc_buffer.specs.Reads.{StaysHeld}
 use Rattle.relay_conf.specs.declared.settings.Config.{Config}
+use Rattle.relay_report.specs.Serve.{NamesBuffer}
 use Rattle.relay_report.specs.declared.fault.ServeError.{ServeError}
 use Rattle.relay_report.specs.declared.fault.ServeError.TheVariants as faults
 use Rattle.relay_startup.specs.Adding.{control_fault}
 use Rattle.relay_startup.specs.Files.{IsFaultAt, IsFileFault}
-use Rattle.relay_startup.specs.Looking.{StandGives}
+use Rattle.relay_report.specs.declared.keeping.StartFault.{StartFault}
+use Rattle.relay_startup.specs.Looking.{StandGives, TellsFailure, refusal_line}
 use Rattle.relay_startup.specs.Faults.{IsServeFault}
 
 -- a text of no octets is none
@@ -64,27 +66,57 @@ control_looks config OutOfMemory = inr tt
 control_looks config kind = inl refl
 
 -- a writer that isn't called holds what it held
-kept : (held : Option (List ℕ)) → Keeps held held
+pub kept : (held : Option (List ℕ)) → Keeps held held
 kept None = tt
 kept (Some octets) = refl
 
--- where it isn't known how a relay stands nothing is written
-unserved_is_told : (config : Config) (error : ServeError) (held : Option (List ℕ))
-    → IsServeFault config error → StandGives config (Err error) held held
-unserved_is_told config (faults.File lost) held names = (names, kept held)
-unserved_is_told config (faults.Port lost) held none = absurd none
-unserved_is_told config faults.Control held none = absurd none
-unserved_is_told config (faults.Start started) held names = (names, kept held)
-unserved_is_told config (faults.Stop stopped) held fault = (tt, kept held)
-unserved_is_told config faults.Unseeded held fault = (tt, kept held)
-unserved_is_told config faults.Memory held fault = (tt, kept held)
-unserved_is_told config faults.NoThread held fault = (tt, kept held)
-unserved_is_told config faults.Unwritten held none = absurd none
+-- what is answered is what holds of the failure
+of_other : (config : Config) (error told : ServeError) (before after : Option (List ℕ))
+    → StandGives config (Err error) before after → told ≡ error
+    → StandGives config (Err told) before after
+of_other config error told before after gives same =
+    subst (λ (it : ServeError). StandGives config (Err it) before after) (sym same) gives
 
-pub unknown_is_told : (config : Config) (error : ServeError) (held : Option (List ℕ))
+-- that a start would be refused is told, and of any other failure nothing is written
+unserved_is_told : (config : Config) (error told : ServeError) (before after : Option (List ℕ))
+    → IsServeFault config error → TellsFailure error told before after
+    → StandGives config (Err told) before after
+unserved_is_told config (faults.Start fault) (faults.Start same) before after names tells =
+    let P : StartFault → Type 0 = λ it.
+    NamesBuffer config it × Appends before after (refusal_line it) in
+    subst P (sym tells.0) (names, tells.1)
+unserved_is_told config (faults.Start fault) faults.Memory before after names tells = (tt, tells)
+unserved_is_told config (faults.Start fault) faults.Unwritten before after names tells =
+    inr (fault, names, tells)
+unserved_is_told config (faults.Start fault) (faults.File lost) before after names none =
+    absurd none
+unserved_is_told config (faults.Start fault) (faults.Port lost) before after names none =
+    absurd none
+unserved_is_told config (faults.Start fault) faults.Control before after names none = absurd none
+unserved_is_told config (faults.Start fault) faults.Unseeded before after names none = absurd none
+unserved_is_told config (faults.Start fault) faults.NoThread before after names none = absurd none
+unserved_is_told config (faults.Start fault) (faults.Stop stopped) before after names none =
+    absurd none
+unserved_is_told config (faults.File lost) told before after names tells =
+    of_other config (faults.File lost) told before after (names, tells.1) tells.0
+unserved_is_told config (faults.Port lost) told before after none tells = absurd none
+unserved_is_told config faults.Control told before after none tells = absurd none
+unserved_is_told config (faults.Stop stopped) told before after fault tells =
+    of_other config (faults.Stop stopped) told before after (tt, tells.1) tells.0
+unserved_is_told config faults.Unseeded told before after fault tells =
+    of_other config faults.Unseeded told before after (tt, tells.1) tells.0
+unserved_is_told config faults.Memory told before after fault tells =
+    of_other config faults.Memory told before after (tt, tells.1) tells.0
+unserved_is_told config faults.NoThread told before after fault tells =
+    of_other config faults.NoThread told before after (tt, tells.1) tells.0
+unserved_is_told config faults.Unwritten told before after none tells = absurd none
+
+pub unknown_is_told : (config : Config) (error told : ServeError) (before after : Option (List ℕ))
     → (error ≡ faults.Control) ⊎ IsServeFault config error
-    → StandGives config (Err error) held held
-unknown_is_told config error held (inl control) =
-    let P : ServeError → Type 0 = λ it. StandGives config (Err it) held held in
-    subst P (sym control) (tt, kept held)
-unknown_is_told config error held (inr fault) = unserved_is_told config error held fault
+    → TellsFailure error told before after → StandGives config (Err told) before after
+unknown_is_told config error told before after (inl control) tells =
+    let now : TellsFailure faults.Control told before after =
+    subst (λ (it : ServeError). TellsFailure it told before after) control tells in
+    of_other config faults.Control told before after (tt, now.1) now.0
+unknown_is_told config error told before after (inr fault) tells =
+    unserved_is_told config error told before after fault tells

@@ -16,6 +16,7 @@ use Rattle.relay_folder.specs.declared.origin.Origin.TheVariants as origins
 use Rattle.relay_report.specs.declared.fault.ServeError.{ServeError}
 use Rattle.relay_report.specs.declared.fault.ServeError.TheVariants as faults
 use Rattle.relay_report.specs.declared.keeping.BufferFault.TheVariants.{NoHead}
+use Rattle.relay_report.specs.declared.keeping.HistoryFault.TheVariants.{Text}
 use Rattle.relay_report.specs.declared.keeping.StartFault.TheVariants as starts
 use Rattle.relay_startup.specs.Files.{IsFaultAt}
 
@@ -39,19 +40,25 @@ IsStopBegun config (origins.Stopped text) stop = IsStopIn config text.items stop
 
 -- the error says that there is no history of a relay of the configuration only where that is so
 abbrev pub TellsNone : Config → Option (List ℕ) → ServeError → Type 0
-TellsNone config kept error =
-    error ≡ faults.Start starts.BadHistory → (stop : ℕ) → IsStopOf config kept stop → ⊥
+TellsNone config kept (faults.Start (starts.BadHistory cause)) =
+    (stop : ℕ) → IsStopOf config kept stop → ⊥
+TellsNone config kept error = Unit {0}
 
--- why a text isn't read as a history is told so
+-- Why a text isn't read as a history that was read as one before, or was made of one: memory was
+-- refused. It is always one; if it were none any more, that would be told as any other text.
 abbrev pub no_history_as : HistoryError → ServeError
 no_history_as errors.Memory = faults.Memory
-no_history_as errors.BadHistory = faults.Start starts.BadHistory
+no_history_as errors.BadHistory = faults.Start (starts.BadHistory Text)
+
+-- there is no history of this configuration
+abbrev pub IsBadHistory : ServeError → Type 0
+IsBadHistory (faults.Start (starts.BadHistory cause)) = Unit {0}
+IsBadHistory error = ⊥
 
 -- memory was refused, or the history can't be had, or is none of this configuration
 abbrev pub IsHistoryFault : ServeError → Type 0
 IsHistoryFault error =
-    (error ≡ faults.Memory)
-    ⊎ ((error ≡ faults.Start starts.History) ⊎ (error ≡ faults.Start starts.BadHistory))
+    (error ≡ faults.Memory) ⊎ ((error ≡ faults.Start starts.History) ⊎ IsBadHistory error)
 
 -- THE FILES
 

@@ -1,4 +1,5 @@
 pub mod Adding
+pub mod Causes
 pub mod Faults
 pub mod Files
 pub mod History

@@ -1,15 +1,17 @@
 -- How the relay of a folder stands, of which `check` tells (docs/PROTOCOL.md, `check`).
-use Rattle.std.specs.Prelude.{◌≡◌, ◌≢◌, ◌++◌, ℕ, Bool, true, false, List, [], codes, Option, Result}
-use Rattle.std.specs.Prelude.{Ok, Err}
+use Rattle.std.specs.Prelude.{◌≡◌, ◌≢◌, ◌⊎◌, ◌++◌, ℕ, Bool, true, false, List, [], codes, Option}
+use Rattle.std.specs.Prelude.{Result, Ok, Err}
 use Rattle.std.specs.Io.KnownBytes.{Appends, Keeps}
 use Rattle.cyc_block.specs.declared.store.BlockStore.{Ghosts}
 use Rattle.relay_conf.specs.declared.settings.Config.{Config}
 use Rattle.first_start.specs.Completing.{IsCutShort}
 use Rattle.relay_folder.specs.Origin.{Beginning, Formats, Starts, begins_from}
-use Rattle.relay_report.specs.Serve.{NamesFault}
+use Rattle.relay_report.specs.Keeping.{start_text}
+use Rattle.relay_report.specs.Serve.{NamesBuffer, NamesFault}
 use Rattle.relay_report.specs.Written.{GainsFront}
 use Rattle.relay_report.specs.declared.fault.ServeError.{ServeError}
 use Rattle.relay_report.specs.declared.fault.ServeError.TheVariants as faults
+use Rattle.relay_report.specs.declared.keeping.StartFault.{StartFault}
 use Rattle.relay_startup.specs.Unstopped.{IsUnstoppedBy}
 use Rattle.relay_startup.specs.declared.standing.FolderStanding.{FolderStanding}
 use Rattle.relay_startup.specs.declared.standing.FolderStanding.TheVariants as standings
@@ -50,12 +52,36 @@ abbrev pub IsStanding : {S : Type 0} → Ghosts S → Config → (blank : Bool)
 IsStanding g config blank kept stores standing =
     IsStandingBy g config (begins_from false blank kept) stores standing
 
--- how the relay of the configuration stands was told in a line; or it isn't known, and nothing was
--- written; or the writer failed, with a front of the line
+-- that a start would be refused, and why, in the words of that
+abbrev pub refusal_line : StartFault → List ℕ
+refusal_line fault = codes "would not start: " ++ (start_text fault ++ codes "\n")
+
+-- that a start would be refused for this fault was told in a line, and is the answer; or memory was
+-- refused for the line, and nothing was written; or the writer failed, with a front of it
+abbrev pub TellsRefusal : StartFault → ServeError → (before after : Option (List ℕ)) → Type 0
+TellsRefusal fault (faults.Start told) before after =
+    (told ≡ fault) × Appends before after (refusal_line fault)
+TellsRefusal fault faults.Memory before after = Keeps before after
+TellsRefusal fault faults.Unwritten before after = GainsFront (refusal_line fault) before after
+TellsRefusal fault error before after = ⊥
+
+-- so it is where the failure is that a start would be refused; of any other nothing is written
+abbrev pub TellsFailure : ServeError → (told : ServeError) → (before after : Option (List ℕ))
+    → Type 0
+TellsFailure (faults.Start fault) told before after = TellsRefusal fault told before after
+TellsFailure error told before after = (told ≡ error) × Keeps before after
+
+-- how the relay of the configuration stands was told in a line; or that a start would be refused,
+-- which is the answer then; or it isn't known, and nothing was written; or the writer failed, with
+-- a front of one of both lines
 abbrev pub StandGives : Config → Result (Unit {0}) ServeError → (before after : Option (List ℕ))
     → Type 0
 StandGives config (Ok done) before after =
     (standing : FolderStanding) × Appends before after (standing_line standing)
+StandGives config (Err (faults.Start fault)) before after =
+    NamesBuffer config fault × Appends before after (refusal_line fault)
 StandGives config (Err faults.Unwritten) before after =
-    (standing : FolderStanding) × GainsFront (standing_line standing) before after
+    ((standing : FolderStanding) × GainsFront (standing_line standing) before after)
+    ⊎ ((fault : StartFault) × NamesBuffer config fault
+    × GainsFront (refusal_line fault) before after)
 StandGives config (Err error) before after = NamesFault config error × Keeps before after

@@ -10,6 +10,7 @@ use Rattle.relay_report.specs.declared.fault.ServeError.TheVariants as faults
 use Rattle.relay_report.specs.declared.keeping.BufferFault.{BufferFault}
 use Rattle.relay_report.specs.declared.keeping.BufferFault.TheVariants.{Device, NoHead, Unclosed}
 use Rattle.relay_report.specs.declared.keeping.BufferFault.TheVariants.{Damaged, Mixed}
+use Rattle.relay_report.specs.declared.keeping.HistoryFault.TheVariants.{Text}
 use Rattle.relay_report.specs.declared.keeping.StartFault.TheVariants as starts
 
 -- this buffer has this fault, by its name, or there was no memory to say so
@@ -28,14 +29,15 @@ abbrev pub IsFaultAtAny : Buffers → (number : Option ℕ) → BufferFault → 
 IsFaultAtAny settings (Some number) fault error = IsBufferFaultAt settings number fault error
 IsFaultAtAny settings None fault error = error ≡ faults.Memory
 
--- a start that is refused for this reason is told so: by the buffer of this number where the reason
--- is one of a buffer, else by the history, or as want of memory
+-- A start that is refused for this reason is told so: by the buffer of this number where the reason
+-- is one of a buffer, else by the history, or as want of memory. The text of the history was read
+-- before it is started from; if it were none any more, that would be told as any other text.
 abbrev pub IsRefusal : Buffers → (number : Option ℕ) → StopFault → ServeError → Type 0
 IsRefusal settings number reasons.Memory error = error ≡ faults.Memory
 IsRefusal settings number reasons.Device error = IsFaultAtAny settings number Device error
 IsRefusal settings number reasons.NoHead error = IsFaultAtAny settings number NoHead error
 IsRefusal settings number reasons.Unclosed error = IsFaultAtAny settings number Unclosed error
 IsRefusal settings number reasons.Damaged error = IsFaultAtAny settings number Damaged error
-IsRefusal settings number reasons.BadHistory error = error ≡ faults.Start starts.BadHistory
+IsRefusal settings number reasons.BadHistory error = error ≡ faults.Start (starts.BadHistory Text)
 IsRefusal settings number reasons.Mixed error = IsFaultAtAny settings number Mixed error
 IsRefusal settings number reasons.Ahead error = error ≡ faults.Start starts.Ahead

@@ -7,18 +7,23 @@
 //! the heads (`looked_at`), and what a repair of it goes by, reads and keeps is here too
 //! (`last_history`, `with_heads`, `keep_repaired`). No thread is started.
 //!
+//! Where there is no history of a relay of the configuration, the cause is told (`causes`); `laws`
+//! says that it is told exactly where a start refuses the text.
+//!
 //! `add_on` adds buffers to a relay that was stopped (docs/PROTOCOL.md, `add-buffer`), `stand_on`
 //! tells how the relay of a folder stands (docs/PROTOCOL.md, `check`).
 #![tactic(auto)]
 
 mod adding;
 mod begun;
+mod causes;
 mod completing;
 mod files;
 mod folding;
 mod found_heads;
 mod history;
 mod keeping;
+pub mod laws;
 mod looking;
 mod lost;
 mod reasons;

@@ -3,7 +3,7 @@ ghost use Rattle.std.specs.Prelude.{◌≡◌, ◌⊎◌, length, map, IfErr, If
 ghost use Rattle.file_blocks.specs.Store.{count_of};
 ghost use Rattle.relay_report.specs.declared.fault.ServeError.TheVariants as faults;
 ghost use Rattle.relay_startup.specs.Files.{IsFaultOf, IsFileFault};
-ghost use Rattle.relay_startup.specs.Looking.{StandGives};
+ghost use Rattle.relay_startup.specs.Looking.{StandGives, TellsFailure, TellsRefusal};
 ghost use Rattle.relay_startup.specs.Faults.{IsServeFault};
 
 use crate::adding::unasked;
@@ -14,14 +14,15 @@ use crate::standing::{FolderStanding, standing_by};
 use file_blocks::{FileBlocks, FittedFile};
 use relay_conf::{BufferConf, Buffers, Config};
 use relay_folder::{HostHistory, is_served};
-use relay_report::{Reason, ServeError, put};
+use relay_report::{Reason, ServeError, StartFault, put};
 use std::alloc::{AllocError, Global};
 use std::fs::{File, Files};
 use std::io::Write;
 use std::net::Net;
 
-/// Tells in a line how the relay of this configuration in a folder stands. Nothing is made, written
-/// or locked, and a relay that is served there is asked nothing.
+/// Tells in a line how the relay of this configuration in a folder stands, or that a start would be
+/// refused, and why. Nothing is made, written or locked, and a relay that is served there is asked
+/// nothing.
 pub fn stand_on<R, W: Write>(
     rt: &R,
     alloc: Global,
@@ -35,11 +36,47 @@ where
 {
     let standing = match standing_there(rt, alloc, config, folder) {
         Ok(standing) => standing,
-        Err(error) => return Err(error),
+        Err(error) => return Err(tell_failure(alloc, error, writer)),
     };
     match put(writer, standing.line()) {
         Ok(()) => Ok(()),
         Err(_) => Err(ServeError::Unwritten),
+    }
+}
+
+/// What is answered where a start would be refused, which is told in a line, or where it isn't
+/// known how a relay stands.
+#[tactic(auto, using(crate::proofs::Looks::kept))]
+fn tell_failure<W: Write>(alloc: Global, error: ServeError, writer: &mut W) -> ServeError
+    ensures { TellsFailure error result (W.contents writer.old) (W.contents writer.new) }
+{
+    match error {
+        ServeError::Start(fault) => tell_refusal(alloc, fault, writer),
+        error => error,
+    }
+}
+
+/// Tells in a line that a start would be refused for this fault, which is the answer. There is none
+/// where memory is refused for the line, or the writer fails.
+#[tactic(auto, using(crate::proofs::Looks::kept))]
+fn tell_refusal<W: Write>(alloc: Global, fault: StartFault, writer: &mut W) -> ServeError
+    ensures { TellsRefusal fault result (W.contents writer.old) (W.contents writer.new) }
+{
+    let line = match format!(in alloc; "would not start: {fault}\n") {
+        Ok(line) => line,
+        Err(_) => {
+            drop(fault);
+            return ServeError::Memory;
+        }
+    };
+    let written = put(writer, line.as_bytes());
+    drop(line);
+    match written {
+        Ok(()) => ServeError::Start(fault),
+        Err(_) => {
+            drop(fault);
+            ServeError::Unwritten
+        }
     }
 }
 

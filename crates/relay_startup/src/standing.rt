@@ -1,14 +1,17 @@
 //! How the relay of a folder stands.
-ghost use Rattle.std.specs.Prelude.{◌≡◌, ℕ, IfErr, IfOk, OnOk};
+ghost use Rattle.std.specs.Prelude.{◌≡◌, ℕ, All, IfErr, IfOk, OnOk};
 ghost use Rattle.block_shelf.specs.Each.{AreEach};
 ghost use Rattle.cyc_buffer.specs.Reads.{StaysHeld};
 ghost use Rattle.first_start.specs.Completing.{IsCutShort};
 ghost use Rattle.relay_folder.specs.Keeping.{IsAsBefore};
 ghost use Rattle.relay_report.specs.declared.fault.ServeError.TheVariants as faults;
+ghost use Rattle.relay_report.specs.declared.keeping.HistoryFault.TheVariants.{Missing};
 ghost use Rattle.relay_report.specs.declared.keeping.StartFault.TheVariants as starts;
 ghost use Rattle.relay_startup.specs.Looking as told;
 ghost use Rattle.relay_startup.specs.Looking.{IsStanding, IsStandingOf};
+ghost use Rattle.relay_startup.specs.Causes.{TellsCause};
 ghost use Rattle.relay_startup.specs.Faults.{IsServeFault};
+ghost use Rattle.relay_startup.specs.Unstopped.{kept_text};
 ghost use Rattle.relay_startup.specs.declared.standing.FolderStanding.TheVariants as standings;
 
 use crate::history::unread;
@@ -17,7 +20,7 @@ use cyc_block::BlockStore;
 use first_start::is_cut_short;
 use relay_conf::Config;
 use relay_folder::{HistoryPlace, Origin, origin_of};
-use relay_report::{ServeError, StartFault};
+use relay_report::{HistoryFault, ServeError, StartFault};
 use std::alloc::Global;
 
 /// How the relay of a folder stands.
@@ -62,6 +65,8 @@ pub(crate) fn standing_by<S: BlockStore, H: HistoryPlace>(
     ensures same { H.honest history.old → IsAsBefore H.HistoryPlace history.old history.new }
     ensures held { OnOk result
         (AreEach (λ (b : ℕ). StaysHeld ⟦<S as BlockStore>⟧) stores.old stores.new) }
+    ensures cause { H.honest history.old → All S.honest stores.old
+        → IfErr result (TellsCause config.now (H.kept history.old)) }
     ensures fault { IfErr result (IsServeFault config.now) }
 {
     match origin_of(alloc, history, false, blank) {
@@ -86,6 +91,8 @@ fn standing_of_text<S: BlockStore>(
         (IsStandingOf ⟦<S as BlockStore>⟧ config.now text.now stores.old) }
     ensures held { OnOk result
         (AreEach (λ (b : ℕ). StaysHeld ⟦<S as BlockStore>⟧) stores.old stores.new) }
+    ensures cause { All S.honest stores.old
+        → IfErr result (TellsCause config.now (kept_text text.now)) }
     ensures fault { IfErr result (IsServeFault config.now) }
 {
     match is_unstopped(alloc, config, stores, text) {
@@ -102,10 +109,10 @@ fn standing_without<S: BlockStore>(stores: &mut [S]) -> Result<FolderStanding, S
     ensures told { IfOk result (λ standing.
         (standing ≡ standings.Unbegun) × IsCutShort ⟦<S as BlockStore>⟧ stores.old) }
     ensures held { AreEach (λ (b : ℕ). StaysHeld ⟦<S as BlockStore>⟧) stores.old stores.new }
-    ensures fault { IfErr result (λ error. error ≡ faults.Start starts.BadHistory) }
+    ensures fault { IfErr result (λ error. error ≡ faults.Start (starts.BadHistory Missing)) }
 {
     if is_cut_short(stores) {
         return Ok(FolderStanding::Unbegun);
     }
-    Err(ServeError::Start(StartFault::BadHistory))
+    Err(ServeError::Start(StartFault::BadHistory(HistoryFault::Missing)))
 }

@@ -6,7 +6,7 @@ ghost use Rattle.std.specs.Prelude.{Some};
 
 use block_shelf::StopFault;
 use relay_conf::{BufferConf, Buffers};
-use relay_report::{BufferFault, ServeError, StartFault};
+use relay_report::{BufferFault, HistoryFault, ServeError, StartFault};
 use std::alloc::Global;
 
 /// Why a relay can't start: the start was refused for this reason, the fault of the buffer of this
@@ -25,7 +25,7 @@ pub fn refusal(
         StopFault::NoHead => told(alloc, settings, number, BufferFault::NoHead),
         StopFault::Unclosed => told(alloc, settings, number, BufferFault::Unclosed),
         StopFault::Damaged => told(alloc, settings, number, BufferFault::Damaged),
-        StopFault::BadHistory => ServeError::Start(StartFault::BadHistory),
+        StopFault::BadHistory => ServeError::Start(StartFault::BadHistory(HistoryFault::Text)),
         StopFault::Mixed => told(alloc, settings, number, BufferFault::Mixed),
         StopFault::Ahead => ServeError::Start(StartFault::Ahead),
     }

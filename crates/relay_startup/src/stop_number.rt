@@ -1,16 +1,18 @@
-//! The number of the stop that a relay's history is of.
+//! The number of the stop that a relay's history is of, or the cause why there is no history.
 ghost use Rattle.std.specs.Prelude.{◌≡◌, IfErr, IfOk};
 ghost use Rattle.relay_startup.specs.Adding.{IsHistoryFault, IsStopBegun, IsStopIn, IsStopOf};
 ghost use Rattle.relay_startup.specs.Adding.{TellsNone, no_history_as};
+ghost use Rattle.relay_startup.specs.Causes.{HasStopOrCause, TellsCause, TellsCauseBegun};
 ghost use Rattle.std.specs.Prelude.{Some};
 
+use crate::causes::unfit;
 use crate::history::unread;
-use id_history::HistoryError;
+use id_history::{HistoryError, read_any};
 use relay_conf::Config;
-use relay_core::read_history;
+use relay_core::rings;
 use relay_folder::{HistoryPlace, Origin};
-use relay_report::{ServeError, StartFault};
-use std::alloc::Global;
+use relay_report::{HistoryFault, ServeError, StartFault};
+use std::alloc::{AllocError, Global};
 
 /// The number of the stop of the history that is kept, which has to be one of this configuration.
 /// Nothing is changed.
@@ -21,12 +23,13 @@ pub(crate) fn stop_kept<P: HistoryPlace>(
 ) -> Result<u64, ServeError>
     ensures stop { P.honest place.old → IfOk result (IsStopOf config.now (P.kept place.old)) }
     ensures none { P.honest place.old → IfErr result (TellsNone config.now (P.kept place.old)) }
+    ensures cause { P.honest place.old → IfErr result (TellsCause config.now (P.kept place.old)) }
     ensures same { P.honest place.old → P.kept place.new ≡ P.kept place.old }
     ensures fault { IfErr result IsHistoryFault }
 {
     match place.read(alloc) {
         Ok(Some(text)) => stop_in(alloc, config, &text),
-        Ok(None) => Err(ServeError::Start(StartFault::BadHistory)),
+        Ok(None) => Err(ServeError::Start(StartFault::BadHistory(HistoryFault::Missing))),
         Err(error) => Err(unread(error.kind())),
     }
 }
@@ -35,21 +38,48 @@ pub(crate) fn stop_kept<P: HistoryPlace>(
 pub(crate) fn stop_in(alloc: Global, config: &Config, text: &[u8]) -> Result<u64, ServeError>
     ensures stop { IfOk result (IsStopIn config.now text.now) }
     ensures none { IfErr result (TellsNone config.now (Some text.now)) }
+    ensures cause { IfErr result (TellsCause config.now (Some text.now)) }
     ensures fault { IfErr result IsHistoryFault }
 {
-    match read_history(alloc, config, text) {
+    match stop_or_cause(alloc, config, text) {
+        Ok(Ok(stop)) => Ok(stop),
+        Ok(Err(cause)) => Err(ServeError::Start(StartFault::BadHistory(cause))),
+        Err(_) => Err(ServeError::Memory),
+    }
+}
+
+/// The number of the stop of the history that a text is, or the cause why it is none of this
+/// configuration. Reading takes a time that is linear in the text.
+fn stop_or_cause(
+    alloc: Global,
+    config: &Config,
+    text: &[u8],
+) -> Result<Result<u64, HistoryFault>, AllocError>
+    ensures { IfOk result (HasStopOrCause config.now text.now) }
+{
+    if text.is_empty() {
+        return Ok(Err(HistoryFault::Missing));
+    }
+    let rings = rings(alloc, &config.relay.feeds)?;
+    match read_any(alloc, text) {
         Ok(history) => {
+            let cause = unfit(config, &rings, &history);
             let stop = history.stop;
             drop(history);
-            Ok(stop)
+            match cause {
+                None => Ok(Ok(stop)),
+                Some(cause) => Ok(Err(cause)),
+            }
         }
-        Err(error) => Err(no_history(error)),
+        Err(HistoryError::BadHistory) => Ok(Err(HistoryFault::Text)),
+        Err(HistoryError::Memory) => Err(AllocError),
     }
 }
 
 /// The number of the stop that a relay goes on from: 0 where it begins from nothing.
 pub fn stop_begun(alloc: Global, config: &Config, origin: &Origin) -> Result<u64, ServeError>
     ensures stop { IfOk result (IsStopBegun config.now origin.now) }
+    ensures cause { IfErr result (TellsCauseBegun config.now origin.now) }
     ensures fault { IfErr result IsHistoryFault }
 {
     match origin {
@@ -58,13 +88,13 @@ pub fn stop_begun(alloc: Global, config: &Config, origin: &Origin) -> Result<u64
     }
 }
 
-/// Why a text isn't read as a history: it is none, or memory was refused.
+/// Why a text isn't read as a history that was read as one before, or was made of one.
 pub(crate) fn no_history(error: HistoryError) -> ServeError
     ensures error { result ≡ no_history_as error }
     ensures fault { IsHistoryFault result }
 {
     match error {
         HistoryError::Memory => ServeError::Memory,
-        HistoryError::BadHistory => ServeError::Start(StartFault::BadHistory),
+        HistoryError::BadHistory => ServeError::Start(StartFault::BadHistory(HistoryFault::Text)),
     }
 }

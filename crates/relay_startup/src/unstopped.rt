@@ -1,12 +1,13 @@
 //! Whether a relay was left without a stop, by its last history and the heads of its buffers
 //! (docs/PROTOCOL.md, Crashes: the relay).
-ghost use Rattle.std.specs.Prelude.{◌≡◌, ◌<◌, ◌^◌, ◌↔◌, ℕ, IfErr, IfOk, IsTrue, None, OnOk};
+ghost use Rattle.std.specs.Prelude.{◌≡◌, ◌<◌, ◌^◌, ◌↔◌, ℕ, All, IfErr, IfOk, IsTrue, None, OnOk};
 ghost use Rattle.std.specs.Prelude.{Some, length, map};
 ghost use Rattle.block_shelf.specs.Each.{AreEach};
 ghost use Rattle.block_shelf.specs.Starting.{IsUnwritten};
 ghost use Rattle.block_shelf.specs.declared.starting.StopFault.TheVariants as stops;
 ghost use Rattle.relay_repair.specs.Telling.{octets_in};
 ghost use Rattle.relay_startup.specs.Adding.{IsHistoryFault};
+ghost use Rattle.relay_startup.specs.Causes.{TellsCause};
 ghost use Rattle.relay_startup.specs.Faults.{IsServeFault};
 ghost use Rattle.relay_startup.specs.Starting.{IsRefusal};
 ghost use Rattle.relay_startup.specs.Unstopped.{IsLastStop, IsUnstoppedBy, kept_text};
@@ -35,6 +36,8 @@ pub fn looked_at<S: Synced + Drop>(
         AreEach (IsUnwritten ⟦<S as BlockStore>⟧ None) stores.items looked.0.items) }
     ensures blocks { IfOk result (λ looked. map (λ store. length (S.blocks store)) looked.0.items
         ≡ map (λ store. length (S.blocks store)) stores.items) }
+    ensures cause { All S.honest stores.items
+        → IfErr result (TellsCause config.now (kept_text text.now)) }
     ensures fault { IfErr result (IsServeFault config.now) }
 {
     let mut stores = stores;
@@ -60,6 +63,8 @@ pub(crate) fn is_unstopped<S: BlockStore>(
         (AreEach (IsUnwritten ⟦<S as BlockStore>⟧ None) stores.old stores.new) }
     ensures blocks { map (λ store. length (S.blocks store)) stores.new
         ≡ map (λ store. length (S.blocks store)) stores.old }
+    ensures cause { All S.honest stores.old
+        → IfErr result (TellsCause config.now (kept_text text.now)) }
     ensures fault { IfErr result (IsServeFault config.now) }
 {
     let stop = last_stop(alloc, config, text)?;
@@ -96,6 +101,7 @@ fn is_of_device(error: StopFault) -> bool
 /// history of this configuration, or want of memory.
 fn last_stop(alloc: Global, config: &Config, text: &[u8]) -> Result<u64, ServeError>
     ensures stop { IfOk result (IsLastStop config.now (kept_text text.now)) }
+    ensures cause { IfErr result (TellsCause config.now (kept_text text.now)) }
     ensures fault { IfErr result IsHistoryFault }
 {
     if text.is_empty() {
