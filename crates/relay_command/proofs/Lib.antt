@@ -4,6 +4,7 @@ pub mod Checks
 pub mod CommandLines
 pub mod Explains
 pub mod FilesRead
+pub mod Helps
 pub mod Memories
 pub mod Numbers
 pub mod Questions

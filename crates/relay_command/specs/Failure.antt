@@ -6,14 +6,13 @@ use Rattle.std.specs.declared.io.ErrorKind as io
 use Rattle.std.specs.declared.io.ErrorKind.TheVariants as kinds
 use Rattle.clap.specs.Words.{kind_of}
 use Rattle.clap.specs.declared.error.kind.ErrorKind.{ErrorKind}
-use Rattle.clap.specs.declared.error.kind.ErrorKind.TheVariants.{DisplayVersion, OutOfMemory}
+use Rattle.clap.specs.declared.error.kind.ErrorKind.TheVariants.{OutOfMemory}
 use Rattle.relay_drill.specs.Text.{text_of}
 use Rattle.relay_drill.specs.declared.fault.DrillError.TheVariants as drill
 use Rattle.relay_command.specs.Ask.{ask_text}
 use Rattle.relay_command.specs.Check.{check_text}
 use Rattle.relay_command.specs.Explain.{explain_text}
 use Rattle.relay_command.specs.Tell.{fault_text}
-use Rattle.relay_command.specs.Version.{version_line}
 use Rattle.relay_command.specs.declared.ask.AskError.TheVariants as ask
 use Rattle.relay_command.specs.declared.load.CheckError as load
 use Rattle.relay_command.specs.declared.load.CheckError.TheVariants as check
@@ -106,21 +105,9 @@ failure_text (Serve error) = Some (serving.text_of error)
 failure_text (Ask error) = Some (ask_text error)
 failure_text Unwritten = Some (codes "stdout: unwritten")
 
--- what is told of words that are no command line, or ask for help or the version; but for the
--- version it is clap's text, of which nothing is known
-abbrev pub words_text : ErrorKind → Option (List ℕ)
-words_text DisplayVersion = Some version_line
-words_text kind = None
-
--- what is told of a failure: what it says, in a line of its own; of words what is told of these
+-- what is told of a failure: what it says, in a line of its own
 abbrev pub told_of : Failure → Option (List ℕ)
-told_of (Words error) = words_text (kind_of error)
 told_of failure = option_map ended (failure_text failure)
-
--- what is told of words with a fault of this kind was written
-abbrev pub TellsWords : ErrorKind → (before after : Option (List ℕ)) → Type 0
-TellsWords kind before after =
-    MatchOption (words_text kind) ⊤ (λ text. Appends before after text)
 
 -- where all went well nothing was written, else what is told of the failure
 abbrev pub Tells : Result (Unit {0}) Failure → (before after : Option (List ℕ)) → Type 0

@@ -6,6 +6,7 @@ pub mod Explain
 pub mod Failure
 pub mod Files
 pub mod Gathered
+pub mod Help
 pub mod Numbers
 pub mod Questions
 pub mod Run

@@ -1,5 +1,5 @@
 -- What a run of the program does (docs/PROTOCOL.md, Program).
-use Rattle.std.specs.Prelude.{◌≡◌, ◌≢◌, ℕ, Bool, List, codes, Option, Some, Result, Ok, Err}
+use Rattle.std.specs.Prelude.{◌≡◌, ◌≢◌, ◌⊎◌, ℕ, Bool, List, codes, Option, Some, Result, Ok, Err}
 use Rattle.std.specs.Io.KnownBytes.{Appends, Keeps}
 use Rattle.clap.specs.Words.{Text}
 use Rattle.relay_conf.specs.declared.settings.Config.{Config}
@@ -10,9 +10,10 @@ use Rattle.relay_command.specs.Ask.{Asking, AsksIn}
 use Rattle.relay_command.specs.Check.{HasError, IsIn, IsUnchecked, counted}
 use Rattle.relay_command.specs.CommandLine.{Asked, Drills, Checks, Explains, Tells, Serves}
 use Rattle.relay_command.specs.CommandLine.{Adds, Stops, Reports}
-use Rattle.relay_command.specs.CommandLine.{IsAskedBy, IsRefusedBy}
+use Rattle.relay_command.specs.CommandLine.{IsAskedBy}
 use Rattle.relay_command.specs.Explain.{ExplainsFolder}
 use Rattle.relay_command.specs.Files.{CannotBeRead}
+use Rattle.relay_command.specs.Help.{AreAtFault, GivesFront, GivesHelp}
 use Rattle.relay_command.specs.Serving.{Serving}
 use Rattle.relay_command.specs.Tell.{TellGives}
 use Rattle.relay_command.specs.declared.ask.Form.{Form}
@@ -21,8 +22,8 @@ use Rattle.relay_command.specs.declared.ask.Request.{Request}
 use Rattle.relay_command.specs.declared.ask.Request.TheVariants.{Stop, Report}
 use Rattle.relay_command.specs.declared.failure.Failure.{Failure}
 use Rattle.relay_command.specs.declared.failure.Failure.TheVariants.{Words, Check, Drill, Serve}
-use Rattle.relay_command.specs.declared.failure.Failure.TheVariants.{Token, Ask}
-use Rattle.relay_command.specs.declared.load.CheckError.TheVariants.{Unwritten}
+use Rattle.relay_command.specs.declared.failure.Failure.TheVariants.{Token, Ask, Unwritten}
+use Rattle.relay_command.specs.declared.load.CheckError.TheVariants as check
 use Rattle.relay_adding.specs.Telling.{AddGives}
 use Rattle.relay_report.specs.Serve.{ServeGives}
 use Rattle.relay_report.specs.Written.{GainsFront}
@@ -168,14 +169,26 @@ Performs serving adding standing asking (Reports folder form) result input befor
 Performs serving adding standing asking (Adds folder) result input before after =
     AddsFolder adding folder result before after
 
--- what the words ask for is done or failed; or they ask for nothing, and nothing was written
-abbrev pub RunGives : Serving → Adding → Standing → Asking → List Text → Result (Unit {0}) Failure
+-- what the words ask for is done, or failed with a failure of its own
+abbrev pub DoesAsked : Serving → Adding → Standing → Asking → List Text → Result (Unit {0}) Failure
     → (input before after : Option (List ℕ)) → Type 0
-RunGives serving adding standing asking words (Err (Words error)) input before after =
-    IsRefusedBy words error × Keeps before after
-RunGives serving adding standing asking words result input before after =
+DoesAsked serving adding standing asking words result input before after =
     (asked : Asked) × IsAskedBy words asked
     × Performs serving adding standing asking asked result input before after
+
+-- What the words ask for is done or failed. Where they ask for help or the version, that was
+-- written, or a front of it. Where they are at fault nothing was written.
+abbrev pub RunGives : Serving → Adding → Standing → Asking → List Text → Result (Unit {0}) Failure
+    → (input before after : Option (List ℕ)) → Type 0
+RunGives serving adding standing asking words (Ok done) input before after =
+    DoesAsked serving adding standing asking words (Ok done) input before after
+    ⊎ GivesHelp words before after
+RunGives serving adding standing asking words (Err Unwritten) input before after =
+    GivesFront words before after
+RunGives serving adding standing asking words (Err (Words error)) input before after =
+    AreAtFault words error × Keeps before after
+RunGives serving adding standing asking words result input before after =
+    DoesAsked serving adding standing asking words result input before after
 
 -- STEP BY STEP
 
@@ -186,6 +199,6 @@ TellsConfig standing config folder (Ok done) before after =
     TellsStanding standing config folder (Ok done) before after
 TellsConfig standing config folder (Err (Serve error)) before after =
     TellsStanding standing config folder (Err error) before after
-TellsConfig standing config folder (Err (Check Unwritten)) before after =
+TellsConfig standing config folder (Err (Check check.Unwritten)) before after =
     GainsFront (counted config) before after
 TellsConfig standing config folder (Err failure) before after = ⊥

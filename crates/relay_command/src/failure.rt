@@ -3,13 +3,12 @@ ghost use Rattle.std.specs.Prelude.{◌≡◌, Some, OnOk};
 ghost use Rattle.std.specs.Process.{exit_status};
 ghost use Rattle.clap.specs.Words.{kind_of};
 ghost use Rattle.relay_command.specs.Failure.{ends_with, failure_text, status_of, Tells};
-ghost use Rattle.relay_command.specs.Failure.{TellsWords, check_status, unbegun_text, words_status};
+ghost use Rattle.relay_command.specs.Failure.{check_status, unbegun_text, words_status};
 
 use crate::ask::AskError;
 use crate::explain::Unexplained;
 use crate::load::CheckError;
 use crate::token::TokenFault;
-use crate::version::tell_version;
 use clap::error::ErrorKind;
 use relay_drill::DrillError;
 use relay_report::ServeError;
@@ -52,7 +51,7 @@ impl error::Error for Unbegun {}
 pub enum Failure {
     /// The words could not be had, or there was no memory for the output.
     Unbegun(Unbegun),
-    /// The words are no command line, or ask for help or the version.
+    /// The words are no command line; or memory ran out as they were read, or as help was made.
     Words(clap::Error),
     /// A configuration can't be had, or is not told.
     Check(CheckError),
@@ -142,8 +141,7 @@ impl Failure {
     }
 }
 
-/// The status where the words ask for nothing that is done: they are no command line, or ask for
-/// help or the version, unless memory ran out.
+/// The status where the words are no command line, unless memory ran out.
 fn words_status(error: &clap::Error) -> u8
     ensures { result ≡ words_status (kind_of error.now) }
 {
@@ -164,26 +162,15 @@ fn check_status(error: &CheckError) -> u8
     }
 }
 
-/// Writes the text of the failure where there is one: what goes to standard error.
+/// Writes the text of the failure where there is one: what goes to standard error. Clap's has the
+/// line's end.
 pub fn print_failure<W: Write>(ran: &Result<(), Failure>, writer: &mut W) -> io::Result<()>
     ensures { OnOk result (Tells ran.now (W.contents writer.old) (W.contents writer.new)) }
 {
     match ran {
         Ok(()) => Ok(()),
-        Err(Failure::Words(error)) => print_words(error, writer),
+        Err(Failure::Words(error)) => write!(writer, "{error}"),
         Err(failure) => writeln!(writer, "{failure}"),
-    }
-}
-
-/// Writes what is told where the words ask for nothing that is done: the version where they ask for
-/// that, else clap's text.
-fn print_words<W: Write>(error: &clap::Error, writer: &mut W) -> io::Result<()>
-    ensures { OnOk result
-        (TellsWords (kind_of error.now) (W.contents writer.old) (W.contents writer.new)) }
-{
-    match error.kind() {
-        ErrorKind::DisplayVersion => tell_version(writer),
-        _ => write!(writer, "{error}"),
     }
 }
 

@@ -15,6 +15,7 @@ mod explain;
 mod failure;
 mod file;
 mod gathered;
+mod help;
 mod load;
 mod look;
 mod program;

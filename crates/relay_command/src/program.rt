@@ -22,6 +22,7 @@ use crate::explain::explain_folder;
 use crate::failure::{Failure, Unbegun};
 use crate::file::read_file;
 use crate::gathered::hand_on;
+use crate::help::help;
 use crate::load::load;
 use crate::serve::serve_in;
 use crate::token::tell;
@@ -109,7 +110,7 @@ where
     hand_on(ran, writer)
 }
 
-/// Does what the words ask for.
+/// Does what the words ask for, or tells the help or the version that they ask for.
 fn obey<S: Files + RandomSource, R: Read, W: Write, V, D, T, A>(
     rt: &S,
     alloc: Global,
@@ -143,7 +144,7 @@ where
             drop(job);
             done
         }
-        Err(error) => Err(Failure::Words(error)),
+        Err(error) => help(alloc, error, writer),
     }
 }
 

@@ -3,6 +3,7 @@ mod Joined
 mod LineWhere
 mod Places
 mod Puts
+mod Rooms
 mod SaidEntries
 mod Shadows
 mod Smalls

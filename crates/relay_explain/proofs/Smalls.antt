@@ -10,12 +10,12 @@ use Rattle.relay_explain.specs.Buffers.{room_of}
 use Rattle.relay_explain.specs.Choice.{first_small}
 
 -- a buffer that is there, where it has no room, else what is found of those that are left
-abbrev small_or : Option BufferConf → (size : ℕ) → Option BufferConf → Option BufferConf
+abbrev pub small_or : Option BufferConf → (size : ℕ) → Option BufferConf → Option BufferConf
 small_or None size rest = rest
 small_or (Some one) size rest = if nat_lt (room_of one.blocks) size then Some one else rest
 
 -- the buffer of a number, where there is one, and those that are left
-small_one : (buffers : List BufferConf) (size n : ℕ) (rest : List ℕ) (o : Option BufferConf)
+pub small_one : (buffers : List BufferConf) (size n : ℕ) (rest : List ℕ) (o : Option BufferConf)
     → slice_get buffers n ≡ o
     → first_small buffers (n ∷ rest) size ≡ small_or o size (first_small buffers rest size)
 unfolding first_small

@@ -1,9 +1,16 @@
 //! What follows from the definitions of what is odd.
-ghost use Rattle.std.specs.Prelude.{◌≡◌, ◌∷◌, ℕ, List, IsFalse, IsTrue};
+ghost use Rattle.std.specs.Prelude.{◌≡◌, ◌∷◌, ℕ, List, IsFalse, IsTrue, Some, slice_get};
 ghost use Rattle.std.specs.List.{list_any};
+ghost use Rattle.std.specs.Option.{is_none};
 ghost use Rattle.news_terms.specs.Pattern.{IsExpressionText, Marked, is_match, verdict};
+ghost use Rattle.news_terms.specs.Places.{size_of};
 ghost use Rattle.news_terms.specs.StorageClass.{takes};
+ghost use Rattle.relay_conf.specs.Settings.{places_of_groups};
 ghost use Rattle.relay_conf.specs.Storage.{entry_view};
+ghost use Rattle.relay_conf.specs.declared.cycbuff.GroupConf as confs;
+ghost use Rattle.relay_conf.specs.declared.settings.Buffers as settings;
+ghost use Rattle.relay_model.specs.Judging.{fits};
+ghost use Rattle.relay_explain.specs.Choice.{first_small};
 ghost use Rattle.relay_explain.specs.Entries.{IsSpelled, Said, shadows};
 ghost use Rattle.relay_explain.specs.Patterns.{has_taking, is_taking};
 
@@ -29,4 +36,13 @@ pub fn untaken_newsgroups_do_not_match()
     ensures { (text : List ℕ) (expression : List Marked) (c : ℕ) (name : List ℕ)
         → IsExpressionText text expression → IsFalse (has_taking text)
         → IsFalse (is_match (verdict expression (c ∷ name))) }
+{}
+
+/// A buffer of a group is told to have no room for an article exactly where the relay finds that the
+/// group has none for it.
+pub fn rooms_are_the_relays()
+    ensures { (buffers : settings.Buffers) (number size : ℕ) (group : confs.GroupConf)
+        → slice_get buffers.groups.items number ≡ Some group
+        → fits (slice_get (places_of_groups buffers) number) (size_of size)
+        ≡ is_none (first_small buffers.buffers.items group.buffers.items size) }
 {}
