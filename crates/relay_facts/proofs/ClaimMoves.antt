@@ -4,11 +4,12 @@ use Rattle.std.proofs.Common.{◌≡◌, ◌∙◌, ℕ, ◌+◌, ◌≤◌, ◌
 use Rattle.std.proofs.Common.{Option}
 use Rattle.std.proofs.Common.{None}
 use Rattle.std.proofs.Common.{Some, if◌then◌else◌, refl, sym, ap, subst, true≢false}
+use Rattle.std.proofs.lemmas.Bool.{cond_both}
 use Rattle.news_terms.specs.Token.{Token}
 use Rattle.relay_model.specs.Claims.{Accepted, Claim, Unknown, Offered, Storing, Stored, Refused}
 use Rattle.relay_model.specs.Claims.{Waiting, Begun, Failed, Whole, Passed, is_passed, after_offer}
 use Rattle.relay_model.specs.Claims.{after_take, after_refuse, after_release, after_expire}
-use Rattle.relay_model.specs.Claims.{after_restart}
+use Rattle.relay_model.specs.Claims.{after_restart, has_run_out, standing}
 use Rattle.relay_model.specs.OnRecord.{IsTimed}
 use Rattle.relay_model.specs.Run.{forgetting, shard_of}
 use Rattle.relay_model.specs.State.{put_id}
@@ -18,7 +19,7 @@ use Rattle.relay_facts.proofs.Puts.{put_id_both, same_id}
 -- nothing is begun for the message-id, and nothing is stored
 abbrev pub is_early : Claim → Bool
 is_early Unknown = true
-is_early (Offered session) = true
+is_early (Offered session since) = true
 is_early (Storing session article Waiting) = true
 is_early (Storing session article (Begun token)) = false
 is_early (Storing session article Failed) = false
@@ -40,38 +41,48 @@ by_test before one other true first second = first
 by_test before one other false first second = second
 
 -- CHECK and IHAVE
-pub offer_goes : (s : ℕ) (claim : Claim) → ClaimGoes claim (after_offer s claim)
-offer_goes s Unknown = IsEarly refl refl tt
-offer_goes s (Offered other) = Stays refl
-offer_goes s (Storing other article stage) = Stays refl
-offer_goes s (Stored token moment) = Stays refl
-offer_goes s (Refused moment) = Stays refl
+pub offer_goes : (offers : Option ℕ) (s now : ℕ) (claim : Claim)
+    → ClaimGoes claim (after_offer s now (standing offers now claim))
+offer_goes offers s now Unknown = IsEarly refl refl tt
+offer_goes offers s now (Offered other since) =
+    cond_both (has_run_out offers since now) Unknown (Offered other since)
+    (λ claim. ClaimGoes (Offered other since) (after_offer s now claim))
+    (λ e. IsEarly refl refl tt)
+    (λ e. by_test (Offered other since) (Offered s now) (Offered other since) (other == s)
+    (IsEarly refl refl tt) (Stays refl))
+offer_goes offers s now (Storing other article stage) = Stays refl
+offer_goes offers s now (Stored token moment) = Stays refl
+offer_goes offers s now (Refused moment) = Stays refl
 
 -- an article that was accepted
 pub take_goes : (s : ℕ) (article : Accepted) (claim : Claim)
     → ClaimGoes claim (after_take s article claim)
 take_goes s article Unknown = IsEarly refl refl tt
-take_goes s article (Offered other) = IsEarly refl refl tt
+take_goes s article (Offered other since) = IsEarly refl refl tt
 take_goes s article (Storing other stored stage) = Stays refl
 take_goes s article (Stored token moment) = Stays refl
 take_goes s article (Refused moment) = Stays refl
 
 -- an article that was refused
-pub refuse_goes : (s now : ℕ) → now ≤ last_moment → (claim : Claim)
-    → ClaimGoes claim (after_refuse s now claim)
-refuse_goes s now timed Unknown = IsEarly refl refl timed
-refuse_goes s now timed (Offered other) =
-    by_test (Offered other) (Refused now) (Offered other) (other == s) (IsEarly refl refl timed)
-    (Stays refl)
-refuse_goes s now timed (Storing other article stage) = Stays refl
-refuse_goes s now timed (Stored token moment) = Stays refl
-refuse_goes s now timed (Refused moment) = Stays refl
+pub refuse_goes : (offers : Option ℕ) (s now : ℕ) → now ≤ last_moment → (claim : Claim)
+    → ClaimGoes claim (after_refuse s now (standing offers now claim))
+refuse_goes offers s now timed Unknown = IsEarly refl refl timed
+refuse_goes offers s now timed (Offered other since) =
+    cond_both (has_run_out offers since now) Unknown (Offered other since)
+    (λ claim. ClaimGoes (Offered other since) (after_refuse s now claim))
+    (λ e. IsEarly refl refl timed)
+    (λ e. by_test (Offered other since) (Refused now) (Offered other since) (other == s)
+    (IsEarly refl refl timed) (Stays refl))
+refuse_goes offers s now timed (Storing other article stage) = Stays refl
+refuse_goes offers s now timed (Stored token moment) = Stays refl
+refuse_goes offers s now timed (Refused moment) = Stays refl
 
 -- an open offer that ends
 pub release_goes : (s : ℕ) (claim : Claim) → ClaimGoes claim (after_release s claim)
 release_goes s Unknown = Stays refl
-release_goes s (Offered other) =
-    by_test (Offered other) Unknown (Offered other) (other == s) (IsEarly refl refl tt) (Stays refl)
+release_goes s (Offered other since) =
+    by_test (Offered other since) Unknown (Offered other since) (other == s)
+    (IsEarly refl refl tt) (Stays refl)
 release_goes s (Storing other article stage) = Stays refl
 release_goes s (Stored token moment) = Stays refl
 release_goes s (Refused moment) = Stays refl
@@ -80,7 +91,7 @@ release_goes s (Refused moment) = Stays refl
 expire_goes : (now remember : ℕ) (fronts : List Passed) (claim : Claim)
     → ClaimGoes claim (after_expire now remember fronts claim)
 expire_goes now remember fronts Unknown = Stays refl
-expire_goes now remember fronts (Offered other) = Stays refl
+expire_goes now remember fronts (Offered other since) = Stays refl
 expire_goes now remember fronts (Storing other article stage) = Stays refl
 expire_goes now remember fronts (Stored token moment) =
     by_test (Stored token moment) Unknown (Stored token moment)
@@ -102,7 +113,7 @@ forgetting_goes claim shard now (Some remember) fronts id =
 -- Restart
 pub restart_goes : (claim : Claim) → ClaimGoes claim (after_restart claim)
 restart_goes Unknown = Stays refl
-restart_goes (Offered other) = IsEarly refl refl tt
+restart_goes (Offered other since) = IsEarly refl refl tt
 restart_goes (Storing other article stage) = Stays refl
 restart_goes (Stored token moment) = Stays refl
 restart_goes (Refused moment) = Stays refl

@@ -1,10 +1,11 @@
 -- Which steps of a claim store nothing new and give nothing up.
 use Rattle.std.proofs.Common.{◌≡◌, ℕ, Bool, true, false, ◌==◌, ◌&&◌, nat_le, ◌+◌, List, Option}
 use Rattle.std.proofs.Common.{None, Some, if◌then◌else◌, sym, subst}
+use Rattle.std.proofs.lemmas.Bool.{cond_both}
 use Rattle.news_terms.specs.Token.{Token}
 use Rattle.relay_model.specs.Claims.{Accepted, Claim, Unknown, Offered, Storing, Stored, Refused}
 use Rattle.relay_model.specs.Claims.{Stage, Passed, is_passed, after_offer, after_refuse}
-use Rattle.relay_model.specs.Claims.{after_release, after_expire}
+use Rattle.relay_model.specs.Claims.{after_release, after_expire, has_run_out, standing}
 use Rattle.relay_model.specs.Run.{forgetting, shard_of}
 use Rattle.relay_model.specs.State.{State, put_id}
 use Rattle.relay_facts.proofs.Puts.{put_id_both, same_id}
@@ -38,8 +39,8 @@ unknown_not : IsNotStored Unknown
 unknown_not s article stage e = absurd (cc)
 
 -- nor of an offered one
-offered_not : (other : ℕ) → IsNotStored (Offered other)
-offered_not other s article stage e = absurd (cc)
+offered_not : (other since : ℕ) → IsNotStored (Offered other since)
+offered_not other since s article stage e = absurd (cc)
 
 -- nor of one that was stored
 stored_not : (token : Token) (moment : ℕ) → IsNotStored (Stored token moment)
@@ -56,30 +57,48 @@ by_test before one other true first second = first
 by_test before one other false first second = second
 
 -- CHECK and IHAVE
-pub offer_alike : (s : ℕ) (claim : Claim) → IsAlike claim (after_offer s claim)
-offer_alike s Unknown = neither Unknown (Offered s) unknown_not (offered_not s)
-offer_alike s (Offered other) = is_same (Offered other)
-offer_alike s (Storing other article stage) = is_same (Storing other article stage)
-offer_alike s (Stored token moment) = is_same (Stored token moment)
-offer_alike s (Refused moment) = is_same (Refused moment)
+pub offer_alike : (offers : Option ℕ) (s now : ℕ) (claim : Claim)
+    → IsAlike claim (after_offer s now (standing offers now claim))
+offer_alike offers s now Unknown = neither Unknown (Offered s now) unknown_not (offered_not s now)
+offer_alike offers s now (Offered other since) =
+    cond_both (has_run_out offers since now) Unknown (Offered other since)
+    (λ claim. IsAlike (Offered other since) (after_offer s now claim))
+    (λ e. ours)
+    (λ e. by_test (Offered other since) (Offered s now) (Offered other since) (other == s) ours
+    (is_same (Offered other since)))
+  where
+    ours : IsAlike (Offered other since) (Offered s now)
+    ours =
+        neither (Offered other since) (Offered s now) (offered_not other since) (offered_not s now)
+offer_alike offers s now (Storing other article stage) = is_same (Storing other article stage)
+offer_alike offers s now (Stored token moment) = is_same (Stored token moment)
+offer_alike offers s now (Refused moment) = is_same (Refused moment)
 
 -- an article that was refused
-pub refuse_alike : (s now : ℕ) (claim : Claim) → IsAlike claim (after_refuse s now claim)
-refuse_alike s now Unknown = neither Unknown (Refused now) unknown_not (refused_not now)
-refuse_alike s now (Offered other) =
-    by_test (Offered other) (Refused now) (Offered other) (other == s)
-    (neither (Offered other) (Refused now) (offered_not other) (refused_not now))
-    (is_same (Offered other))
-refuse_alike s now (Storing other article stage) = is_same (Storing other article stage)
-refuse_alike s now (Stored token moment) = is_same (Stored token moment)
-refuse_alike s now (Refused moment) = is_same (Refused moment)
+pub refuse_alike : (offers : Option ℕ) (s now : ℕ) (claim : Claim)
+    → IsAlike claim (after_refuse s now (standing offers now claim))
+refuse_alike offers s now Unknown = neither Unknown (Refused now) unknown_not (refused_not now)
+refuse_alike offers s now (Offered other since) =
+    cond_both (has_run_out offers since now) Unknown (Offered other since)
+    (λ claim. IsAlike (Offered other since) (after_refuse s now claim))
+    (λ e. marked)
+    (λ e. by_test (Offered other since) (Refused now) (Offered other since) (other == s) marked
+    (is_same (Offered other since)))
+  where
+    marked : IsAlike (Offered other since) (Refused now)
+    marked =
+        neither (Offered other since) (Refused now) (offered_not other since) (refused_not now)
+refuse_alike offers s now (Storing other article stage) = is_same (Storing other article stage)
+refuse_alike offers s now (Stored token moment) = is_same (Stored token moment)
+refuse_alike offers s now (Refused moment) = is_same (Refused moment)
 
 -- an open offer that ends
 pub release_alike : (s : ℕ) (claim : Claim) → IsAlike claim (after_release s claim)
 release_alike s Unknown = is_same Unknown
-release_alike s (Offered other) =
-    by_test (Offered other) Unknown (Offered other) (other == s)
-    (neither (Offered other) Unknown (offered_not other) unknown_not) (is_same (Offered other))
+release_alike s (Offered other since) =
+    by_test (Offered other since) Unknown (Offered other since) (other == s)
+    (neither (Offered other since) Unknown (offered_not other since) unknown_not)
+    (is_same (Offered other since))
 release_alike s (Storing other article stage) = is_same (Storing other article stage)
 release_alike s (Stored token moment) = is_same (Stored token moment)
 release_alike s (Refused moment) = is_same (Refused moment)
@@ -88,7 +107,7 @@ release_alike s (Refused moment) = is_same (Refused moment)
 pub expire_alike : (now remember : ℕ) (fronts : List Passed) (claim : Claim)
     → IsAlike claim (after_expire now remember fronts claim)
 expire_alike now remember fronts Unknown = is_same Unknown
-expire_alike now remember fronts (Offered other) = is_same (Offered other)
+expire_alike now remember fronts (Offered other since) = is_same (Offered other since)
 expire_alike now remember fronts (Storing other article stage) =
     is_same (Storing other article stage)
 expire_alike now remember fronts (Stored token moment) =

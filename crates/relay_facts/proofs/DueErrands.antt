@@ -11,6 +11,7 @@ use Rattle.news_terms.specs.Lines.{NextLine, Cut, TooLong, Incomplete, next_line
 use Rattle.relay_model.specs.Asks.{Ask, Rests, GoesOn, Says, Leaves, Offers, Looks, Reads}
 use Rattle.relay_model.specs.Asks.{TakesQueue, Refuses, Takes, Pushes, LooksInSlot, Releases, Ends}
 use Rattle.relay_model.specs.Asks.{Due, due_as, offer_asked, is_full, later, queue_asked, feed_of}
+use Rattle.relay_model.specs.Asks.{IsDueAtCommand, run_out, with_offer}
 use Rattle.relay_model.specs.Asks.{TokenAsked, IsRead, IsNone, IsDueIn, IsDueOfCommand, IsDueOfLine}
 use Rattle.relay_model.specs.Asks.{IsDueWhereReady, IsDueOfBlock, IsDueWhereOwing, judged_asked}
 use Rattle.relay_model.specs.Asks.{or_push, leaving_due, without_offer}
@@ -20,7 +21,7 @@ use Rattle.relay_model.specs.Claims.{Accepted}
 use Rattle.relay_model.specs.State.{Session, Phase, Ready, AwaitsBlock, Holds, Waits, Fetches}
 use Rattle.relay_model.specs.State.{Leaving}
 use Rattle.relay_model.specs.State.{Ended, Transfer, TakesThis, Has, Job, in_phase}
-use Rattle.relay_model.specs.State.{with_unread, with_offers}
+use Rattle.relay_model.specs.State.{OpenOffer, with_unread, with_offers}
 use Rattle.relay_model.specs.Terms.{Terms, Reason}
 use Rattle.relay_model.specs.World.{World}
 
@@ -54,11 +55,13 @@ due_is x s after ask awaits asks d e =
     subst (DueAwaits x s) (sym e) (record { awaits = awaits; asks = asks })
 
 -- CHECK and IHAVE
-offer_asks : (x : World) (s : ℕ) (one : Session) (transfer : Transfer) (id : List ℕ) → IsFree x s
-    → AskAwaits x s (offer_asked one transfer id)
-offer_asks x s one transfer id free =
-    cond_both (is_full one.offers id) (Says (later transfer id)) (Offers transfer id)
-    (AskAwaits x s) (λ e. tt) (λ e. free)
+offer_asks : (x : World) (s : ℕ) (one : Session) → Awaits x s one.phase → IsFree x s → (now : ℕ)
+    (transfer : Transfer) (id : List ℕ) → DueAwaits x s (offer_asked one now transfer id)
+offer_asks x s one a free now transfer id =
+    cond_both (is_full one.offers id) (due_as (Says (later transfer id)) one)
+    (due_as (Offers transfer id) (with_offers one (with_offer one.offers id now)))
+    (DueAwaits x s)
+    (λ e. record { awaits = a; asks = tt }) (λ e. record { awaits = a; asks = free })
 
 -- XTAKE
 queue_asks : (x : World) (s most : ℕ) (feed : Option ℕ) → AskAwaits x s (queue_asked most feed)
@@ -76,9 +79,9 @@ command_asks : (w : Terms) (x : World) (s : ℕ) (one : Session) → Awaits x s 
     → (now : ℕ) (command : Command) (d : Due)
     → IsDueOfCommand w one now command d → DueAwaits x s d
 command_asks w x s one a free now (Check id) d e =
-    due_is x s one (offer_asked one TakesThis id) a (offer_asks x s one TakesThis id free) d e
+    subst (DueAwaits x s) (sym e) (offer_asks x s one a free now TakesThis id)
 command_asks w x s one a free now (Ihave id) d e =
-    due_is x s one (offer_asked one Has id) a (offer_asks x s one Has id free) d e
+    subst (DueAwaits x s) (sym e) (offer_asks x s one a free now Has id)
 command_asks w x s one a free now (TakeThis id) d e =
     due_is x s (in_phase one (AwaitsBlock TakesThis id)) GoesOn free tt d e
 command_asks w x s one a free now (Fetch part id) d e = due_is x s one (Looks part id) a free d e
@@ -151,19 +154,28 @@ waiting_asks x s transfer id (Some job) a = tt
 
 -- where it leaves
 leaving_asks : (x : World) (s : ℕ) (one : Session) → Awaits x s one.phase → Errand x s
-    → (hand : Option Job) (offers : List (List ℕ)) (d : Due)
+    → (hand : Option Job) (offers : List OpenOffer) (d : Due)
     → d ≡ leaving_due one hand offers → DueAwaits x s d
 leaving_asks x s one a errand (Some job) offers d e = due_is x s one (Pushes job) a tt d e
 leaving_asks x s one a errand None [] d e = due_is x s one Ends a errand d e
-leaving_asks x s one a errand None (id ∷ offers) d e =
-    due_is x s (with_offers one offers) (Releases id) a tt d e
+leaving_asks x s one a errand None (offer ∷ offers) d e =
+    due_is x s (with_offers one offers) (Releases offer.id) a tt d e
+
+-- where a command is due
+command_due_asks : (w : Terms) (x : World) (s : ℕ) (one : Session) → Awaits x s one.phase
+    → IsFree x s → (now : ℕ) (ended : Option (OpenOffer × List OpenOffer)) (d : Due)
+    → IsDueAtCommand w one now ended d → DueAwaits x s d
+command_due_asks w x s one a free now None d e =
+    ready_asks w x s one a free now (next_line one.unread) d e
+command_due_asks w x s one a free now (Some ended) d e =
+    due_is x s (with_offers one ended.1) (Releases ended.0.id) a tt d e
 
 -- by the phase
 pub phase_asks : (w : Terms) (x : World) (s : ℕ) (old : Session) → Awaits x s old.phase
     → (now : ℕ) (phase : Phase) → old.phase ≡ phase
     → (d : Due) → IsDueIn w old now phase d → DueAwaits x s d
 phase_asks w x s old a now Ready is d e =
-    ready_asks w x s old a (subst (Awaits x s) is a) now (next_line old.unread) d e
+    command_due_asks w x s old a (subst (Awaits x s) is a) now (run_out w.offers now old.offers) d e
 phase_asks w x s old a now (AwaitsBlock transfer id) is d e =
     owing_asks w x s old a (subst (Awaits x s) is a) transfer id now
     (next_block w.max_article old.unread) d e

@@ -13,6 +13,7 @@ use Rattle.news_terms.specs.Lines.{NextLine, Cut, TooLong, Incomplete, next_line
 use Rattle.relay_model.specs.Asks.{Ask, Rests, GoesOn, Says, Leaves, Offers, Looks, Reads}
 use Rattle.relay_model.specs.Asks.{TakesQueue, Refuses, Takes, Pushes, LooksInSlot, Releases, Ends}
 use Rattle.relay_model.specs.Asks.{Due, due_as, offer_asked, is_full, later, queue_asked, feed_of}
+use Rattle.relay_model.specs.Asks.{IsDueAtCommand, run_out, with_offer}
 use Rattle.relay_model.specs.Asks.{TokenAsked, IsRead, IsNone, IsDue, IsDueIn, IsDueOfCommand}
 use Rattle.relay_model.specs.Asks.{IsDueOfLine, IsDueWhereReady, IsDueOfBlock, IsDueWhereOwing}
 use Rattle.relay_model.specs.Asks.{judged_asked, or_push, leaving_due, without_offer}
@@ -23,7 +24,7 @@ use Rattle.relay_model.specs.Run.{is_running}
 use Rattle.relay_model.specs.State.{Session, Phase, Ready, AwaitsBlock, Holds, Waits, Fetches}
 use Rattle.relay_model.specs.State.{Leaving}
 use Rattle.relay_model.specs.State.{Ended, Transfer, TakesThis, Has, Job, in_phase, with_unread}
-use Rattle.relay_model.specs.State.{with_offers}
+use Rattle.relay_model.specs.State.{OpenOffer, with_offers}
 use Rattle.relay_model.specs.Terms.{Terms, Reason}
 use Rattle.relay_facts.specs.Sound.{IsSound}
 use Rattle.relay_facts.proofs.Judged.{judged_sound}
@@ -77,7 +78,7 @@ in_idle_phase w old after phase follows none empty = record {
 }
 
 -- other octets unread, other offers open
-pub with_others : (w : Terms) (old after : Session) (unread : List ℕ) (offers : List (List ℕ))
+pub with_others : (w : Terms) (old after : Session) (unread : List ℕ) (offers : List OpenOffer)
     → Follows w old after
     → Follows w old (record after { unread = unread; offers = offers })
 with_others w old after unread offers follows =
@@ -90,13 +91,18 @@ with_others w old after unread offers follows =
     }
 
 -- CHECK, IHAVE
-offer_fits : (w : Terms) (session : Session) (transfer : Transfer) (id : List ℕ)
-    → session.hand ≡ None
-    → AskFits w session (offer_asked session transfer id)
-offer_fits w session transfer id none =
-    cond_both (is_full session.offers id) (Says (later transfer id)) (Offers transfer id)
-    (AskFits w session)
-    (λ e. tt) (λ e. none)
+offer_fits : (w : Terms) (old session : Session) → Follows w old session → session.hand ≡ None
+    → (now : ℕ) (transfer : Transfer) (id : List ℕ)
+    → DueFits w old (offer_asked session now transfer id)
+offer_fits w old session f none now transfer id =
+    cond_both (is_full session.offers id) (due_as (Says (later transfer id)) session)
+    (due_as (Offers transfer id) (with_offers session (with_offer session.offers id now)))
+    (DueFits w old)
+    (λ e. record { follows = f; asks = tt })
+    (λ e. record {
+      follows = with_others w old session session.unread (with_offer session.offers id now) f;
+      asks = none;
+    })
 
 -- XTAKE
 queue_fits : (w : Terms) (session : Session) (most : ℕ) (feed : Option ℕ)
@@ -116,9 +122,9 @@ command_fits : (w : Terms) (old s : Session) → Follows w old s → s.hand ≡ 
     → (now : ℕ) (command : Command) (d : Due)
     → IsDueOfCommand w s now command d → DueFits w old d
 command_fits w old s f none now (Check id) d e =
-    due_is w old s (offer_asked s TakesThis id) f (offer_fits w s TakesThis id none) d e
+    subst (DueFits w old) (sym e) (offer_fits w old s f none now TakesThis id)
 command_fits w old s f none now (Ihave id) d e =
-    due_is w old s (offer_asked s Has id) f (offer_fits w s Has id none) d e
+    subst (DueFits w old) (sym e) (offer_fits w old s f none now Has id)
 command_fits w old s f none now (TakeThis id) d e =
     due_is w old (in_phase s (AwaitsBlock TakesThis id)) GoesOn
     (in_idle_phase w old s (AwaitsBlock TakesThis id) f none refl) tt d e
@@ -203,19 +209,30 @@ waiting_fits w old transfer id (Some job) e = e
 -- where the session leaves
 leaving_fits : (w : Terms) (old : Session) → Follows w old old → (hand : Option Job)
     → old.hand ≡ hand
-    → (offers : List (List ℕ)) (d : Due) → d ≡ leaving_due old hand offers → DueFits w old d
+    → (offers : List OpenOffer) (d : Due) → d ≡ leaving_due old hand offers → DueFits w old d
 leaving_fits w old f (Some job) has offers d e = due_is w old old (Pushes job) f has d e
 leaving_fits w old f None has [] d e = due_is w old old Ends f has d e
-leaving_fits w old f None has (id ∷ offers) d e =
-    due_is w old (with_offers old offers) (Releases id) (with_others w old old old.unread offers f)
-    tt d e
+leaving_fits w old f None has (offer ∷ offers) d e =
+    due_is w old (with_offers old offers) (Releases offer.id)
+    (with_others w old old old.unread offers f) tt d e
+
+-- where a command is due
+command_due_fits : (w : Terms) (old : Session) → Follows w old old → old.hand ≡ None → (now : ℕ)
+    (ended : Option (OpenOffer × List OpenOffer)) (d : Due) → IsDueAtCommand w old now ended d
+    → DueFits w old d
+command_due_fits w old f none now None d e =
+    ready_fits w old f none now (next_line old.unread) d e
+command_due_fits w old f none now (Some ended) d e =
+    due_is w old (with_offers old ended.1) (Releases ended.0.id)
+    (with_others w old old old.unread ended.1 f) tt d e
 
 -- each phase
 phase_fits : (w : Terms) → IsSound w → (old : Session) → IsFit w old → Follows w old old
     → (now : ℕ) (phase : Phase)
     → old.phase ≡ phase → (d : Due) → IsDueIn w old now phase d → DueFits w old d
 phase_fits w sound old fit f now Ready is d e =
-    ready_fits w old f (fit.carries (ap may_carry is)) now (next_line old.unread) d e
+    command_due_fits w old f (fit.carries (ap may_carry is)) now (run_out w.offers now old.offers)
+    d e
 phase_fits w sound old fit f now (AwaitsBlock transfer id) is d e =
     owing_fits w sound old f (fit.carries (ap may_carry is)) fit.peer transfer id now
     (next_block w.max_article old.unread) d e

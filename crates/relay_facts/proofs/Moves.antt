@@ -17,7 +17,7 @@ use Rattle.relay_model.specs.Run.{HasNoRoom}
 use Rattle.relay_model.specs.Run.{HasNot, refusal, opened, expired, reads_front, forgotten}
 use Rattle.relay_model.specs.Run.{restarted, first_of_two, is_there, is_running}
 use Rattle.relay_model.specs.Run as run
-use Rattle.relay_model.specs.Shares.{Answer, Shares, Reading, IsFound, HasNotRead, Pushing}
+use Rattle.relay_model.specs.Shares.{known_at, Answer, Shares, Reading, IsFound, HasNotRead, Pushing}
 use Rattle.relay_model.specs.Shares.{queue_taken}
 use Rattle.relay_model.specs.Shares.{ring_of, after_take_of, pushed, untold}
 use Rattle.relay_model.specs.State.{State, Session, Job, Feed}
@@ -136,8 +136,8 @@ shared_same w x s now timed GoesOn answer y e = moved x.state y x e.1 (same_stor
 shared_same w x s now timed (Says reply) answer y e = moved x.state y x e.1 (same_store x.state)
 shared_same w x s now timed (Leaves reply) answer y e = moved x.state y x e.1 (same_store x.state)
 shared_same w x s now timed (Offers transfer id) answer y e =
-    moved x.state y (with_claim x id (after_offer s (x.state.claim id))) e.1
-    (claim_changes x id (after_offer s (x.state.claim id)) (offer_goes s (x.state.claim id)))
+    moved x.state y (with_claim x id (after_offer s now (known_at w x now id))) e.1
+    (claim_changes x id (after_offer s now (known_at w x now id)) (offer_goes w.offers s now (x.state.claim id)))
 shared_same w x s now timed (Looks part id) answer y e = moved x.state y x e.1 (same_store x.state)
 shared_same w x s now timed (Reads asked token had) answer y reads =
     reading_same w x token answer y reads
@@ -145,9 +145,9 @@ shared_same w x s now timed (TakesQueue feed most) answer y e =
     moved x.state y (queue_taken x (ring_of (slice_get w.feeds feed)) feed most) e.1
     (queue_same x (ring_of (slice_get w.feeds feed)) feed most)
 shared_same w x s now timed (Refuses transfer id) answer y e =
-    moved x.state y (with_claim x id (after_refuse s now (x.state.claim id))) e.1
-    (claim_changes x id (after_refuse s now (x.state.claim id))
-    (refuse_goes s now timed (x.state.claim id)))
+    moved x.state y (with_claim x id (after_refuse s now (known_at w x now id))) e.1
+    (claim_changes x id (after_refuse s now (known_at w x now id))
+    (refuse_goes w.offers s now timed (x.state.claim id)))
 shared_same w x s now timed (Takes transfer id article) answer y e =
     moved x.state y (with_claim x id (after_take s article (x.state.claim id))) e.1
     (claim_changes x id (after_take s article (x.state.claim id))

@@ -30,7 +30,7 @@ store_itself w = record { buffers = refl; groups = refl; feeds = refl }
 pub restart_storing : (s : ℕ) (article : Accepted) (stage : Stage) (claim : Claim)
     → after_restart claim ≡ Storing s article stage → claim ≡ Storing s article stage
 restart_storing s article stage Unknown e = absurd (cc)
-restart_storing s article stage (Offered other) e = absurd (cc)
+restart_storing s article stage (Offered other since) e = absurd (cc)
 restart_storing s article stage (Storing other had at) e = e
 restart_storing s article stage (Stored token moment) e = absurd (cc)
 restart_storing s article stage (Refused moment) e = absurd (cc)

@@ -17,7 +17,7 @@ use Rattle.relay_model.specs.Fetches.{Fetched}
 use Rattle.relay_model.specs.Hears.{Heard, Hears, ReadHeard, goes_on, offer_heard, look_heard}
 use Rattle.relay_model.specs.Hears.{take_heard, outcome_heard, slot_heard, push_heard}
 use Rattle.relay_model.specs.Run.{Turns}
-use Rattle.relay_model.specs.Shares.{Answer, ToPush, Shares, Reading, IsFound, HasNotRead, Pushing}
+use Rattle.relay_model.specs.Shares.{known_at, Answer, ToPush, Shares, Reading, IsFound, HasNotRead, Pushing}
 use Rattle.relay_model.specs.Shares.{queue_taken, ring_of, pushed, untold}
 use Rattle.relay_model.specs.State.{Session, Holds, Waits, Leaving}
 use Rattle.relay_model.specs.State.{Ended, Transfer, TakesThis, Has, Asked, Job, in_phase}
@@ -197,7 +197,7 @@ take_on x s after is a free transfer id article claim at y heard to hears =
         → IsAwaited (with_session y s heard.session)
     by Unknown transfer at to hears =
         mine transfer (λ t other stage e. absurd (cc (at, e))) to hears
-    by (Offered one) transfer at to hears =
+    by (Offered one since) transfer at to hears =
         mine transfer (λ t other stage e. absurd (cc (at, e))) to hears
     by (Storing one other stage) TakesThis at to hears =
         stays (Storing one other stage) (in_phase after (Holds id article)) at to (session_of hears)
@@ -311,9 +311,9 @@ asked_awaited w x s now after is a (Leaves reply) asks answer y heard shares hea
     (leaves_all x s (in_phase after Leaving)) (λ t. refl) (NoErrand asks)
 asked_awaited w x s now after is a (Offers transfer id) asks answer y heard shares hears =
     let next = (offer_heard after transfer id hears.0).session in
-    settle x s is (with_claim x id (after_offer s (x.state.claim id))) y next heard shares.1
+    settle x s is (with_claim x id (after_offer s now (known_at w x now id))) y next heard shares.1
     (session_of hears.2)
-    (leaves_claim x s id (after_offer s (x.state.claim id)) next (offer_alike s (x.state.claim id)))
+    (leaves_claim x s id (after_offer s now (known_at w x now id)) next (offer_alike w.offers s now (x.state.claim id)))
     (λ t. refl)
     (offer_awaits x s after transfer id hears.0 a asks)
 asked_awaited w x s now after is a (Looks part id) asks answer y heard shares hears =
@@ -329,10 +329,10 @@ asked_awaited w x s now after is a (TakesQueue feed most) asks answer y heard sh
     shares.1 (session_of hears.3)
     (leaves_feed x s (ring_of (slice_get w.feeds feed)) feed most after) (λ t. refl) a
 asked_awaited w x s now after is a (Refuses transfer id) asks answer y heard shares hears =
-    settle x s is (with_claim x id (after_refuse s now (x.state.claim id))) y after heard shares.1
+    settle x s is (with_claim x id (after_refuse s now (known_at w x now id))) y after heard shares.1
     (session_of hears)
-    (leaves_claim x s id (after_refuse s now (x.state.claim id)) after
-    (refuse_alike s now (x.state.claim id))) (λ t. refl) a
+    (leaves_claim x s id (after_refuse s now (known_at w x now id)) after
+    (refuse_alike w.offers s now (x.state.claim id))) (λ t. refl) a
 asked_awaited w x s now after is a (Takes transfer id article) asks answer y heard shares hears =
     let told : hears.0 ≡ take_answer s (x.state.claim id) = cc (hears.1, shares.0) in
     take_on x s after is a asks transfer id article (x.state.claim id) refl y heard shares.1

@@ -7,7 +7,7 @@ use Rattle.news_terms.specs.Command.{Part}
 use Rattle.news_terms.specs.Token.{Token}
 use Rattle.relay_model.specs.Asks.{Ask, Rests, GoesOn, Says, Leaves, Offers, Looks, Reads}
 use Rattle.relay_model.specs.Asks.{TakesQueue, Refuses, Takes, Pushes, LooksInSlot, Releases, Ends}
-use Rattle.relay_model.specs.Asks.{with_offer, without_offer}
+use Rattle.relay_model.specs.Asks.{without_offer}
 use Rattle.relay_model.specs.Claims.{Accepted, Claim, Unknown, Offered, Storing, Stored, Refused}
 use Rattle.relay_model.specs.Claims.{Waiting, OfferAnswer, Wanted, Later, Seen, Mine, take_answer}
 use Rattle.relay_model.specs.Claims.{after_take, after_offer, after_refuse, after_release}
@@ -17,7 +17,7 @@ use Rattle.relay_model.specs.Hears.{take_heard, outcome_heard, slot_heard, push_
 use Rattle.relay_model.specs.Invariants.{IsSoundArticle}
 use Rattle.relay_facts.proofs.Orderly.{IsOrderly}
 use Rattle.relay_model.specs.Run.{Turns, is_running}
-use Rattle.relay_model.specs.Shares.{Answer, ToPush, Shares, Reading, IsFound, HasNotRead, Pushing}
+use Rattle.relay_model.specs.Shares.{known_at, Answer, ToPush, Shares, Reading, IsFound, HasNotRead, Pushing}
 use Rattle.relay_model.specs.Shares.{queue_taken, ring_of, pushed, untold}
 use Rattle.relay_model.specs.State.{Session, Ready, AwaitsBlock, Holds, Waits, Fetches, Leaving}
 use Rattle.relay_model.specs.State.{Ended}
@@ -98,10 +98,9 @@ offer_follows : (w : Terms) (old after : Session) (transfer : Transfer) (id : Li
     (told : OfferAnswer) → Follows w old after
     → after.hand ≡ None → Follows w old (offer_heard after transfer id told).session
 offer_follows w old after TakesThis id Wanted f none =
-    with_others w old after after.unread (with_offer after.offers id) f
+    f
 offer_follows w old after Has id Wanted f none =
-    in_idle_phase w old (with_offers after (with_offer after.offers id)) (AwaitsBlock Has (Some id))
-    (with_others w old after after.unread (with_offer after.offers id) f) none refl
+    in_idle_phase w old after (AwaitsBlock Has (Some id)) f none refl
 offer_follows w old after transfer id Later f none =
     with_others w old after after.unread (without_offer after.offers id) f
 offer_follows w old after transfer id Seen f none =
@@ -243,7 +242,7 @@ take_orderly w x s old after there is f none transfer id article sound claim at 
         → Follows_to w x s y heard
     by Unknown transfer at to hears =
         mine transfer (λ t other stage e. absurd (cc (at, e))) to hears
-    by (Offered one) transfer at to hears =
+    by (Offered one since) transfer at to hears =
         mine transfer (λ t other stage e. absurd (cc (at, e))) to hears
     by (Storing one other stage) TakesThis at to hears =
         stays (Storing one other stage) (in_phase after (Holds id article)) at to (session_of hears)
@@ -294,10 +293,10 @@ asked_orderly w x s now old after there is f (Leaves reply) fits answer y heard 
     (leaving_follows w old after f) (leaves_all x s (in_phase after Leaving))
 asked_orderly w x s now old after there is f (Offers transfer id) fits answer y heard shares hears =
     let next = (offer_heard after transfer id hears.0).session in
-    settle w x s old there is (with_claim x id (after_offer s (x.state.claim id))) y next heard
+    settle w x s old there is (with_claim x id (after_offer s now (known_at w x now id))) y next heard
     shares.1 (session_of hears.2)
     (offer_follows w old after transfer id hears.0 f fits)
-    (leaves_claim x s id (after_offer s (x.state.claim id)) next (offer_alike s (x.state.claim id)))
+    (leaves_claim x s id (after_offer s now (known_at w x now id)) next (offer_alike w.offers s now (x.state.claim id)))
 asked_orderly w x s now old after there is f (Looks part id) fits answer y heard shares hears =
     let next = (look_heard after part id hears.0).session in
     settle w x s old there is x y next heard shares.1 (session_of hears.2)
@@ -314,10 +313,10 @@ asked_orderly w x s now old after there is f (TakesQueue feed most) fits answer 
     (session_of hears.3) f (leaves_feed x s (ring_of (slice_get w.feeds feed)) feed most after)
 asked_orderly w x s now old after there is f (Refuses transfer id) fits answer y heard shares
     hears =
-    settle w x s old there is (with_claim x id (after_refuse s now (x.state.claim id))) y after
+    settle w x s old there is (with_claim x id (after_refuse s now (known_at w x now id))) y after
     heard shares.1 (session_of hears) f
-    (leaves_claim x s id (after_refuse s now (x.state.claim id)) after
-    (refuse_alike s now (x.state.claim id)))
+    (leaves_claim x s id (after_refuse s now (known_at w x now id)) after
+    (refuse_alike w.offers s now (x.state.claim id)))
 asked_orderly w x s now old after there is f (Takes transfer id article) fits answer y heard shares
     hears =
     let told : hears.0 ≡ take_answer s (x.state.claim id) = cc (hears.1, shares.0) in

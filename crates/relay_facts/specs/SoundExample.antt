@@ -37,6 +37,7 @@ sound_terms =
       max_article = 1_000_000;
       cutoff = 864_000;
       remember = None;
+      offers = None;
       buffers = one_buffer ∷ [];
       groups = one_group ∷ [];
       entries = one_entry ∷ [];

@@ -53,6 +53,7 @@ k1 =
       max_article = 200;
       cutoff = 864_000;
       remember = None;
+      offers = None;
       buffers = buffer_a ∷ [];
       groups = group_g ∷ [];
       entries = every_article ∷ [];

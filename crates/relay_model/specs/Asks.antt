@@ -15,10 +15,10 @@ use Rattle.news_terms.specs.Reply.{PostingProhibited, AskLater, IhaveLater, NoGr
 use Rattle.news_terms.specs.Reply.{UnknownCommand, SyntaxError, LineTooLong}
 use Rattle.news_terms.specs.Stamps.{IsStamp}
 use Rattle.news_terms.specs.Token.{Token, IsToken, token_text}
-use Rattle.relay_model.specs.Claims.{Accepted}
+use Rattle.relay_model.specs.Claims.{Accepted, has_run_out}
 use Rattle.relay_model.specs.Judging.{Judges}
 use Rattle.relay_model.specs.State.{Session, Phase, Ready, AwaitsBlock, Holds, Waits, Fetches}
-use Rattle.relay_model.specs.State.{Leaving}
+use Rattle.relay_model.specs.State.{Leaving, OpenOffer}
 use Rattle.relay_model.specs.State.{Ended, Transfer, TakesThis, Has, Job, Asked, OfToken, in_phase}
 use Rattle.relay_model.specs.State.{with_unread, with_offers}
 use Rattle.relay_model.specs.Terms.{Terms, FeedTerms, Reason, offer_limit}
@@ -64,19 +64,19 @@ abbrev pub due_as : Ask → Session → Due
 due_as ask session = record { ask = ask; after = session }
 
 -- the id is among the open offers (docs/PROTOCOL.md, Open offers)
-abbrev pub is_open : List (List ℕ) → List ℕ → Bool
-is_open offers id = list_any (bytes_eq id) offers
-
--- the open offers with this one, the newest last
-abbrev pub with_offer : List (List ℕ) → List ℕ → List (List ℕ)
-with_offer offers id = if is_open offers id then offers else offers ++ id ∷ []
+abbrev pub is_open : List OpenOffer → List ℕ → Bool
+is_open offers id = list_any (λ (offer : OpenOffer). bytes_eq id offer.id) offers
 
 -- the open offers without this one
-abbrev pub without_offer : List (List ℕ) → List ℕ → List (List ℕ)
-without_offer offers id = filter (λ offer. not (bytes_eq id offer)) offers
+abbrev pub without_offer : List OpenOffer → List ℕ → List OpenOffer
+without_offer offers id = filter (λ (offer : OpenOffer). not (bytes_eq id offer.id)) offers
+
+-- the open offers with this one, made at this moment: the newest stands last
+abbrev pub with_offer : List OpenOffer → List ℕ → (now : ℕ) → List OpenOffer
+with_offer offers id now = without_offer offers id ++ record { id = id; since = now } ∷ []
 
 -- no further offer may be opened, and this id is none of the open ones
-abbrev pub is_full : List (List ℕ) → List ℕ → Bool
+abbrev pub is_full : List OpenOffer → List ℕ → Bool
 is_full offers id = nat_le offer_limit (length offers) && not (is_open offers id)
 
 -- what is said to an offer that is to come later
@@ -84,10 +84,12 @@ abbrev pub later : Transfer → List ℕ → Reply
 later TakesThis id = AskLater id
 later Has id = IhaveLater
 
--- CHECK, IHAVE (RFC 4644 section 2.4, RFC 3977 section 6.3.2)
-abbrev pub offer_asked : Session → Transfer → List ℕ → Ask
-offer_asked session transfer id =
-    if is_full session.offers id then Says (later transfer id) else Offers transfer id
+-- CHECK, IHAVE (RFC 4644 section 2.4, RFC 3977 section 6.3.2): while it is asked whether the
+-- article is wanted, its id is the newest open offer
+abbrev pub offer_asked : Session → (now : ℕ) → Transfer → List ℕ → Due
+offer_asked session now transfer id =
+    if is_full session.offers id then due_as (Says (later transfer id)) session
+    else due_as (Offers transfer id) (with_offers session (with_offer session.offers id now))
 
 -- XTAKE: by the feed of the session's peer (docs/PROTOCOL.md, XFETCH and XTAKE)
 abbrev pub queue_asked : ℕ → Option ℕ → Ask
@@ -108,8 +110,8 @@ pub data TokenAsked (word : List ℕ) (ask : Ask) : Type 0 where
 
 -- by the command (RFC 3977, RFC 4644; docs/PROTOCOL.md, Sessions)
 abbrev pub IsDueOfCommand : Terms → Session → ℕ → Command → Due → Type 0
-IsDueOfCommand w session now (Check id) d = d ≡ due_as (offer_asked session TakesThis id) session
-IsDueOfCommand w session now (Ihave id) d = d ≡ due_as (offer_asked session Has id) session
+IsDueOfCommand w session now (Check id) d = d ≡ offer_asked session now TakesThis id
+IsDueOfCommand w session now (Ihave id) d = d ≡ offer_asked session now Has id
 IsDueOfCommand w session now (TakeThis id) d =
     d ≡ due_as GoesOn (in_phase session (AwaitsBlock TakesThis id))
 IsDueOfCommand w session now (Fetch part id) d = d ≡ due_as (Looks part id) session
@@ -138,6 +140,19 @@ IsDueWhereReady w session now (Cut line rest) d =
     IsDueOfLine w (with_unread session rest) now (command_of line) d
 IsDueWhereReady w session now TooLong d = d ≡ due_as (Leaves LineTooLong) session
 IsDueWhereReady w session now Incomplete d = d ≡ due_as Rests session
+
+-- the oldest open offer and those behind it, where it has run out (docs/PROTOCOL.md, Open offers)
+abbrev pub run_out : Option ℕ → (now : ℕ) → List OpenOffer → Option (OpenOffer × List OpenOffer)
+run_out lasting now [] = None
+run_out lasting now (offer ∷ behind) =
+    if has_run_out lasting offer.since now then Some (offer, behind) else None
+
+-- where a command is due: an offer that has run out ends first, one a Turn
+abbrev pub IsDueAtCommand : Terms → Session → ℕ → Option (OpenOffer × List OpenOffer) → Due → Type 0
+IsDueAtCommand w session now None d =
+    IsDueWhereReady w session now (next_line session.unread) d
+IsDueAtCommand w session now (Some ended) d =
+    d ≡ due_as (Releases ended.0.id) (with_offers session ended.1)
 
 -- by the judgement of an article
 abbrev pub judged_asked : Session → Transfer → List ℕ → Result Accepted Reason → Due
@@ -171,14 +186,14 @@ or_push (Some job) ask = Pushes job
 
 -- where the session leaves, with this in its hand and these offers open: the job is pushed, then
 -- the oldest offer ends, then the session (docs/PROTOCOL.md, Leaving)
-abbrev pub leaving_due : Session → Option Job → List (List ℕ) → Due
+abbrev pub leaving_due : Session → Option Job → List OpenOffer → Due
 leaving_due session (Some job) offers = due_as (Pushes job) session
 leaving_due session None [] = due_as Ends session
-leaving_due session None (id ∷ offers) = due_as (Releases id) (with_offers session offers)
+leaving_due session None (offer ∷ offers) = due_as (Releases offer.id) (with_offers session offers)
 
 -- what is due in a Turn of a session at this moment, by its phase
 abbrev pub IsDueIn : Terms → Session → ℕ → Phase → Due → Type 0
-IsDueIn w session now Ready d = IsDueWhereReady w session now (next_line session.unread) d
+IsDueIn w session now Ready d = IsDueAtCommand w session now (run_out w.offers now session.offers) d
 IsDueIn w session now (AwaitsBlock transfer id) d =
     IsDueWhereOwing w session now transfer id (next_block w.max_article session.unread) d
 IsDueIn w session now (Holds id article) d =

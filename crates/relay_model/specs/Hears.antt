@@ -14,7 +14,7 @@ use Rattle.news_terms.specs.Reply.{TokenFollows, TokenGone, TokenUnknown}
 use Rattle.news_terms.specs.Token.{Token}
 use Rattle.relay_model.specs.Asks.{Ask, Rests, GoesOn, Says, Leaves, Offers, Looks, Reads}
 use Rattle.relay_model.specs.Asks.{TakesQueue, Refuses, Takes, Pushes, LooksInSlot, Releases, Ends}
-use Rattle.relay_model.specs.Asks.{with_offer, without_offer, later}
+use Rattle.relay_model.specs.Asks.{without_offer, later}
 use Rattle.relay_model.specs.Claims.{Accepted, OfferAnswer, Wanted, Later, Seen, TakeAnswer, Mine}
 use Rattle.relay_model.specs.Claims.{Held, Had}
 use Rattle.relay_model.specs.Fetches.{Fetched, Gone, NotKnown, NotRead}
@@ -44,12 +44,10 @@ says session reply = record { said = Speaks reply; session = session }
 abbrev pub parts : Session → Reply → Heard
 parts session reply = record { said = Parts reply; session = in_phase session Leaving }
 
--- the article is wanted: its id joins the open offers, and after IHAVE its block is owed
+-- the article is wanted: its id stays an open offer, and after IHAVE its block is owed
 abbrev pub wanted : Session → Transfer → List ℕ → Heard
-wanted session TakesThis id = says (with_offers session (with_offer session.offers id)) (SendIt id)
-wanted session Has id =
-    says (in_phase (with_offers session (with_offer session.offers id)) (AwaitsBlock Has (Some id)))
-    IhaveSend
+wanted session TakesThis id = says session (SendIt id)
+wanted session Has id = says (in_phase session (AwaitsBlock Has (Some id))) IhaveSend
 
 -- what is said of an id that is remembered
 abbrev pub not_wanted : Transfer → List ℕ → Reply

@@ -13,7 +13,7 @@ use Rattle.relay_model.specs.Terms.{Terms, last_moment}
 -- what is stored or refused was so at a moment that there is
 abbrev pub IsTimed : Claim → Type 0
 IsTimed Unknown = Unit {0}
-IsTimed (Offered session) = Unit {0}
+IsTimed (Offered session since) = Unit {0}
 IsTimed (Storing session article stage) = Unit {0}
 IsTimed (Stored token moment) = moment ≤ last_moment
 IsTimed (Refused moment) = moment ≤ last_moment

@@ -6,9 +6,9 @@ use Rattle.news_terms.specs.Ring as rings
 use Rattle.news_terms.specs.Token.{Token}
 use Rattle.relay_model.specs.Asks.{Ask, Rests, GoesOn, Says, Leaves, Offers, Looks, Reads}
 use Rattle.relay_model.specs.Asks.{TakesQueue, Refuses, Takes, Pushes, LooksInSlot, Releases, Ends}
-use Rattle.relay_model.specs.Claims.{OfferAnswer, TakeAnswer, offer_answer, after_offer}
+use Rattle.relay_model.specs.Claims.{Claim, OfferAnswer, TakeAnswer, offer_answer, after_offer}
 use Rattle.relay_model.specs.Claims.{take_answer, after_take, after_refuse, after_release}
-use Rattle.relay_model.specs.Claims.{look_answer}
+use Rattle.relay_model.specs.Claims.{look_answer, standing}
 use Rattle.relay_model.specs.Fetches.{Fetched, NotRead, decided, fetched}
 use Rattle.relay_model.specs.State.{Feed, Job, put_at}
 use Rattle.relay_model.specs.Terms.{Terms, FeedTerms, queue_limit}
@@ -82,6 +82,10 @@ abbrev pub Pushing : World → Job → Bool → Answer → World → Type 0
 Pushing x job true answer y = (answer ≡ ToPush true) × (y ≡ pushed x job)
 Pushing x job false answer y = (answer ≡ ToPush false) × (y ≡ x)
 
+-- what is known of a message-id at this moment
+abbrev pub known_at : Terms → World → (now : ℕ) → List ℕ → Claim
+known_at w x now id = standing w.offers now (x.state.claim id)
+
 -- what is asked for session s at this moment is done and answered so, and y is the world after it
 abbrev pub Shares : Terms → World → (s now : ℕ) → Ask → Answer → World → Type 0
 Shares w x s now Rests answer y = (answer ≡ Nothing) × (y ≡ x)
@@ -89,8 +93,8 @@ Shares w x s now GoesOn answer y = (answer ≡ Nothing) × (y ≡ x)
 Shares w x s now (Says reply) answer y = (answer ≡ Nothing) × (y ≡ x)
 Shares w x s now (Leaves reply) answer y = (answer ≡ Nothing) × (y ≡ x)
 Shares w x s now (Offers transfer id) answer y =
-    (answer ≡ ToOffer (offer_answer s (x.state.claim id)))
-    × (y ≡ with_claim x id (after_offer s (x.state.claim id)))
+    (answer ≡ ToOffer (offer_answer s (known_at w x now id)))
+    × (y ≡ with_claim x id (after_offer s now (known_at w x now id)))
 Shares w x s now (Looks part id) answer y =
     (answer ≡ ToLook (look_answer (x.state.claim id))) × (y ≡ x)
 Shares w x s now (Reads asked token had) answer y = Reading w x token answer y
@@ -100,7 +104,7 @@ Shares w x s now (TakesQueue feed most) answer y =
     (rings.taken_items ring most (as_ring (x.state.feed feed))))
     × (y ≡ queue_taken x ring feed most)
 Shares w x s now (Refuses transfer id) answer y =
-    (answer ≡ Nothing) × (y ≡ with_claim x id (after_refuse s now (x.state.claim id)))
+    (answer ≡ Nothing) × (y ≡ with_claim x id (after_refuse s now (known_at w x now id)))
 Shares w x s now (Takes transfer id article) answer y =
     (answer ≡ ToTake (take_answer s (x.state.claim id)))
     × (y ≡ with_claim x id (after_take s article (x.state.claim id)))

@@ -38,6 +38,11 @@ pub data Asked : Type 0 where
   OfId : (part : Part) (id : List ℕ) → Asked
   OfToken : Asked
 
+-- an open offer: the id of an article that the session was told to send, and when it was told last
+pub record OpenOffer : Type 0 where
+  pub id : List ℕ
+  pub since : ℕ
+
 -- what a session does next (docs/PROTOCOL.md, Phases)
 pub data Phase : Type 0 where
   -- it reads a command
@@ -60,7 +65,7 @@ pub data Phase : Type 0 where
 pub record Session : Type 0 where
   pub peer : ℕ
   pub unread : List ℕ
-  pub offers : List (List ℕ)
+  pub offers : List OpenOffer
   pub phase : Phase
   pub hand : Option Job
 
@@ -115,5 +120,5 @@ abbrev pub with_unread : Session → List ℕ → Session
 with_unread session unread = record session { unread = unread }
 
 -- the session with these open offers
-abbrev pub with_offers : Session → List (List ℕ) → Session
+abbrev pub with_offers : Session → List OpenOffer → Session
 with_offers session offers = record session { offers = offers }

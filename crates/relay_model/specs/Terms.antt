@@ -26,6 +26,8 @@ pub record Terms : Type 0 where
   pub cutoff : ℕ
   -- after how many seconds an id may be forgotten, if ever
   pub remember : Option ℕ
+  -- after how many seconds an offer runs out, if ever
+  pub offers : Option ℕ
   pub buffers : List Buffer
   pub groups : List Group
   pub entries : List Entry
