@@ -47,9 +47,7 @@ offer_goes offers s now Unknown = IsEarly refl refl tt
 offer_goes offers s now (Offered other since) =
     cond_both (has_run_out offers since now) Unknown (Offered other since)
     (λ claim. ClaimGoes (Offered other since) (after_offer s now claim))
-    (λ e. IsEarly refl refl tt)
-    (λ e. by_test (Offered other since) (Offered s now) (Offered other since) (other == s)
-    (IsEarly refl refl tt) (Stays refl))
+    (λ e. IsEarly refl refl tt) (λ e. Stays refl)
 offer_goes offers s now (Storing other article stage) = Stays refl
 offer_goes offers s now (Stored token moment) = Stays refl
 offer_goes offers s now (Refused moment) = Stays refl

@@ -63,13 +63,8 @@ offer_alike offers s now Unknown = neither Unknown (Offered s now) unknown_not (
 offer_alike offers s now (Offered other since) =
     cond_both (has_run_out offers since now) Unknown (Offered other since)
     (λ claim. IsAlike (Offered other since) (after_offer s now claim))
-    (λ e. ours)
-    (λ e. by_test (Offered other since) (Offered s now) (Offered other since) (other == s) ours
-    (is_same (Offered other since)))
-  where
-    ours : IsAlike (Offered other since) (Offered s now)
-    ours =
-        neither (Offered other since) (Offered s now) (offered_not other since) (offered_not s now)
+    (λ e. neither (Offered other since) (Offered s now) (offered_not other since)
+    (offered_not s now)) (λ e. is_same (Offered other since))
 offer_alike offers s now (Storing other article stage) = is_same (Storing other article stage)
 offer_alike offers s now (Stored token moment) = is_same (Stored token moment)
 offer_alike offers s now (Refused moment) = is_same (Refused moment)

@@ -17,6 +17,7 @@ use Rattle.relay_model.specs.Asks.{Due, due_as, offer_asked, queue_asked, feed_o
 use Rattle.relay_model.specs.Asks.{IsDueIn, IsDueOfCommand, IsDueOfLine, IsDueWhereReady}
 use Rattle.relay_model.specs.Asks.{IsDueOfBlock, IsDueWhereOwing, without_offer, or_push}
 use Rattle.relay_model.specs.Asks.{leaving_due, Rests, GoesOn, Says, Leaves, Looks, Reads, Takes}
+use Rattle.relay_model.specs.Asks.{IsDueAtCommand, Releases, run_out}
 use Rattle.relay_model.specs.Asks.{LooksInSlot}
 use Rattle.relay_model.specs.Asks as asks
 use Rattle.relay_model.specs.Claims.{Accepted}
@@ -24,7 +25,7 @@ use Rattle.relay_model.specs.Judging.{Judges, IsOversize, IsNone, IsRead, judged
 use Rattle.relay_model.specs.State.{Session, Phase, Ready, AwaitsBlock, Holds, Waits, Fetches}
 use Rattle.relay_model.specs.State.{Leaving}
 use Rattle.relay_model.specs.State.{Ended, Transfer, TakesThis, Has, OfToken, in_phase}
-use Rattle.relay_model.specs.State.{with_unread, with_offers}
+use Rattle.relay_model.specs.State.{OpenOffer, with_unread, with_offers}
 use Rattle.relay_model.specs.Terms.{Terms, Reason, Size, Grammar}
 use Rattle.relay_laws.proofs.Premises.{Premise, Free, Needs, IsMet}
 
@@ -73,22 +74,22 @@ date_due w session now (NamesToken token) none = absurd none
 date_due w session now (HasDigits digits) is = (digits, is, refl)
 
 -- by the command
-abbrev due_of_command : Terms → Session → Hint → Command → Due
-due_of_command w session hint (Check id) = due_as (offer_asked session TakesThis id) session
-due_of_command w session hint (Ihave id) = due_as (offer_asked session Has id) session
-due_of_command w session hint (TakeThis id) =
+abbrev due_of_command : Terms → Session → (now : ℕ) → Hint → Command → Due
+due_of_command w session now hint (Check id) = offer_asked session now TakesThis id
+due_of_command w session now hint (Ihave id) = offer_asked session now Has id
+due_of_command w session now hint (TakeThis id) =
     due_as GoesOn (in_phase session (AwaitsBlock TakesThis id))
-due_of_command w session hint (Fetch part id) = due_as (Looks part id) session
-due_of_command w session hint (FetchToken word) = due_of_word session hint
-due_of_command w session hint (TakeQueue most) =
+due_of_command w session now hint (Fetch part id) = due_as (Looks part id) session
+due_of_command w session now hint (FetchToken word) = due_of_word session hint
+due_of_command w session now hint (TakeQueue most) =
     due_as (queue_asked most (feed_of w session.peer)) session
-due_of_command w session hint AskDate = due_of_date session hint
-due_of_command w session hint NeedsGroup = due_as (Says NoGroup) session
-due_of_command w session hint Quit = due_as (Leaves Bye) session
-due_of_command w session hint AskCapabilities = due_as (Says CapabilityList) session
-due_of_command w session hint AskHelp = due_as (Says HelpText) session
-due_of_command w session hint ModeStream = due_as (Says StreamingPermitted) session
-due_of_command w session hint ModeReader = due_as (Says PostingProhibited) session
+due_of_command w session now hint AskDate = due_of_date session hint
+due_of_command w session now hint NeedsGroup = due_as (Says NoGroup) session
+due_of_command w session now hint Quit = due_as (Leaves Bye) session
+due_of_command w session now hint AskCapabilities = due_as (Says CapabilityList) session
+due_of_command w session now hint AskHelp = due_as (Says HelpText) session
+due_of_command w session now hint ModeStream = due_as (Says StreamingPermitted) session
+due_of_command w session now hint ModeReader = due_as (Says PostingProhibited) session
 
 -- what has to be known of the command
 abbrev command_premise : ℕ → Hint → Command → Premise
@@ -119,7 +120,7 @@ word_due w session now word (NamesToken token) is =
 -- that is due
 command_due : (w : Terms) (session : Session) (now : ℕ) (hint : Hint) (command : Command)
     → IsMet (command_premise now hint command)
-    → IsDueOfCommand w session now command (due_of_command w session hint command)
+    → IsDueOfCommand w session now command (due_of_command w session now hint command)
 command_due w session now hint (Check id) knows = refl
 command_due w session now hint (Ihave id) knows = refl
 command_due w session now hint (TakeThis id) knows = refl
@@ -135,10 +136,10 @@ command_due w session now hint ModeStream knows = refl
 command_due w session now hint ModeReader knows = refl
 
 -- by what a line asks
-abbrev due_of_line : Terms → Session → Hint → Result Command CommandFault → Due
-due_of_line w session hint (Ok command) = due_of_command w session hint command
-due_of_line w session hint (Err commands.Unknown) = due_as (Says UnknownCommand) session
-due_of_line w session hint (Err Syntax) = due_as (Says SyntaxError) session
+abbrev due_of_line : Terms → Session → (now : ℕ) → Hint → Result Command CommandFault → Due
+due_of_line w session now hint (Ok command) = due_of_command w session now hint command
+due_of_line w session now hint (Err commands.Unknown) = due_as (Says UnknownCommand) session
+due_of_line w session now hint (Err Syntax) = due_as (Says SyntaxError) session
 
 -- what has to be known of the line
 abbrev line_premise : ℕ → Hint → Result Command CommandFault → Premise
@@ -149,17 +150,17 @@ line_premise now hint (Err Syntax) = Free
 -- that is due
 line_due : (w : Terms) (session : Session) (now : ℕ) (hint : Hint)
     (read : Result Command CommandFault) → IsMet (line_premise now hint read)
-    → IsDueOfLine w session now read (due_of_line w session hint read)
+    → IsDueOfLine w session now read (due_of_line w session now hint read)
 line_due w session now hint (Ok command) knows = command_due w session now hint command knows
 line_due w session now hint (Err commands.Unknown) knows = refl
 line_due w session now hint (Err Syntax) knows = refl
 
 -- where a line is due
-abbrev due_where_ready : Terms → Session → Hint → NextLine → Due
-due_where_ready w session hint (Cut line rest) =
-    due_of_line w (with_unread session rest) hint (command_of line)
-due_where_ready w session hint TooLong = due_as (Leaves LineTooLong) session
-due_where_ready w session hint Incomplete = due_as Rests session
+abbrev due_where_ready : Terms → Session → (now : ℕ) → Hint → NextLine → Due
+due_where_ready w session now hint (Cut line rest) =
+    due_of_line w (with_unread session rest) now hint (command_of line)
+due_where_ready w session now hint TooLong = due_as (Leaves LineTooLong) session
+due_where_ready w session now hint Incomplete = due_as Rests session
 
 -- what has to be known where a line is due
 abbrev ready_premise : ℕ → Hint → NextLine → Premise
@@ -170,11 +171,31 @@ ready_premise now hint Incomplete = Free
 -- that is due
 ready_due : (w : Terms) (session : Session) (now : ℕ) (hint : Hint) (next : NextLine)
     → IsMet (ready_premise now hint next)
-    → IsDueWhereReady w session now next (due_where_ready w session hint next)
+    → IsDueWhereReady w session now next (due_where_ready w session now hint next)
 ready_due w session now hint (Cut line rest) knows =
     line_due w (with_unread session rest) now hint (command_of line) knows
 ready_due w session now hint TooLong knows = refl
 ready_due w session now hint Incomplete knows = refl
+
+-- where a command is due
+abbrev due_at_command : Terms → Session → (now : ℕ) → Hint → Option (OpenOffer × List OpenOffer)
+    → Due
+due_at_command w session now hint None = due_where_ready w session now hint (next_line session.unread)
+due_at_command w session now hint (Some ended) =
+    due_as (Releases ended.0.id) (with_offers session ended.1)
+
+-- what has to be known where a command is due
+abbrev at_command_premise : Session → ℕ → Hint → Option (OpenOffer × List OpenOffer) → Premise
+at_command_premise session now hint None = ready_premise now hint (next_line session.unread)
+at_command_premise session now hint (Some ended) = Free
+
+-- that is due
+at_command_due : (w : Terms) (session : Session) (now : ℕ) (hint : Hint)
+    (ended : Option (OpenOffer × List OpenOffer)) → IsMet (at_command_premise session now hint ended)
+    → IsDueAtCommand w session now ended (due_at_command w session now hint ended)
+at_command_due w session now hint None knows =
+    ready_due w session now hint (next_line session.unread) knows
+at_command_due w session now hint (Some ended) knows = refl
 
 -- what becomes of a block, by the hint
 abbrev verdict_of : Terms → (from : ℕ) (id : List ℕ) (now : ℕ) → Option (List ℕ) → Hint
@@ -257,7 +278,8 @@ owing_due w session now transfer id hint Unfinished knows = refl
 
 -- what is due in each phase
 abbrev pub due_in : Terms → Session → (now : ℕ) → Hint → Phase → Due
-due_in w session now hint Ready = due_where_ready w session hint (next_line session.unread)
+due_in w session now hint Ready =
+    due_at_command w session now hint (run_out w.offers now session.offers)
 due_in w session now hint (AwaitsBlock transfer id) =
     due_where_owing w session now transfer id hint (next_block w.max_article session.unread)
 due_in w session now hint (Holds id article) =
@@ -271,7 +293,8 @@ due_in w session now hint Ended = due_as Rests session
 
 -- what has to be known in each phase
 abbrev pub phase_premise : Terms → Session → ℕ → Hint → Phase → Premise
-phase_premise w session now hint Ready = ready_premise now hint (next_line session.unread)
+phase_premise w session now hint Ready =
+    at_command_premise session now hint (run_out w.offers now session.offers)
 phase_premise w session now hint (AwaitsBlock transfer id) =
     owing_premise id hint (next_block w.max_article session.unread)
 phase_premise w session now hint (Holds id article) = Free
@@ -285,7 +308,7 @@ pub phase_due : (w : Terms) (session : Session) (now : ℕ) (hint : Hint) (phase
     → IsMet (phase_premise w session now hint phase)
     → IsDueIn w session now phase (due_in w session now hint phase)
 phase_due w session now hint Ready knows =
-    ready_due w session now hint (next_line session.unread) knows
+    at_command_due w session now hint (run_out w.offers now session.offers) knows
 phase_due w session now hint (AwaitsBlock transfer id) knows =
     owing_due w session now transfer id hint (next_block w.max_article session.unread) knows
 phase_due w session now hint (Holds id article) knows = refl

@@ -1,6 +1,6 @@
 -- Which token a fetch by message-id is of: it was looked up, or the fetch goes on.
 use Rattle.std.proofs.Common.{◌≡◌, ◌∙◌, ℕ, Bool, true, false, List, [], ◌∷◌, Option, None, Some}
-use Rattle.std.proofs.Common.{Result, Ok, Err, refl, sym, ap}
+use Rattle.std.proofs.Common.{Result, Ok, Err, refl, sym, ap, subst}
 use Rattle.std.proofs.lemmas.Bool.{cond_both}
 use Rattle.std.proofs.lemmas.Option.{none-some}
 use Rattle.news_terms.specs.Blocks.{NextBlock, Whole, Oversize, Unfinished, next_block}
@@ -13,6 +13,7 @@ use Rattle.news_terms.specs.Token.{Token}
 use Rattle.relay_model.specs.Asks.{Ask, Rests, GoesOn, Says, Leaves, Offers, Looks, Reads}
 use Rattle.relay_model.specs.Asks.{TakesQueue, Refuses, Takes, Pushes, LooksInSlot, Releases, Ends}
 use Rattle.relay_model.specs.Asks.{Due, due_as, offer_asked, is_full, later, queue_asked, feed_of}
+use Rattle.relay_model.specs.Asks.{IsDueAtCommand, run_out, with_offer}
 use Rattle.relay_model.specs.Asks.{TokenAsked, IsRead, IsNone, IsDue, IsDueIn, IsDueOfCommand}
 use Rattle.relay_model.specs.Asks.{IsDueOfLine, IsDueWhereReady, IsDueOfBlock, IsDueWhereOwing}
 use Rattle.relay_model.specs.Asks.{judged_asked, or_push, leaving_due, without_offer}
@@ -25,7 +26,7 @@ use Rattle.relay_model.specs.Shares.{Answer, ToLook}
 use Rattle.relay_model.specs.State.{Session, Phase, Ready, AwaitsBlock, Holds, Waits, Fetches}
 use Rattle.relay_model.specs.State.{Leaving}
 use Rattle.relay_model.specs.State.{Ended, Transfer, TakesThis, Has, Job, Asked, OfId, OfToken}
-use Rattle.relay_model.specs.State.{in_phase, with_unread, with_offers}
+use Rattle.relay_model.specs.State.{OpenOffer, in_phase, with_unread, with_offers}
 use Rattle.relay_model.specs.Terms.{Terms, Reason}
 use Rattle.relay_model.specs.World.{Outcome, IsKept, HasFailed}
 use Rattle.relay_facts.proofs.Turning.{session_of}
@@ -78,11 +79,15 @@ due_none phase ask after d none asks e = record {
 }
 
 -- CHECK, IHAVE
-offer_none : (session : Session) (transfer : Transfer) (id : List ℕ)
-    → reading (offer_asked session transfer id) ≡ None
-offer_none session transfer id =
-    cond_both (is_full session.offers id) (Says (later transfer id)) (Offers transfer id)
-    (λ ask. reading ask ≡ None) (λ e. refl) (λ e. refl)
+offer_reads : (p : Phase) (session : Session) → fetching session.phase ≡ None → (now : ℕ)
+    (transfer : Transfer) (id : List ℕ) → Due_reads p (offer_asked session now transfer id)
+offer_reads p session none now transfer id =
+    cond_both (is_full session.offers id) (due_as (Says (later transfer id)) session)
+    (due_as (Offers transfer id) (with_offers session (with_offer session.offers id now)))
+    (Due_reads p)
+    (λ e. due_none p (Says (later transfer id)) session _ none refl refl)
+    (λ e. due_none p (Offers transfer id)
+    (with_offers session (with_offer session.offers id now)) _ none refl refl)
 
 -- XTAKE
 queue_none : (most : ℕ) (feed : Option ℕ) → reading (queue_asked most feed) ≡ None
@@ -97,8 +102,10 @@ token_none word ask (IsNone none e) = ap reading e
 -- a command
 command_reads : (w : Terms) (p : Phase) (s : Session) → fetching s.phase ≡ None → (now : ℕ)
     (command : Command) (d : Due) → IsDueOfCommand w s now command d → Due_reads p d
-command_reads w p s none now (Check id) d e = due_none p _ s d none (offer_none s TakesThis id) e
-command_reads w p s none now (Ihave id) d e = due_none p _ s d none (offer_none s Has id) e
+command_reads w p s none now (Check id) d e =
+    subst (Due_reads p) (sym e) (offer_reads p s none now TakesThis id)
+command_reads w p s none now (Ihave id) d e =
+    subst (Due_reads p) (sym e) (offer_reads p s none now Has id)
 command_reads w p s none now (TakeThis id) d e =
     due_none p GoesOn (in_phase s (AwaitsBlock TakesThis id)) d refl refl e
 command_reads w p s none now (Fetch part id) d e = due_none p (Looks part id) s d none refl e
@@ -163,17 +170,25 @@ waiting_none (Some job) transfer id = refl
 
 -- where the session leaves
 leaving_reads : (p : Phase) (s : Session) → fetching s.phase ≡ None → (hand : Option Job)
-    (offers : List (List ℕ)) (d : Due) → d ≡ leaving_due s hand offers → Due_reads p d
+    (offers : List OpenOffer) (d : Due) → d ≡ leaving_due s hand offers → Due_reads p d
 leaving_reads p s none (Some job) offers d e = due_none p _ s d none refl e
 leaving_reads p s none None [] d e = due_none p _ s d none refl e
-leaving_reads p s none None (id ∷ offers) d e =
+leaving_reads p s none None (offer ∷ offers) d e =
     due_none p _ (with_offers s offers) d none refl e
+
+-- where a command is due
+at_command_reads : (w : Terms) (p : Phase) (s : Session) → fetching s.phase ≡ None → (now : ℕ)
+    (ended : Option (OpenOffer × List OpenOffer)) (d : Due) → IsDueAtCommand w s now ended d
+    → Due_reads p d
+at_command_reads w p s none now None d e = ready_reads w p s none now (next_line s.unread) d e
+at_command_reads w p s none now (Some ended) d e =
+    due_none p _ (with_offers s ended.1) d none refl e
 
 -- each phase
 phase_reads : (w : Terms) (s : Session) (now : ℕ) (p : Phase) → s.phase ≡ p → (d : Due)
     → IsDueIn w s now p d → Due_reads p d
 phase_reads w s now Ready is d e =
-    ready_reads w Ready s (ap fetching is) now (next_line s.unread) d e
+    at_command_reads w Ready s (ap fetching is) now (run_out w.offers now s.offers) d e
 phase_reads w s now (AwaitsBlock transfer id) is d e =
     owing_reads w (AwaitsBlock transfer id) s (ap fetching is) now transfer id
     (next_block w.max_article s.unread) d e

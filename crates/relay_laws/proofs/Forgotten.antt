@@ -111,7 +111,7 @@ passed_by (first ∷ others) token passed =
 past_forgotten : (now remember : ℕ) (fronts : List Passed) → Apart fronts → (claim : Claim)
     → IsPast now remember fronts claim → after_expire now remember fronts claim ≡ Unknown
 past_forgotten now remember fronts apart Unknown past = absurd past
-past_forgotten now remember fronts apart (Offered session) past = absurd past
+past_forgotten now remember fronts apart (Offered session since) past = absurd past
 past_forgotten now remember fronts apart (Storing session article stage) past = absurd past
 past_forgotten now remember fronts apart (Stored token moment) past =
     cond-true (nat_le (moment + remember) now && is_passed fronts token) Unknown
@@ -128,7 +128,7 @@ past_forgotten now remember fronts apart (Refused moment) past =
 other_kept : (now remember : ℕ) (fronts : List Passed) (claim : Claim)
     → (IsPast now remember fronts claim → ⊥) → after_expire now remember fronts claim ≡ claim
 other_kept now remember fronts Unknown other = refl
-other_kept now remember fronts (Offered session) other = refl
+other_kept now remember fronts (Offered session since) other = refl
 other_kept now remember fronts (Storing session article stage) other = refl
 other_kept now remember fronts (Stored token moment) other =
     by (nat_le (moment + remember) now && is_passed fronts token) refl

@@ -72,7 +72,7 @@ one_session σ x y k next puts fits known s session token there is =
 look_stored : (claim : Claim) (token : Token) → look_answer claim ≡ Some token
     → (moment : ℕ) × (claim ≡ Stored token moment)
 look_stored Unknown token e = absurd (none-some token e)
-look_stored (Offered session) token e = absurd (none-some token e)
+look_stored (Offered session since) token e = absurd (none-some token e)
 look_stored (Storing session article stage) token e = absurd (none-some token e)
 look_stored (Stored had moment) token e =
     (moment, ap (λ t. Stored t moment) (same_Some had token e))

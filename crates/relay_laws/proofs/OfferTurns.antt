@@ -16,16 +16,16 @@ use Rattle.relay_model.specs.Fetches.{Fetched}
 use Rattle.relay_model.specs.Hears.{Heard, Hears, ReadHeard, goes_on, offer_heard, look_heard}
 use Rattle.relay_model.specs.Hears.{take_heard, slot_heard, push_heard}
 use Rattle.relay_model.specs.Run.{Turns}
-use Rattle.relay_model.specs.Shares.{Answer, Shares, Reading, IsFound, HasNotRead, Pushing}
-use Rattle.relay_model.specs.State.{Session, Job, Transfer, TakesThis, Has, Asked, put_id}
+use Rattle.relay_model.specs.Shares.{known_at, Answer, Shares, Reading, IsFound, HasNotRead, Pushing}
+use Rattle.relay_model.specs.State.{OpenOffer, Session, Job, Transfer, TakesThis, Has, Asked, put_id}
 use Rattle.relay_model.specs.Terms.{Terms, queue_limit}
 use Rattle.relay_model.specs.World.{World, Output, Outcome, IsKept, HasFailed}
 use Rattle.relay_laws.proofs.OfferDues.{DueOffers, due_offers}
-use Rattle.relay_laws.proofs.OfferSteps.{Touches, offers_answered}
+use Rattle.relay_laws.proofs.OfferSteps.{Touches, offers_left}
 use Rattle.relay_laws.proofs.OfferSteps as steps
 
 -- what a Turn does to claims, and to the open offers of its session
-pub data TurnOffers (x y : World) (s : ℕ) (before after : List (List ℕ)) : Type 0 where
+pub data TurnOffers (x y : World) (s : ℕ) (before after : List OpenOffer) : Type 0 where
   Same : ((k : List ℕ) → y.state.claim k ≡ x.state.claim k) → after ≡ before
       → TurnOffers x y s before after
   One : (id : List ℕ) (claim : Claim)
@@ -39,7 +39,7 @@ offers_of heard next e = ap (λ (one : Heard). one.session.offers) e
 -- an offer that was answered
 heard_answered : (session : Session) (transfer : Transfer) (id : List ℕ) (told : OfferAnswer)
     → (offer_heard session transfer id told).session.offers
-    ≡ offers_answered told session.offers id
+    ≡ offers_left told session.offers id
 heard_answered session TakesThis id Wanted = refl
 heard_answered session Has id Wanted = refl
 heard_answered session TakesThis id Later = refl
@@ -104,8 +104,8 @@ pushing_claims x job true answer y pushes = claims_of x y _ pushes.1 (λ k. refl
 pushing_claims x job false answer y pushes = claims_of x y _ pushes.1 (λ k. refl)
 
 -- by what is asked
-asked_offers : (w : Terms) (x : World) (s now : ℕ) (before : List (List ℕ)) (after : Session)
-    (ask : Ask) → DueOffers before ask after.offers → (answer : Answer) (y : World) (heard : Heard)
+asked_offers : (w : Terms) (x : World) (s now : ℕ) (before : List OpenOffer) (after : Session)
+    (ask : Ask) → DueOffers now before ask after.offers → (answer : Answer) (y : World) (heard : Heard)
     → Shares w x s now ask answer y → Hears s after ask answer heard
     → TurnOffers x y s before heard.session.offers
 asked_offers w x s now before after Rests due answer y heard shares hears =
@@ -117,13 +117,13 @@ asked_offers w x s now before after (Says reply) due answer y heard shares hears
 asked_offers w x s now before after (Leaves reply) due answer y heard shares hears =
     Same (claims_of x y x shares.1 (λ k. refl)) (offers_of heard _ hears ∙ due)
 asked_offers w x s now before after (Offers transfer id) due answer y heard shares hears =
-    let told : hears.0 ≡ offer_answer s (x.state.claim id) = cc (shares.0, hears.1) in
-    One id (after_offer s (x.state.claim id))
+    let told : hears.0 ≡ offer_answer s (known_at w x now id) = cc (shares.0, hears.1) in
+    One id (after_offer s now (known_at w x now id))
     (λ k. ap (λ (one : World). one.state.claim k) shares.1)
-    (steps.Offers refl
+    (steps.Offers w.offers now refl
     (offers_of heard _ hears.2 ∙ heard_answered after transfer id hears.0
-    ∙ ap (λ one. offers_answered one after.offers id) told
-    ∙ ap (λ list. offers_answered (offer_answer s (x.state.claim id)) list id) due))
+    ∙ ap (λ one. offers_left one after.offers id) told
+    ∙ ap (λ list. offers_left (offer_answer s (known_at w x now id)) list id) due))
 asked_offers w x s now before after (Looks part id) due answer y heard shares hears =
     Same (claims_of x y x shares.1 (λ k. refl))
     (offers_of heard _ hears.2 ∙ heard_looked after part id hears.0 ∙ due)
@@ -134,9 +134,9 @@ asked_offers w x s now before after (Reads asked token had) due answer y heard s
 asked_offers w x s now before after (TakesQueue feed most) due answer y heard shares hears =
     Same (claims_of x y _ shares.1 (λ k. refl)) (offers_of heard _ hears.3 ∙ due)
 asked_offers w x s now before after (Refuses transfer id) due answer y heard shares hears =
-    One id (after_refuse s now (x.state.claim id))
+    One id (after_refuse s now (known_at w x now id))
     (λ k. ap (λ (one : World). one.state.claim k) shares.1)
-    (steps.Refuses now refl (offers_of heard _ hears ∙ due))
+    (steps.Refuses w.offers now refl (offers_of heard _ hears ∙ due))
 asked_offers w x s now before after (Takes transfer id article) due answer y heard shares hears =
     let same = offers_of heard _ hears.2 ∙ heard_taken s after transfer id article hears.0 in
     One id (after_take s article (x.state.claim id))
@@ -158,7 +158,8 @@ asked_offers w x s now before after (LooksInSlot transfer id) due answer y heard
 asked_offers w x s now before after (Releases id) due answer y heard shares hears =
     One id (after_release s (x.state.claim id))
     (λ k. ap (λ (one : World). one.state.claim k) shares.1)
-    (steps.Releases refl (due ∙ ap (λ list. id ∷ list) (sym (offers_of heard _ hears))))
+    (steps.Releases due.0 refl
+    (due.1 ∙ ap (λ list. record { id = id; since = due.0 } ∷ list) (sym (offers_of heard _ hears))))
 asked_offers w x s now before after Ends due answer y heard shares hears =
     Same (claims_of x y x shares.1 (λ k. refl)) (offers_of heard _ hears ∙ due)
 

@@ -12,9 +12,11 @@ use Rattle.news_terms.proofs.TokenTexts.{one_text}
 use Rattle.relay_model.specs.Asks.{Ask, Says, Reads, Due, due_as, TokenAsked, IsRead, IsNone}
 use Rattle.relay_model.specs.Asks.{IsDue, IsDueIn, IsDueOfCommand, IsDueOfLine, IsDueWhereReady}
 use Rattle.relay_model.specs.Asks.{IsDueOfBlock, IsDueWhereOwing, judged_asked, without_offer}
+use Rattle.relay_model.specs.Asks.{IsDueAtCommand, run_out}
 use Rattle.relay_model.specs.State.{Session, Phase, Ready, AwaitsBlock, Holds, Waits, Fetches}
 use Rattle.relay_model.specs.State.{Leaving}
 use Rattle.relay_model.specs.State.{Ended, Transfer, OfToken, in_phase, with_unread, with_offers}
+use Rattle.relay_model.specs.State.{OpenOffer}
 use Rattle.relay_model.specs.Terms.{Terms}
 use Rattle.relay_laws.proofs.OneJudgement.{one_judgement}
 
@@ -65,6 +67,14 @@ where_ready w session now (Cut line rest) a b one other =
 where_ready w session now TooLong a b one other = one ∙ sym other
 where_ready w session now Incomplete a b one other = one ∙ sym other
 
+-- where a command is due
+at_command : (w : Terms) (session : Session) (now : ℕ) (ended : Option (OpenOffer × List OpenOffer))
+    (a b : Due) → IsDueAtCommand w session now ended a → IsDueAtCommand w session now ended b
+    → a ≡ b
+at_command w session now None a b one other =
+    where_ready w session now (next_line session.unread) a b one other
+at_command w session now (Some ended) a b one other = one ∙ sym other
+
 -- by the block
 of_block : (w : Terms) (session : Session) (now : ℕ) (transfer : Transfer)
     (id : Option (List ℕ)) (text : Option (List ℕ)) (a b : Due)
@@ -91,7 +101,7 @@ where_owing w session now transfer id Unfinished a b one other = one ∙ sym oth
 in_each_phase : (w : Terms) (session : Session) (now : ℕ) (phase : Phase) (a b : Due)
     → IsDueIn w session now phase a → IsDueIn w session now phase b → a ≡ b
 in_each_phase w session now Ready a b one other =
-    where_ready w session now (next_line session.unread) a b one other
+    at_command w session now (run_out w.offers now session.offers) a b one other
 in_each_phase w session now (AwaitsBlock transfer id) a b one other =
     where_owing w session now transfer id (next_block w.max_article session.unread) a b one other
 in_each_phase w session now (Holds id article) a b one other = one ∙ sym other

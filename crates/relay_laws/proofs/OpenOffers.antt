@@ -40,10 +40,11 @@ offer_moves x y s id same is =
 
 -- claims of which each offer was made before, with the same sessions
 offers_fewer : (x y : World)
-    → ((id : List ℕ) (s : ℕ) → y.state.claim id ≡ Offered s → x.state.claim id ≡ Offered s)
+    → ((id : List ℕ) (s since : ℕ) → y.state.claim id ≡ Offered s since
+    → x.state.claim id ≡ Offered s since)
     → ((s : ℕ) → y.state.session s ≡ x.state.session s) → OffersAreOpen x → OffersAreOpen y
-offers_fewer x y earlier sessions are_open id s e =
-    offer_moves x y s id (sessions s) (are_open id s (earlier id s e))
+offers_fewer x y earlier sessions are_open id s since e =
+    offer_moves x y s id (sessions s) (are_open id s since (earlier id s since e))
 
 -- an open offer where one session goes on with offers that it has still
 offer_stays : (x y : World) (s : ℕ) (old next : Session) → x.state.session s ≡ Some old
@@ -92,52 +93,54 @@ turn_kept w x s now output x' turn are_open = by (turn_offers w x s now output x
             ∙ sym (put_at_there x.state.session s (Some turn.heard.session) t other)
 
     by : TurnOffers x between s turn.session.offers turn.heard.session.offers → OffersAreOpen x'
-    by (turns.Same same offers) id t e =
+    by (turns.Same same offers) id t since e =
         offer_stays x x' s turn.session turn.heard.session turn.there puts id
         (λ is. ap (λ list. is_open list id) offers ∙ is) t
-        (are_open id t (sym (same id) ∙ sym (claims id) ∙ e))
-    by (turns.One id claim same touches) other t e =
-        put_id_both (λ c. c ≡ Offered t → IsOpenOffer x' t other) x.state.claim id claim other
+        (are_open id t since (sym (same id) ∙ sym (claims id) ∙ e))
+    by (turns.One id claim same touches) other t since e =
+        put_id_both (λ c. c ≡ Offered t since → IsOpenOffer x' t other) x.state.claim id claim other
         (λ here is.
-        itself other (same_id other id here) t
+        itself other (same_id other id here) t since
         (offered_after s id (x.state.claim id) claim turn.session.offers turn.heard.session.offers
-        touches t is))
+        touches t since is))
         (λ differs is.
         offer_stays x x' s turn.session turn.heard.session turn.there puts other
         (others_stay s id (x.state.claim id) claim turn.session.offers turn.heard.session.offers
-        touches other differs) t (are_open other t is))
+        touches other differs) t (are_open other t since is))
         (sym (same other) ∙ sym (claims other) ∙ e)
       where
-        itself : (other : List ℕ) → other ≡ id → (t : ℕ)
-            → IsOffered s t (x.state.claim id) turn.heard.session.offers id → IsOpenOffer x' t other
-        itself other here t (inl now) =
+        itself : (other : List ℕ) → other ≡ id → (t since : ℕ)
+            → IsOffered s t since (x.state.claim id) turn.heard.session.offers id
+            → IsOpenOffer x' t other
+        itself other here t since (inl now) =
             record {
               session = turn.heard.session;
               there = puts t ∙ put_at_here x.state.session s (Some turn.heard.session) t now.0;
               open_there = ap (is_open turn.heard.session.offers) here ∙ now.1;
             }
-        itself other here t (inr before) =
+        itself other here t since (inr before) =
             offer_moves x x' t other
             (puts t ∙ put_at_there x.state.session s (Some turn.heard.session) t before.0)
-            (subst (IsOpenOffer x t) (sym here) (are_open id t before.1))
+            (subst (IsOpenOffer x t) (sym here) (are_open id t since before.1))
 
 -- one id's claim becomes one that is no offer, and the sessions stay
 claim_kept : (x x' : World) (id : List ℕ) (claim : Claim)
-    → ((t : ℕ) → claim ≡ Offered t → ⊥)
+    → ((t since : ℕ) → claim ≡ Offered t since → ⊥)
     → ((k : List ℕ) → x'.state.claim k ≡ put_id x.state.claim id claim k)
     → ((t : ℕ) → x'.state.session t ≡ x.state.session t) → OffersAreOpen x → OffersAreOpen x'
 claim_kept x x' id claim never claims sessions =
     offers_fewer x x'
-    (λ other t e.
-    put_id_both (λ c. c ≡ Offered t → x.state.claim other ≡ Offered t) x.state.claim id claim other
-    (λ same is. absurd (never t is)) (λ differs is. is) (sym (claims other) ∙ e))
+    (λ other t since e.
+    put_id_both (λ c. c ≡ Offered t since → x.state.claim other ≡ Offered t since) x.state.claim id
+    claim other
+    (λ same is. absurd (never t since is)) (λ differs is. is) (sym (claims other) ∙ e))
     sessions
 
 -- a world that has the same state
 same_kept : (x y x' : World) → x' ≡ y → y.state ≡ x.state → OffersAreOpen x → OffersAreOpen x'
 same_kept x y x' e same are_open =
     offers_fewer x x'
-    (λ id t is. sym (ap (λ (one : World). one.state.claim id) e
+    (λ id t since is. sym (ap (λ (one : World). one.state.claim id) e
     ∙ ap (λ (σ : State). σ.claim id) same) ∙ is)
     (λ t. ap (λ (one : World). one.state.session t) e ∙ ap (λ (σ : State). σ.session t) same)
     are_open
@@ -148,7 +151,7 @@ write_kept : (w : Terms) (x : World) (g now : ℕ) (x' : World) → Writes w x g
 write_kept w x g now x' (NoJob idle empty e) = same_kept x x x' e refl
 write_kept w x g now x' (Pops job rest idle queue e) = same_kept x _ x' e refl
 write_kept w x g now x' (HasBegun job token τ has begins e) =
-    claim_kept x x' job.id _ (λ t is. cc)
+    claim_kept x x' job.id _ (λ t since is. cc)
     (λ k. ap (λ (one : World). one.state.claim k) e ∙ ap (λ (σ : State). σ.claim k) begins.after)
     (λ t. ap (λ (one : World). one.state.session t) e
     ∙ ap (λ (σ : State). σ.session t) begins.after)
@@ -156,23 +159,23 @@ write_kept w x g now x' (FindsWorn job has worn e) = same_kept x _ x' e refl
 write_kept w x g now x' (WritesBlock job token written failures has left rises e) =
     same_kept x _ x' e refl
 write_kept w x g now x' (FailsToWrite job token written failures τ has left failed fails e) =
-    claim_kept x x' job.id _ (λ t is. cc)
+    claim_kept x x' job.id _ (λ t since is. cc)
     (λ k. ap (λ (one : World). one.state.claim k) e ∙ ap (λ (σ : State). σ.claim k) fails.after)
     (λ t. ap (λ (one : World). one.state.session t) e
     ∙ ap (λ (σ : State). σ.session t) fails.after)
 write_kept w x g now x' (HasStored job token written τ has all stores e) =
-    claim_kept x x' job.id _ (λ t is. cc)
+    claim_kept x x' job.id _ (λ t since is. cc)
     (λ k. ap (λ (one : World). one.state.claim k) e ∙ ap (λ (σ : State). σ.claim k) stores.after)
     (λ t. ap (λ (one : World). one.state.session t) e
     ∙ ap (λ (σ : State). σ.session t) stores.after)
 write_kept w x g now x' (Settles job token τ has accepts e) =
-    claim_kept x x' job.id _ (λ t is. cc)
+    claim_kept x x' job.id _ (λ t since is. cc)
     (λ k. ap (λ (one : World). one.state.claim k) e ∙ ap (λ (σ : State). σ.claim k) accepts.after)
     (λ t. ap (λ (one : World). one.state.session t) e
     ∙ ap (λ (σ : State). σ.session t) accepts.after)
 write_kept w x g now x' (Closes job token has e) = same_kept x _ x' e refl
 write_kept w x g now x' (Forgets job τ has abandons e) =
-    claim_kept x x' job.id Unknown (λ t is. cc)
+    claim_kept x x' job.id Unknown (λ t since is. cc)
     (λ k. ap (λ (one : World). one.state.claim k) e ∙ ap (λ (σ : State). σ.claim k) abandons.after)
     (λ t. ap (λ (one : World). one.state.session t) e
     ∙ ap (λ (σ : State). σ.session t) abandons.after)
@@ -180,36 +183,37 @@ write_kept w x g now x' (TellsKept s has e) = same_kept x _ x' e refl
 write_kept w x g now x' (TellsFailed s has e) = same_kept x _ x' e refl
 
 -- Expire makes no offer
-expire_offered : (now remember : ℕ) (fronts : List Passed) (claim : Claim) (t : ℕ)
-    → after_expire now remember fronts claim ≡ Offered t → claim ≡ Offered t
-expire_offered now remember fronts Unknown t e = e
-expire_offered now remember fronts (Offered other) t e = e
-expire_offered now remember fronts (Storing other article stage) t e = e
-expire_offered now remember fronts (Stored token moment) t e =
+expire_offered : (now remember : ℕ) (fronts : List Passed) (claim : Claim) (t since : ℕ)
+    → after_expire now remember fronts claim ≡ Offered t since → claim ≡ Offered t since
+expire_offered now remember fronts Unknown t since e = e
+expire_offered now remember fronts (Offered other made) t since e = e
+expire_offered now remember fronts (Storing other article stage) t since e = e
+expire_offered now remember fronts (Stored token moment) t since e =
     by (nat_le (moment + remember) now && is_passed fronts token) e
   where
-    by : (test : Bool) → (if test then Unknown else Stored token moment) ≡ Offered t
-        → Stored token moment ≡ Offered t
+    by : (test : Bool) → (if test then Unknown else Stored token moment) ≡ Offered t since
+        → Stored token moment ≡ Offered t since
     by true is = absurd (cc)
     by false is = is
-expire_offered now remember fronts (Refused moment) t e = by (nat_le (moment + remember) now) e
+expire_offered now remember fronts (Refused moment) t since e =
+    by (nat_le (moment + remember) now) e
   where
-    by : (test : Bool) → (if test then Unknown else Refused moment) ≡ Offered t
-        → Refused moment ≡ Offered t
+    by : (test : Bool) → (if test then Unknown else Refused moment) ≡ Offered t since
+        → Refused moment ≡ Offered t since
     by true is = absurd (cc)
     by false is = is
 
 -- nor do the ids of a shard that are forgotten
 forgetting_offered : (claim : List ℕ → Claim) (shard now : ℕ) (remember : Option ℕ)
-    (fronts : List Passed) (id : List ℕ) (t : ℕ)
-    → forgetting claim shard now remember fronts id ≡ Offered t → claim id ≡ Offered t
-forgetting_offered claim shard now None fronts id t e = e
-forgetting_offered claim shard now (Some remember) fronts id t e = by (shard_of id == shard) e
+    (fronts : List Passed) (id : List ℕ) (t since : ℕ)
+    → forgetting claim shard now remember fronts id ≡ Offered t since → claim id ≡ Offered t since
+forgetting_offered claim shard now None fronts id t since e = e
+forgetting_offered claim shard now (Some remember) fronts id t since e = by (shard_of id == shard) e
   where
     by : (test : Bool)
-        → (if test then after_expire now remember fronts (claim id) else claim id) ≡ Offered t
-        → claim id ≡ Offered t
-    by true is = expire_offered now remember fronts (claim id) t is
+        → (if test then after_expire now remember fronts (claim id) else claim id)
+        ≡ Offered t since → claim id ≡ Offered t since
+    by true is = expire_offered now remember fronts (claim id) t since is
     by false is = is
 
 -- an Expire, by what it reads
@@ -231,12 +235,12 @@ expired_kept w x shard now (Forgetting fronts left) are_open =
     (forgetting_offered x.state.claim shard now w.remember fronts) (λ t. refl) are_open
 
 -- after a Restart nothing is offered
-restart_offered : (claim : Claim) (t : ℕ) → after_restart claim ≡ Offered t → ⊥
-restart_offered Unknown t e = cc
-restart_offered (Offered other) t e = cc
-restart_offered (Storing other article stage) t e = cc
-restart_offered (Stored token moment) t e = cc
-restart_offered (Refused moment) t e = cc
+restart_offered : (claim : Claim) (t since : ℕ) → after_restart claim ≡ Offered t since → ⊥
+restart_offered Unknown t since e = cc
+restart_offered (Offered other made) t since e = cc
+restart_offered (Storing other article stage) t since e = cc
+restart_offered (Stored token moment) t since e = cc
+restart_offered (Refused moment) t since e = cc
 
 -- a Restart
 restart_kept : (w : Terms) (x : World) (output : Output) (x' : World) → Restarts w x output x'
@@ -246,23 +250,23 @@ restart_kept w x output x' (HasNoRoom failures rises said e) = same_kept x _ x' 
 restart_kept w x output x' (HasNot i buffer failures there idle failed said e) =
     same_kept x _ x' e refl
 restart_kept w x output x' (run.IsDone failures idle rises said e) =
-    λ are_open id t is.
-    absurd (restart_offered (x.state.claim id) t
+    λ are_open id t since is.
+    absurd (restart_offered (x.state.claim id) t since
     (sym (ap (λ (one : World). one.state.claim id) e) ∙ is))
 
 -- a session that goes on with the same open offers
 session_kept : (x x' : World) (s : ℕ) (old next : Session) → x.state.session s ≡ Some old
     → next.offers ≡ old.offers → x' ≡ with_session x s next → OffersAreOpen x → OffersAreOpen x'
-session_kept x x' s old next there offers e are_open id t is =
+session_kept x x' s old next there offers e are_open id t since is =
     offer_stays x x' s old next there (λ n. ap (λ (one : World). one.state.session n) e) id
     (λ is_there. ap (λ list. is_open list id) offers ∙ is_there) t
-    (are_open id t (sym (ap (λ (one : World). one.state.claim id) e) ∙ is))
+    (are_open id t since (sym (ap (λ (one : World). one.state.claim id) e) ∙ is))
 
 -- a session that opens has a number of its own
 opened_kept : (w : Terms) (x x' : World) (s peer : ℕ) → IsWell w x
     → is_taken x.state.newest s ≡ false → x' ≡ opened x s peer → OffersAreOpen x → OffersAreOpen x'
-opened_kept w x x' s peer well free e are_open id t is =
-    let was = are_open id t (sym (ap (λ (one : World). one.state.claim id) e) ∙ is) in
+opened_kept w x x' s peer well free e are_open id t since is =
+    let was = are_open id t since (sym (ap (λ (one : World). one.state.claim id) e) ∙ is) in
     offer_moves x x' t id
     (ap (λ (one : World). one.state.session t) e
     ∙ put_at_there x.state.session s (Some (new_session peer)) t
@@ -305,4 +309,4 @@ step_kept w x event output x' well (IsDone free does) = does_kept w x event outp
 -- offers are open after every run from the beginning
 pub offers_are_open : (w : Terms) → IsSound w → Always w OffersAreOpen
 offers_are_open w sound =
-    always_keeps w sound OffersAreOpen (step_kept w) (λ failures id s e. absurd (cc))
+    always_keeps w sound OffersAreOpen (step_kept w) (λ failures id s since e. absurd (cc))

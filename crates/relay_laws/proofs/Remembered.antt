@@ -12,14 +12,14 @@ use Rattle.relay_model.specs.Asks.{Ask, Rests, GoesOn, Says, Leaves, Offers, Loo
 use Rattle.relay_model.specs.Asks.{TakesQueue, Refuses, Takes, Pushes, LooksInSlot, Releases, Ends}
 use Rattle.relay_model.specs.Claims.{Accepted, Claim, Unknown, Offered, Storing, Stored, Refused}
 use Rattle.relay_model.specs.Claims.{Passed, is_passed, after_offer, after_take, after_refuse}
-use Rattle.relay_model.specs.Claims.{after_release, after_expire, after_restart}
+use Rattle.relay_model.specs.Claims.{after_release, after_expire, after_restart, standing}
 use Rattle.relay_model.specs.Run.{Event, Open, Bytes, Turn, Write, Break, Expire, Restart, Step}
 use Rattle.relay_model.specs.Run.{Does, IsRefused, WantsMemory, IsDone, Restarts, IsBusy}
 use Rattle.relay_model.specs.Run.{HasNoRoom, HasNot, expired, reads_front, forgotten, forgetting}
 use Rattle.relay_model.specs.Run.{opened, restarted, shard_of}
 use Rattle.relay_model.specs.Run as run
-use Rattle.relay_model.specs.Shares.{Answer, Shares, Reading, IsFound, HasNotRead, Pushing}
-use Rattle.relay_model.specs.Shares.{queue_taken, ring_of, pushed, untold}
+use Rattle.relay_model.specs.Shares.{known_at, Answer, Shares, Reading, IsFound, HasNotRead, Pushing}
+use Rattle.relay_model.specs.Shares.{known_at, queue_taken, ring_of, pushed, untold}
 use Rattle.relay_model.specs.State.{State, Job, put_id}
 use Rattle.relay_model.specs.Terms.{Terms, queue_limit}
 use Rattle.relay_model.specs.World.{World, Output, Expirer, Forgetting, with_claim, with_failures}
@@ -42,34 +42,36 @@ by_test before one other true first second = first
 by_test before one other false first second = second
 
 -- CHECK and IHAVE
-offer_rests : (s : ℕ) (claim : Claim) → Rests_or claim (after_offer s claim)
-offer_rests s Unknown = IsNew refl
-offer_rests s (Offered other) = Stays refl
-offer_rests s (Storing other article stage) = Stays refl
-offer_rests s (Stored token moment) = Stays refl
-offer_rests s (Refused moment) = Stays refl
+offer_rests : (offers : Option ℕ) (s now : ℕ) (claim : Claim)
+    → Rests_or claim (after_offer s now (standing offers now claim))
+offer_rests offers s now Unknown = IsNew refl
+offer_rests offers s now (Offered other since) = IsNew refl
+offer_rests offers s now (Storing other article stage) = Stays refl
+offer_rests offers s now (Stored token moment) = Stays refl
+offer_rests offers s now (Refused moment) = Stays refl
 
 -- an article that was accepted
 take_rests : (s : ℕ) (article : Accepted) (claim : Claim)
     → Rests_or claim (after_take s article claim)
 take_rests s article Unknown = IsNew refl
-take_rests s article (Offered other) = IsNew refl
+take_rests s article (Offered other since) = IsNew refl
 take_rests s article (Storing other stored stage) = Stays refl
 take_rests s article (Stored token moment) = Stays refl
 take_rests s article (Refused moment) = Stays refl
 
 -- an article that was refused
-refuse_rests : (s now : ℕ) (claim : Claim) → Rests_or claim (after_refuse s now claim)
-refuse_rests s now Unknown = IsNew refl
-refuse_rests s now (Offered other) = IsNew refl
-refuse_rests s now (Storing other article stage) = Stays refl
-refuse_rests s now (Stored token moment) = Stays refl
-refuse_rests s now (Refused moment) = Stays refl
+refuse_rests : (offers : Option ℕ) (s now : ℕ) (claim : Claim)
+    → Rests_or claim (after_refuse s now (standing offers now claim))
+refuse_rests offers s now Unknown = IsNew refl
+refuse_rests offers s now (Offered other since) = IsNew refl
+refuse_rests offers s now (Storing other article stage) = Stays refl
+refuse_rests offers s now (Stored token moment) = Stays refl
+refuse_rests offers s now (Refused moment) = Stays refl
 
 -- an open offer that ends
 release_rests : (s : ℕ) (claim : Claim) → Rests_or claim (after_release s claim)
 release_rests s Unknown = Stays refl
-release_rests s (Offered other) = IsNew refl
+release_rests s (Offered other since) = IsNew refl
 release_rests s (Storing other article stage) = Stays refl
 release_rests s (Stored token moment) = Stays refl
 release_rests s (Refused moment) = Stays refl
@@ -77,7 +79,7 @@ release_rests s (Refused moment) = Stays refl
 -- Restart
 restart_rests : (claim : Claim) → Rests_or claim (after_restart claim)
 restart_rests Unknown = Stays refl
-restart_rests (Offered other) = IsNew refl
+restart_rests (Offered other since) = IsNew refl
 restart_rests (Storing other article stage) = Stays refl
 restart_rests (Stored token moment) = Stays refl
 restart_rests (Refused moment) = Stays refl
@@ -124,16 +126,16 @@ shared_rests w x s now GoesOn answer y e = moved x y x e.1 (all_stay x)
 shared_rests w x s now (Says reply) answer y e = moved x y x e.1 (all_stay x)
 shared_rests w x s now (Leaves reply) answer y e = moved x y x e.1 (all_stay x)
 shared_rests w x s now (Offers transfer id) answer y e =
-    moved x y (with_claim x id (after_offer s (x.state.claim id))) e.1
-    (put_rests x.state.claim id _ (offer_rests s (x.state.claim id)))
+    moved x y (with_claim x id (after_offer s now (known_at w x now id))) e.1
+    (put_rests x.state.claim id _ (offer_rests w.offers s now (x.state.claim id)))
 shared_rests w x s now (Looks part id) answer y e = moved x y x e.1 (all_stay x)
 shared_rests w x s now (Reads asked token had) answer y reads =
     reading_rests w x token answer y reads
 shared_rests w x s now (TakesQueue feed most) answer y e =
     moved x y (queue_taken x (ring_of (slice_get w.feeds feed)) feed most) e.1 (λ id. Stays refl)
 shared_rests w x s now (Refuses transfer id) answer y e =
-    moved x y (with_claim x id (after_refuse s now (x.state.claim id))) e.1
-    (put_rests x.state.claim id _ (refuse_rests s now (x.state.claim id)))
+    moved x y (with_claim x id (after_refuse s now (known_at w x now id))) e.1
+    (put_rests x.state.claim id _ (refuse_rests w.offers s now (x.state.claim id)))
 shared_rests w x s now (Takes transfer id article) answer y e =
     moved x y (with_claim x id (after_take s article (x.state.claim id))) e.1
     (put_rests x.state.claim id _ (take_rests s article (x.state.claim id)))
@@ -201,7 +203,7 @@ expire_goes : (w : Terms) (id : List ℕ) (shard now remember : ℕ) (fronts : L
     → shard_of id ≡ shard → w.remember ≡ Some remember → (claim : Claim)
     → Goes_on w id (Expire shard now) fronts claim (after_expire now remember fronts claim)
 expire_goes w id shard now remember fronts own asked Unknown = Keeps (Stays refl)
-expire_goes w id shard now remember fronts own asked (Offered session) = Keeps (Stays refl)
+expire_goes w id shard now remember fronts own asked (Offered session since) = Keeps (Stays refl)
 expire_goes w id shard now remember fronts own asked (Storing session article stage) =
     Keeps (Stays refl)
 expire_goes w id shard now remember fronts own asked (Stored token moment) =

@@ -26,7 +26,7 @@ texts_at_stage (Whole token) = 1
 -- how many texts a message-id with this claim has: one from the moment on that it is whole
 abbrev pub texts_due : Claim → ℕ
 texts_due Unknown = 0
-texts_due (Offered session) = 0
+texts_due (Offered session since) = 0
 texts_due (Storing session article stage) = texts_at_stage stage
 texts_due (Stored token moment) = 1
 texts_due (Refused moment) = 0
@@ -38,7 +38,7 @@ IsDue id σ = texts_of id σ ≡ texts_due (σ.claim id)
 -- an early claim has no text
 early_due : (claim : Claim) → is_early claim ≡ true → texts_due claim ≡ 0
 early_due Unknown e = refl
-early_due (Offered session) e = refl
+early_due (Offered session since) e = refl
 early_due (Storing session article Waiting) e = refl
 early_due (Storing session article (Begun token)) e = absurd (true≢false (sym e))
 early_due (Storing session article Failed) e = absurd (true≢false (sym e))
@@ -110,7 +110,7 @@ due_kept w id σ τ (moves.Abandoned job abandons) remembers due =
 -- a claim has at most one text
 pub at_most_one : (claim : Claim) → texts_due claim ≤ 1
 at_most_one Unknown = zero-le
-at_most_one (Offered session) = zero-le
+at_most_one (Offered session since) = zero-le
 at_most_one (Storing session article Waiting) = zero-le
 at_most_one (Storing session article (Begun token)) = zero-le
 at_most_one (Storing session article Failed) = zero-le

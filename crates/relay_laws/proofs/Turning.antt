@@ -22,9 +22,9 @@ use Rattle.relay_model.specs.Hears.{Heard, Hears, ReadHeard, ReplyIs, goes_on, s
 use Rattle.relay_model.specs.Hears.{offer_heard, look_heard, take_heard, push_heard, slot_heard}
 use Rattle.relay_model.specs.Hears.{Shows, rejected}
 use Rattle.relay_model.specs.Run.{Turns}
-use Rattle.relay_model.specs.Shares.{Answer, Shares, IsFound, Pushing, Nothing, ToOffer, ToLook}
-use Rattle.relay_model.specs.Shares.{ToRead, ToTakeQueue, ToTake, ToPush, InSlot, as_ring, ring_of}
-use Rattle.relay_model.specs.Shares.{queue_taken, pushed, untold}
+use Rattle.relay_model.specs.Shares.{known_at, Answer, Shares, IsFound, Pushing, Nothing, ToOffer, ToLook}
+use Rattle.relay_model.specs.Shares.{known_at, ToRead, ToTakeQueue, ToTake, ToPush, InSlot, as_ring, ring_of}
+use Rattle.relay_model.specs.Shares.{known_at, queue_taken, pushed, untold}
 use Rattle.relay_model.specs.State.{Session, Asked, OfId, OfToken, Fetches, Ended, Job, in_phase}
 use Rattle.relay_model.specs.Terms.{Terms, queue_limit}
 use Rattle.relay_model.specs.World.{World, Output, output_of, with_claim, with_session}
@@ -37,24 +37,25 @@ abbrev has_room : World → Job → Bool
 has_room x job = nat_lt (length (x.work.queue job.article.group)) queue_limit
 
 -- what a step of what is shared answers
-abbrev answer_to : Terms → World → ℕ → Ask → Answer
-answer_to w x s Rests = Nothing
-answer_to w x s GoesOn = Nothing
-answer_to w x s (Says reply) = Nothing
-answer_to w x s (Leaves reply) = Nothing
-answer_to w x s (Offers transfer id) = ToOffer (offer_answer s (x.state.claim id))
-answer_to w x s (Looks part id) = ToLook (look_answer (x.state.claim id))
-answer_to w x s (Reads asked token had) = ToRead (fetched w x.state token)
-answer_to w x s (TakesQueue feed most) =
+abbrev answer_to : Terms → World → (s now : ℕ) → Ask → Answer
+answer_to w x s now Rests = Nothing
+answer_to w x s now GoesOn = Nothing
+answer_to w x s now (Says reply) = Nothing
+answer_to w x s now (Leaves reply) = Nothing
+answer_to w x s now (Offers transfer id) =
+    ToOffer (offer_answer s (known_at w x now id))
+answer_to w x s now (Looks part id) = ToLook (look_answer (x.state.claim id))
+answer_to w x s now (Reads asked token had) = ToRead (fetched w x.state token)
+answer_to w x s now (TakesQueue feed most) =
     let ring = ring_of (slice_get w.feeds feed) in
     ToTakeQueue (rings.missed ring (as_ring (x.state.feed feed)))
     (rings.taken_items ring most (as_ring (x.state.feed feed)))
-answer_to w x s (Refuses transfer id) = Nothing
-answer_to w x s (Takes transfer id article) = ToTake (take_answer s (x.state.claim id))
-answer_to w x s (Pushes job) = ToPush (has_room x job)
-answer_to w x s (LooksInSlot transfer id) = InSlot (x.work.slot s)
-answer_to w x s (Releases id) = Nothing
-answer_to w x s Ends = Nothing
+answer_to w x s now (Refuses transfer id) = Nothing
+answer_to w x s now (Takes transfer id article) = ToTake (take_answer s (x.state.claim id))
+answer_to w x s now (Pushes job) = ToPush (has_room x job)
+answer_to w x s now (LooksInSlot transfer id) = InSlot (x.work.slot s)
+answer_to w x s now (Releases id) = Nothing
+answer_to w x s now Ends = Nothing
 
 -- the world after a push, or as it was
 abbrev after_push : World → Job → Bool → World
@@ -67,13 +68,14 @@ world_after w x s now Rests = x
 world_after w x s now GoesOn = x
 world_after w x s now (Says reply) = x
 world_after w x s now (Leaves reply) = x
-world_after w x s now (Offers transfer id) = with_claim x id (after_offer s (x.state.claim id))
+world_after w x s now (Offers transfer id) =
+    with_claim x id (after_offer s now (known_at w x now id))
 world_after w x s now (Looks part id) = x
 world_after w x s now (Reads asked token had) = x
 world_after w x s now (TakesQueue feed most) =
     queue_taken x (ring_of (slice_get w.feeds feed)) feed most
 world_after w x s now (Refuses transfer id) =
-    with_claim x id (after_refuse s now (x.state.claim id))
+    with_claim x id (after_refuse s now (known_at w x now id))
 world_after w x s now (Takes transfer id article) =
     with_claim x id (after_take s article (x.state.claim id))
 world_after w x s now (Pushes job) = after_push x job (has_room x job)
@@ -89,7 +91,7 @@ pushes x job false = (refl, refl)
 
 -- the step does so
 shares : (w : Terms) (x : World) (s now : ℕ) (ask : Ask)
-    → Shares w x s now ask (answer_to w x s ask) (world_after w x s now ask)
+    → Shares w x s now ask (answer_to w x s now ask) (world_after w x s now ask)
 shares w x s now Rests = (refl, refl)
 shares w x s now GoesOn = (refl, refl)
 shares w x s now (Says reply) = (refl, refl)
@@ -214,31 +216,31 @@ is_read_heard session asked token had a found false knows =
     (reply_to asked token a found, is_reply asked token a found knows, refl)
 
 -- what the session makes of an answer
-abbrev heard_of : Terms → World → ℕ → Article → Session → Ask → Heard
-heard_of w x s a session Rests = silent session
-heard_of w x s a session GoesOn = silent session
-heard_of w x s a session (Says reply) = says session reply
-heard_of w x s a session (Leaves reply) = parts session reply
-heard_of w x s a session (Offers transfer id) =
-    offer_heard session transfer id (offer_answer s (x.state.claim id))
-heard_of w x s a session (Looks part id) =
+abbrev heard_of : Terms → World → (s now : ℕ) → Article → Session → Ask → Heard
+heard_of w x s now a session Rests = silent session
+heard_of w x s now a session GoesOn = silent session
+heard_of w x s now a session (Says reply) = says session reply
+heard_of w x s now a session (Leaves reply) = parts session reply
+heard_of w x s now a session (Offers transfer id) =
+    offer_heard session transfer id (offer_answer s (known_at w x now id))
+heard_of w x s now a session (Looks part id) =
     look_heard session part id (look_answer (x.state.claim id))
-heard_of w x s a session (Reads asked token had) =
+heard_of w x s now a session (Reads asked token had) =
     read_heard session asked token had a (fetched w x.state token)
     (goes_on asked token had (fetched w x.state token))
-heard_of w x s a session (TakesQueue feed most) =
+heard_of w x s now a session (TakesQueue feed most) =
     let ring = ring_of (slice_get w.feeds feed) in
     says session
     (QueueFollows (rings.missed ring (as_ring (x.state.feed feed)))
     (rings.taken_items ring most (as_ring (x.state.feed feed))))
-heard_of w x s a session (Refuses transfer id) = says session (rejected transfer id)
-heard_of w x s a session (Takes transfer id article) =
+heard_of w x s now a session (Refuses transfer id) = says session (rejected transfer id)
+heard_of w x s now a session (Takes transfer id article) =
     take_heard s session transfer id article (take_answer s (x.state.claim id))
-heard_of w x s a session (Pushes job) = push_heard session (has_room x job)
-heard_of w x s a session (LooksInSlot transfer id) =
+heard_of w x s now a session (Pushes job) = push_heard session (has_room x job)
+heard_of w x s now a session (LooksInSlot transfer id) =
     slot_heard session transfer id (x.work.slot s)
-heard_of w x s a session (Releases id) = silent session
-heard_of w x s a session Ends = silent (in_phase session Ended)
+heard_of w x s now a session (Releases id) = silent session
+heard_of w x s now a session Ends = silent (in_phase session Ended)
 
 -- what has to be known of what is asked
 abbrev ask_premise : Terms → World → Article → Ask → Premise
@@ -260,36 +262,36 @@ ask_premise w x a (Releases id) = Free
 ask_premise w x a Ends = Free
 
 -- it makes that of it
-hears : (w : Terms) (x : World) (s : ℕ) (a : Article) (session : Session) (ask : Ask)
+hears : (w : Terms) (x : World) (s now : ℕ) (a : Article) (session : Session) (ask : Ask)
     → IsMet (ask_premise w x a ask)
-    → Hears s session ask (answer_to w x s ask) (heard_of w x s a session ask)
-hears w x s a session Rests knows = refl
-hears w x s a session GoesOn knows = refl
-hears w x s a session (Says reply) knows = refl
-hears w x s a session (Leaves reply) knows = refl
-hears w x s a session (Offers transfer id) knows =
-    (offer_answer s (x.state.claim id), refl, refl)
-hears w x s a session (Looks part id) knows = (look_answer (x.state.claim id), refl, refl)
-hears w x s a session (Reads asked token had) knows = (
+    → Hears s session ask (answer_to w x s now ask) (heard_of w x s now a session ask)
+hears w x s now a session Rests knows = refl
+hears w x s now a session GoesOn knows = refl
+hears w x s now a session (Says reply) knows = refl
+hears w x s now a session (Leaves reply) knows = refl
+hears w x s now a session (Offers transfer id) knows =
+    (offer_answer s (known_at w x now id), refl, refl)
+hears w x s now a session (Looks part id) knows = (look_answer (x.state.claim id), refl, refl)
+hears w x s now a session (Reads asked token had) knows = (
   fetched w x.state token,
   refl,
   is_read_heard session asked token had a (fetched w x.state token)
       (goes_on asked token had (fetched w x.state token)) knows,
 )
-hears w x s a session (TakesQueue feed most) knows =
+hears w x s now a session (TakesQueue feed most) knows =
     let ring = ring_of (slice_get w.feeds feed) in (
       rings.missed ring (as_ring (x.state.feed feed)),
       rings.taken_items ring most (as_ring (x.state.feed feed)),
       refl,
       refl,
     )
-hears w x s a session (Refuses transfer id) knows = refl
-hears w x s a session (Takes transfer id article) knows =
+hears w x s now a session (Refuses transfer id) knows = refl
+hears w x s now a session (Takes transfer id article) knows =
     (take_answer s (x.state.claim id), refl, refl)
-hears w x s a session (Pushes job) knows = (has_room x job, refl, refl)
-hears w x s a session (LooksInSlot transfer id) knows = (x.work.slot s, refl, refl)
-hears w x s a session (Releases id) knows = refl
-hears w x s a session Ends knows = refl
+hears w x s now a session (Pushes job) knows = (has_room x job, refl, refl)
+hears w x s now a session (LooksInSlot transfer id) knows = (x.work.slot s, refl, refl)
+hears w x s now a session (Releases id) knows = refl
+hears w x s now a session Ends knows = refl
 
 -- an output and the world after it
 pub record Played : Type 0 where
@@ -299,7 +301,7 @@ pub record Played : Type 0 where
 -- by what is due
 abbrev played_due : Terms → World → (s now : ℕ) → Article → Due → Played
 played_due w x s now a due =
-    let heard = heard_of w x s a due.after due.ask in
+    let heard = heard_of w x s now a due.after due.ask in
     record {
       output = output_of s heard.said;
       world = with_session (world_after w x s now due.ask) s heard.session;
@@ -328,11 +330,11 @@ turns w x s now hint session there knows =
       there = there;
       due = due;
       is_due = phase_due w session now hint session.phase knows.0;
-      answer = answer_to w x s due.ask;
+      answer = answer_to w x s now due.ask;
       between = world_after w x s now due.ask;
       shares = shares w x s now due.ask;
-      heard = heard_of w x s (article_read hint) due.after due.ask;
-      hears = hears w x s (article_read hint) due.after due.ask knows.1;
+      heard = heard_of w x s now (article_read hint) due.after due.ask;
+      hears = hears w x s now (article_read hint) due.after due.ask knows.1;
       output_is = refl;
       after = refl;
     }

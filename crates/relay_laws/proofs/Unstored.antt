@@ -29,7 +29,7 @@ third = put_id second (codes "<e@x>") (Refused now)
 pub none_storing : (failures : ℕ → ℕ) (id : List ℕ)
     → is_storing ((remembering failures).state.claim id) ≡ false
 none_storing failures id =
-    not_storing third (codes "<o@x>") (Offered 1) id refl
+    not_storing third (codes "<o@x>") (Offered 1 now) id refl
     (not_storing second (codes "<e@x>") (Refused now) id refl
     (not_storing first (codes "<2@x>") (Stored (three_blocks_at 0 3) now) id refl
     (not_storing (λ other. Unknown) (codes "<1@x>") (Stored (three_blocks_at 0 0) now) id refl

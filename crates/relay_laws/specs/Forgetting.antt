@@ -30,7 +30,7 @@ pub record IsAtRest (work : Work) : Type 0 where
 -- the moment at which a remembered id was stored or refused
 abbrev pub remembered_at : Claim → Option ℕ
 remembered_at Unknown = None
-remembered_at (Offered session) = None
+remembered_at (Offered session since) = None
 remembered_at (Storing session article stage) = None
 remembered_at (Stored token moment) = Some moment
 remembered_at (Refused moment) = Some moment
@@ -98,7 +98,7 @@ pub record IsGoneByRead (fronts : List Passed) (token : Token) : Type 0 where
 -- and is gone by a front that was read
 abbrev pub IsPast : (now remember : ℕ) → List Passed → Claim → Type 0
 IsPast now remember fronts Unknown = ⊥
-IsPast now remember fronts (Offered session) = ⊥
+IsPast now remember fronts (Offered session since) = ⊥
 IsPast now remember fronts (Storing session article stage) = ⊥
 IsPast now remember fronts (Stored token moment) =
     (moment + remember ≤ now) × IsGoneByRead fronts token

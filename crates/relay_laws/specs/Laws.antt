@@ -35,7 +35,7 @@ texts_of id σ = count_by (λ (kept : Kept). bytes_eq id kept.id) σ.kept
 -- the id is stored or was refused
 abbrev pub is_remembered : Claim → Bool
 is_remembered Unknown = false
-is_remembered (Offered session) = false
+is_remembered (Offered session since) = false
 is_remembered (Storing session article stage) = false
 is_remembered (Stored token moment) = true
 is_remembered (Refused moment) = true
@@ -67,7 +67,8 @@ pub record IsOpenOffer (x : World) (s : ℕ) (id : List ℕ) : Type 0 where
 
 -- a message-id that is offered to a session is one of its open offers
 abbrev pub OffersAreOpen : World → Type 0
-OffersAreOpen x = (id : List ℕ) (s : ℕ) → x.state.claim id ≡ Offered s → IsOpenOffer x s id
+OffersAreOpen x =
+    (id : List ℕ) (s since : ℕ) → x.state.claim id ≡ Offered s since → IsOpenOffer x s id
 
 -- a fetch of the token finds it gone
 abbrev pub FindsGone : Terms → Token → World → Type 0

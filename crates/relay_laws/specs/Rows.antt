@@ -1,6 +1,6 @@
 -- The worked rows from the empty world: their events, and what these are answered. Session 1 is
 -- that of the first peer, session 2 that of the second.
-use Rattle.std.specs.Prelude.{ℕ, List, [], ◌∷◌, ◌++◌, codes, replicate}
+use Rattle.std.specs.Prelude.{ℕ, ◌+◌, List, [], ◌∷◌, ◌++◌, codes, replicate}
 use Rattle.std.specs.Str.{byte}
 use Rattle.news_terms.specs.Article.{article_text, worked_article}
 use Rattle.relay_model.specs.Run.{Event, Open, Bytes, Turn, Write, Break}
@@ -81,6 +81,27 @@ taken_over_replies =
     both_greeted ++ quiet 2
     ++ Sent 1 (codes "238 <a@x>\r\n") ∷ quiet 9
     ++ Sent 2 (codes "239 <a@x>\r\n") ∷ Quiet ∷ Sent 1 (codes "439 <a@x>\r\n") ∷ []
+
+-- an offer runs out: half a minute after the first session was told to send, the second one asks,
+-- and a second later again; then the first does, by IHAVE, and sends the article all the same
+abbrev pub run_out : List Event
+run_out =
+    both_open
+    ++ Bytes 1 (codes "CHECK <a@x>\r\nIHAVE <a@x>\r\nTAKETHIS <a@x>\r\n" ++ block_of (byte "a"))
+    ∷ Bytes 2 (codes "CHECK <a@x>\r\nCHECK <a@x>\r\nTAKETHIS <a@x>\r\n" ++ block_of (byte "a"))
+    ∷ Turn 1 now ∷ Turn 2 (now + 30) ∷ Turn 2 (now + 31)
+    ∷ replicate 5 (Turn 1 (now + 31)) ++ writes 6 ++ Turn 1 (now + 32)
+    ∷ replicate 2 (Turn 2 (now + 32))
+
+-- 238 to the first, 431 and then 238 to the second; the first's offer ends, it is told 436, and its
+-- article is stored: 239, and 439 to the second
+abbrev pub run_out_replies : List Output
+run_out_replies =
+    both_greeted ++ quiet 2
+    ++ Sent 1 (codes "238 <a@x>\r\n") ∷ Sent 2 (codes "431 <a@x>\r\n")
+    ∷ Sent 2 (codes "238 <a@x>\r\n") ∷ Quiet ∷ Sent 1 (codes "436 Try again later\r\n")
+    ∷ quiet 3 ++ quiet 6 ++ Sent 1 (codes "239 <a@x>\r\n") ∷ Quiet
+    ∷ Sent 2 (codes "439 <a@x>\r\n") ∷ []
 
 -- two bodies at once: the first session is told to send by IHAVE; the second's article is being
 -- stored when the first's comes

@@ -10,7 +10,7 @@ use Rattle.relay_model.specs.Terms.{Terms}
 -- the claim is not this session's: it is another session's, or the id is remembered
 abbrev pub IsNotOf : ℕ → Claim → Type 0
 IsNotOf s Unknown = ⊥
-IsNotOf s (Offered other) = (other == s) ≡ false
+IsNotOf s (Offered other since) = (other == s) ≡ false
 IsNotOf s (Storing other article stage) = (other == s) ≡ false
 IsNotOf s (Stored token moment) = Unit {0}
 IsNotOf s (Refused moment) = Unit {0}

@@ -220,6 +220,22 @@ abbrev pub last_replies : List Output
 last_replies =
     Quiet ∷ Sent 1 (codes "238 <n@x>\r\n") ∷ Sent 1 (codes "436 Try again later\r\n") ∷ []
 
+-- a new id, half a minute after the oldest offer was opened, and a second later
+abbrev pub new_again : List Event
+new_again =
+    Bytes 1 (codes "CHECK <n@x>\r\nCHECK <n@x>\r\n")
+    ∷ Turn 1 (now + 30) ∷ Turn 1 (now + 31) ∷ Turn 1 (now + 31) ∷ []
+
+-- 431; then the oldest offer has run out and ends, and there is room: 238
+abbrev pub new_again_replies : List Output
+new_again_replies =
+    Quiet ∷ Sent 1 (codes "431 <n@x>\r\n") ∷ Quiet ∷ Sent 1 (codes "238 <n@x>\r\n") ∷ []
+
+-- where offers don't run out: 431 twice
+abbrev pub staying_replies : List Output
+staying_replies =
+    Quiet ∷ Sent 1 (codes "431 <n@x>\r\n") ∷ Sent 1 (codes "431 <n@x>\r\n") ∷ Quiet ∷ []
+
 -- an offer of an id that is open
 abbrev pub open_again : List Event
 open_again = Bytes 1 (codes "CHECK <o@x>\r\n") ∷ turns 1 1

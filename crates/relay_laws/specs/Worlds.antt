@@ -10,7 +10,7 @@ use Rattle.relay_model.specs.Claims.{Accepted, Claim, Unknown, Offered, Storing,
 use Rattle.relay_model.specs.Claims.{Stage, Waiting, Begun}
 use Rattle.relay_model.specs.Claims as claims
 use Rattle.relay_model.specs.State.{State, Session, Job, Ready, Waits, Fetches, OfId, OfToken}
-use Rattle.relay_model.specs.State.{Asked, TakesThis, Has}
+use Rattle.relay_model.specs.State.{Asked, OpenOffer, TakesThis, Has}
 use Rattle.relay_model.specs.State.{put_id, put_at, empty_state}
 use Rattle.relay_model.specs.Terms.{Terms}
 use Rattle.relay_model.specs.World.{World, Idle, Writing, empty_world}
@@ -44,6 +44,10 @@ third_job = record { session = 1; id = codes "<3@x>"; article = three_blocks }
 -- the job of the fourth, which session 3 brought by IHAVE
 abbrev pub fourth_job : Job
 fourth_job = record { session = 3; id = codes "<4@x>"; article = three_blocks }
+
+-- an open offer of this id, since now
+abbrev pub open_now : List ℕ → OpenOffer
+open_now id = record { id = id; since = now }
 
 -- a session of the first peer that waits for the outcome of its article
 abbrev pub waiting_third : Session
@@ -181,10 +185,10 @@ sharing failures one two =
     let before = two_stored failures one two in
     record before {
       state = record before.state {
-        claim = put_id before.state.claim (codes "<o@x>") (Offered 3);
+        claim = put_id before.state.claim (codes "<o@x>") (Offered 3 now);
         session = put_at before.state.session 1 (Some (record reading {
           offers =
-              codes "<o@x>" ∷ codes "<3@x>" ∷ codes "<4@x>" ∷ codes "<2@x>" ∷ [];
+              open_now (codes "<o@x>") ∷ open_now (codes "<3@x>") ∷ open_now (codes "<4@x>") ∷ open_now (codes "<2@x>") ∷ [];
         }));
       };
     }
@@ -202,7 +206,7 @@ remembering failures =
         claim = put_id (put_id (put_id (put_id (λ id. Unknown) (codes "<1@x>")
             (Stored (three_blocks_at 0 0) now)) (codes "<2@x>")
             (Stored (three_blocks_at 0 3) now)) (codes "<e@x>") (Refused now)) (codes "<o@x>")
-            (Offered 1);
+            (Offered 1 now);
         begun = courses_of k1 (λ group. 3 ∷ 3 ∷ 3 ∷ []);
         session = put_at (λ s. None) 2 (Some reading);
         newest = Some 2;
@@ -259,9 +263,29 @@ abbrev pub offering : (failures : ℕ → ℕ) → ℕ → World
 offering failures n =
     record (empty_world failures) {
       state = record empty_state {
-        claim = put_id (λ id. Unknown) (codes "<o@x>") (Offered 1);
+        claim = put_id (λ id. Unknown) (codes "<o@x>") (Offered 1 now);
         session = put_at (λ s. None) 1
-            (Some (record reading { offers = replicate n (codes "<o@x>") }));
+            (Some (record reading { offers = replicate n (open_now (codes "<o@x>")) }));
+        newest = Some 1;
+      };
+    }
+
+-- offers run out after half a minute
+abbrev pub running_out : Terms
+running_out = record k1 { offers = Some 30 }
+
+-- session 1 has 256 offers open, the oldest twenty seconds older than the others
+abbrev pub aging : (failures : ℕ → ℕ) → World
+aging failures =
+    record (empty_world failures) {
+      state = record empty_state {
+        claim = put_id (put_id (λ id. Unknown) (codes "<o@x>") (Offered 1 (now + 20)))
+            (codes "<3@x>") (Offered 1 now);
+        session = put_at (λ s. None) 1 (Some (record reading {
+          offers =
+              open_now (codes "<3@x>")
+              ∷ replicate 255 (record { id = codes "<o@x>"; since = now + 20 });
+        }));
         newest = Some 1;
       };
     }
@@ -271,10 +295,10 @@ abbrev pub offering_third : (failures : ℕ → ℕ) → World
 offering_third failures =
     record (empty_world failures) {
       state = record empty_state {
-        claim = put_id (put_id (λ id. Unknown) (codes "<o@x>") (Offered 1)) (codes "<3@x>")
-            (Offered 1);
+        claim = put_id (put_id (λ id. Unknown) (codes "<o@x>") (Offered 1 now)) (codes "<3@x>")
+            (Offered 1 now);
         session = put_at (λ s. None) 1 (Some (record reading {
-          offers = codes "<3@x>" ∷ replicate 255 (codes "<o@x>");
+          offers = open_now (codes "<3@x>") ∷ replicate 255 (open_now (codes "<o@x>"));
         }));
         newest = Some 1;
       };
@@ -286,11 +310,11 @@ abbrev pub outdated : (failures : ℕ → ℕ) → World
 outdated failures =
     record (empty_world failures) {
       state = record empty_state {
-        claim = put_id (put_id (put_id (λ id. Unknown) (codes "<o@x>") (Offered 1))
+        claim = put_id (put_id (put_id (λ id. Unknown) (codes "<o@x>") (Offered 1 now))
             (codes "<3@x>") (Storing 3 three_blocks Waiting)) (codes "<2@x>")
             (Stored (three_blocks_at 0 3) now);
         session = put_at (λ s. None) 1 (Some (record reading {
-          offers = codes "<3@x>" ∷ codes "<2@x>" ∷ replicate 254 (codes "<o@x>");
+          offers = open_now (codes "<3@x>") ∷ open_now (codes "<2@x>") ∷ replicate 254 (open_now (codes "<o@x>"));
         }));
         newest = Some 1;
       };

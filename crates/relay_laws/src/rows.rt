@@ -7,6 +7,7 @@ ghost use Rattle.relay_laws.specs.OtherTerms.{of_at_most};
 ghost use Rattle.relay_laws.specs.Rows as rows;
 ghost use Rattle.relay_laws.specs.Terms.{k1, feeding_first, own_is_first, one_block};
 ghost use Rattle.relay_laws.specs.Terms.{of_class_two};
+ghost use Rattle.relay_laws.specs.Worlds.{running_out};
 
 /// CHECK, TAKETHIS of an article, STAT: 238, 239, 223.
 pub fn first_script()
@@ -25,6 +26,13 @@ pub fn one_claim()
 pub fn offer_taken_over()
     ensures { (failures : ℕ → ℕ)
         → AreAnswered k1 (empty_world failures) rows.taken_over rows.taken_over_replies }
+{}
+
+/// An offer runs out after its seconds: the id is offered to who asks next, and an article that
+/// comes of the old offer is taken as one that was never offered.
+pub fn offer_runs_out()
+    ensures { (failures : ℕ → ℕ)
+        → AreAnswered running_out (empty_world failures) rows.run_out rows.run_out_replies }
 {}
 
 /// An article that comes by IHAVE while another of its id is being stored: 436.

@@ -1,5 +1,5 @@
 //! Laws of single rules.
-ghost use Rattle.std.specs.Prelude.{◌≡◌, ◌≢◌, ◌++◌, ◌∷◌, [], ◌↔◌, ◌+◌, ◌≤◌, ℕ, true, false, List};
+ghost use Rattle.std.specs.Prelude.{◌≡◌, ◌≢◌, ◌++◌, ◌∷◌, [], ◌↔◌, ◌+◌, ◌≤◌, ◌<◌, ◌⊎◌, ℕ, true, false, List};
 ghost use Rattle.std.specs.Prelude.{Option, None, Some, Result, Contains, IsSomeAnd, slice_get};
 ghost use Rattle.news_terms.specs.Article.{Article};
 ghost use Rattle.news_terms.specs.Places.{Buffer, size_of};
@@ -8,7 +8,7 @@ ghost use Rattle.news_terms.specs.Token.{Token};
 ghost use Rattle.relay_model.specs.Asks.{Due, IsDue, Pushes, feed_of};
 ghost use Rattle.relay_model.specs.Claims.{Accepted, Claim, Offered, Storing, Waiting, Wanted};
 ghost use Rattle.relay_model.specs.Claims.{Mine, Stage, Stored, is_storing, is_storing_for};
-ghost use Rattle.relay_model.specs.Claims.{look_answer};
+ghost use Rattle.relay_model.specs.Claims.{Unknown, look_answer, standing};
 ghost use Rattle.relay_model.specs.Claims.{offer_answer, after_offer, take_answer, after_take};
 ghost use Rattle.relay_model.specs.Claims.{after_refuse, after_release, after_forget, after_settle};
 ghost use Rattle.relay_model.specs.Fetches as fetches;
@@ -73,10 +73,27 @@ pub fn own_feed_is_taken()
 
 /// A session that is told to send an article has the offer of its id; else nothing has changed.
 pub fn one_is_told_to_send()
-    ensures told { (s : ℕ) (claim : Claim) → offer_answer s claim ≡ Wanted
-        → after_offer s claim ≡ Offered s }
-    ensures untold { (s : ℕ) (claim : Claim) → offer_answer s claim ≢ Wanted
-        → after_offer s claim ≡ claim }
+    ensures told { (s now : ℕ) (claim : Claim) → offer_answer s claim ≡ Wanted
+        → ((after_offer s now claim ≡ Offered s now) × (claim ≡ Unknown))
+        ⊎ ((since : ℕ) × (after_offer s now claim ≡ Offered s since) × (claim ≡ Offered s since)) }
+    ensures untold { (s now : ℕ) (claim : Claim) → offer_answer s claim ≢ Wanted
+        → after_offer s now claim ≡ claim }
+{}
+
+/// An offer that is older than offers may be is none, every other claim stands, and where offers
+/// don't run out all do. An article is taken as if its id had not been offered.
+pub fn old_offers_are_none()
+    ensures old { (seconds now s since : ℕ) → since + seconds < now
+        → standing (Some seconds) now (Offered s since) ≡ Unknown }
+    ensures young { (seconds now s since : ℕ) → now ≤ since + seconds
+        → standing (Some seconds) now (Offered s since) ≡ Offered s since }
+    ensures others { (offers : Option ℕ) (now : ℕ) (claim : Claim)
+        → ((s since : ℕ) → claim ≢ Offered s since) → standing offers now claim ≡ claim }
+    ensures all_stand { (now : ℕ) (claim : Claim) → standing None now claim ≡ claim }
+    ensures taken { (offers : Option ℕ) (s now : ℕ) (claim : Claim)
+        → take_answer s (standing offers now claim) ≡ take_answer s claim }
+    ensures stored { (offers : Option ℕ) (s now : ℕ) (article : Accepted) (claim : Claim)
+        → after_take s article (standing offers now claim) ≡ after_take s article claim }
 {}
 
 /// A session that is to store an article has its id from then on; else nothing has changed.

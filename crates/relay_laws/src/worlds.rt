@@ -9,6 +9,7 @@ ghost use Rattle.relay_laws.specs.OtherTerms.{two_forgetting, in_last_cycle};
 ghost use Rattle.relay_laws.specs.Terms.{k1, now};
 ghost use Rattle.relay_laws.specs.WorldRows as rows;
 ghost use Rattle.relay_laws.specs.Worlds.{two_stored, begun_world, failed_world, reading_last};
+ghost use Rattle.relay_laws.specs.Worlds.{aging, running_out};
 ghost use Rattle.relay_laws.specs.Worlds.{third_job, fourth_job, forgetting, remembering};
 ghost use Rattle.relay_laws.specs.Worlds.{offering, outdated, sharing, offering_third};
 ghost use Rattle.relay_laws.specs.Worlds.{remembering_two, reading_by_token, reading_on, one_begun};
@@ -136,6 +137,12 @@ pub fn open_offers()
     ensures by_ihave { (failures : ℕ → ℕ)
         → AreAnswered k1
         (outdated failures) rows.outdated_by_ihave rows.outdated_by_ihave_replies }
+
+    // One that has run out is none of them any more.
+    ensures aging { (failures : ℕ → ℕ)
+        → AreAnswered running_out (aging failures) rows.new_again rows.new_again_replies }
+    ensures staying { (failures : ℕ → ℕ)
+        → AreAnswered k1 (aging failures) rows.new_again rows.staying_replies }
 {}
 
 /// The open offer of an id ends when its article comes, whether that is refused or stored.

@@ -67,13 +67,15 @@ due_as ask session = record { ask = ask; after = session }
 abbrev pub is_open : List OpenOffer → List ℕ → Bool
 is_open offers id = list_any (λ (offer : OpenOffer). bytes_eq id offer.id) offers
 
+-- the open offers with this one, which stands last where it is opened now; one that is open stays
+-- as old as it is
+abbrev pub with_offer : List OpenOffer → List ℕ → (now : ℕ) → List OpenOffer
+with_offer offers id now =
+    if is_open offers id then offers else offers ++ record { id = id; since = now } ∷ []
+
 -- the open offers without this one
 abbrev pub without_offer : List OpenOffer → List ℕ → List OpenOffer
 without_offer offers id = filter (λ (offer : OpenOffer). not (bytes_eq id offer.id)) offers
-
--- the open offers with this one, made at this moment: the newest stands last
-abbrev pub with_offer : List OpenOffer → List ℕ → (now : ℕ) → List OpenOffer
-with_offer offers id now = without_offer offers id ++ record { id = id; since = now } ∷ []
 
 -- no further offer may be opened, and this id is none of the open ones
 abbrev pub is_full : List OpenOffer → List ℕ → Bool
@@ -84,8 +86,8 @@ abbrev pub later : Transfer → List ℕ → Reply
 later TakesThis id = AskLater id
 later Has id = IhaveLater
 
--- CHECK, IHAVE (RFC 4644 section 2.4, RFC 3977 section 6.3.2): while it is asked whether the
--- article is wanted, its id is the newest open offer
+-- CHECK, IHAVE (RFC 4644 section 2.4, RFC 3977 section 6.3.2): the id is open while it is asked
+-- whether its article is wanted
 abbrev pub offer_asked : Session → (now : ℕ) → Transfer → List ℕ → Due
 offer_asked session now transfer id =
     if is_full session.offers id then due_as (Says (later transfer id)) session

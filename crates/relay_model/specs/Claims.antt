@@ -29,7 +29,7 @@ pub data Stage : Type 0 where
 pub data Claim : Type 0 where
   -- nothing
   Unknown : Claim
-  -- this session was told to send the article, last at this moment
+  -- this session was told to send the article, first at this moment
   Offered : (session since : ℕ) → Claim
   -- this session sent the article, and it is being stored
   Storing : (session : ℕ) (article : Accepted) (stage : Stage) → Claim
@@ -69,12 +69,10 @@ offer_answer s (Storing other article stage) = Later
 offer_answer s (Stored token moment) = Seen
 offer_answer s (Refused moment) = Seen
 
--- CHECK and IHAVE: an unknown id becomes this session's offer, and one that is its offer is so from
--- now on; every other stays
+-- CHECK and IHAVE: an unknown id becomes this session's offer, every other stays
 abbrev pub after_offer : (s now : ℕ) → Claim → Claim
 after_offer s now Unknown = Offered s now
-after_offer s now (Offered other since) =
-    if other == s then Offered s now else Offered other since
+after_offer s now (Offered other since) = Offered other since
 after_offer s now (Storing other article stage) = Storing other article stage
 after_offer s now (Stored token moment) = Stored token moment
 after_offer s now (Refused moment) = Refused moment

@@ -38,7 +38,7 @@ pub data Asked : Type 0 where
   OfId : (part : Part) (id : List ℕ) → Asked
   OfToken : Asked
 
--- an open offer: the id of an article that the session was told to send, and when it was told last
+-- an open offer: the id of an article that the session was told to send, and when it was opened
 pub record OpenOffer : Type 0 where
   pub id : List ℕ
   pub since : ℕ

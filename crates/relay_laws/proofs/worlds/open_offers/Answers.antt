@@ -1,7 +1,7 @@
 use Rattle.std.proofs.Common.{[], refl}
 use Rattle.relay_laws.specs.Terms.{k1}
 use Rattle.relay_laws.specs.WorldRows as rows
-use Rattle.relay_laws.specs.Worlds.{offering, outdated}
+use Rattle.relay_laws.specs.Worlds.{aging, offering, outdated, running_out}
 use Rattle.relay_laws.proofs.Playing.{are_answered}
 use Rattle.relay_laws.proofs.worlds.open_offers.Goals as goal
 
@@ -24,3 +24,11 @@ returns-clause-outdated c = λ failures. are_answered k1 (outdated failures) []
 pub returns-clause-by_ihave : goal.returns-clause-by_ihave
 returns-clause-by_ihave c = λ failures. are_answered k1 (outdated failures) []
     rows.outdated_by_ihave rows.outdated_by_ihave_replies tt refl refl
+
+pub returns-clause-aging : goal.returns-clause-aging
+returns-clause-aging c = λ failures. are_answered running_out (aging failures) []
+    rows.new_again rows.new_again_replies tt refl refl
+
+pub returns-clause-staying : goal.returns-clause-staying
+returns-clause-staying c = λ failures. are_answered k1 (aging failures) []
+    rows.new_again rows.staying_replies tt refl refl
