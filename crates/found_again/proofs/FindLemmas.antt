@@ -32,7 +32,7 @@ use Rattle.found_again.proofs.ClaimLemmas.{keeps_same}
 mine_after : (claim : Claim) (token : Token) (now : ℕ) → Mine ≡ take_answer 0 claim
     → after_settle 0 token now (after_take 0 no_article claim) ≡ after_found token now claim
 mine_after Unknown token now says = refl
-mine_after (Offered session) token now says = refl
+mine_after (Offered session since) token now says = refl
 mine_after (Storing session article stage) token now says = absurd cc
 mine_after (Stored had moment) token now says = absurd cc
 mine_after (Refused moment) token now says = absurd cc
@@ -41,7 +41,7 @@ mine_after (Refused moment) token now says = absurd cc
 held_after : (claim : Claim) (token : Token) (now : ℕ) → Held ≡ take_answer 0 claim
     → after_take 0 no_article claim ≡ after_found token now claim
 held_after Unknown token now says = absurd cc
-held_after (Offered session) token now says = absurd cc
+held_after (Offered session since) token now says = absurd cc
 held_after (Storing session article stage) token now says = refl
 held_after (Stored had moment) token now says = absurd cc
 held_after (Refused moment) token now says = absurd cc
@@ -49,7 +49,7 @@ held_after (Refused moment) token now says = absurd cc
 had_after : (claim : Claim) (token : Token) (now : ℕ) → Had ≡ take_answer 0 claim
     → after_take 0 no_article claim ≡ after_found token now claim
 had_after Unknown token now says = absurd cc
-had_after (Offered session) token now says = absurd cc
+had_after (Offered session since) token now says = absurd cc
 had_after (Storing session article stage) token now says = absurd cc
 had_after (Stored had moment) token now says = refl
 had_after (Refused moment) token now says = refl

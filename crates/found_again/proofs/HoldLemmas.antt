@@ -21,7 +21,7 @@ use Rattle.found_again.specs.declared.text.FoundText.{FoundText}
 -- the claim is of a token of one of so many buffers, and of a moment that there is
 abbrev pub ClaimHolds : (buffers : ℕ) → Claim → Type 0
 ClaimHolds buffers Unknown = Unit {0}
-ClaimHolds buffers (Offered session) = Unit {0}
+ClaimHolds buffers (Offered session since) = Unit {0}
 ClaimHolds buffers (Storing session article stage) = Unit {0}
 ClaimHolds buffers (Stored token moment) = (token.buffer < buffers) × (moment ≤ last_moment)
 ClaimHolds buffers (Refused moment) = moment ≤ last_moment
@@ -44,7 +44,7 @@ after_holds : (buffers : ℕ) (token : Token) (now : ℕ) (claim : Claim) → to
     → now ≤ last_moment → ClaimHolds buffers claim
     → ClaimHolds buffers (after_found token now claim)
 after_holds buffers token now Unknown there in_time holds = (there, in_time)
-after_holds buffers token now (Offered session) there in_time holds = (there, in_time)
+after_holds buffers token now (Offered session since) there in_time holds = (there, in_time)
 after_holds buffers token now (Storing session article stage) there in_time holds = tt
 after_holds buffers token now (Stored had moment) there in_time holds = holds
 after_holds buffers token now (Refused moment) there in_time holds = holds
@@ -53,9 +53,9 @@ after_holds buffers token now (Refused moment) there in_time holds = holds
 refuse_holds : (buffers moment : ℕ) (claim : Claim) → moment ≤ last_moment
     → ClaimHolds buffers claim → ClaimHolds buffers (after_refuse 0 moment claim)
 refuse_holds buffers moment Unknown in_time holds = in_time
-refuse_holds buffers moment (Offered session) in_time holds = by (nat_eq session 0)
+refuse_holds buffers moment (Offered session since) in_time holds = by (nat_eq session 0)
   where
-    by : (own : Bool) → ClaimHolds buffers (cond own (Refused moment) (Offered session))
+    by : (own : Bool) → ClaimHolds buffers (cond own (Refused moment) (Offered session since))
     by true = in_time
     by false = tt
 refuse_holds buffers moment (Storing session article stage) in_time holds = tt
@@ -102,7 +102,7 @@ refused_holds buffers (one ∷ listed) claims in_time all =
 lasting_holds : (buffers : ℕ) (claim : Claim) → ClaimHolds buffers claim
     → ClaimHolds buffers (lasting claim)
 lasting_holds buffers Unknown holds = tt
-lasting_holds buffers (Offered session) holds = tt
+lasting_holds buffers (Offered session since) holds = tt
 lasting_holds buffers (Storing session article stage) holds = tt
 lasting_holds buffers (Stored token moment) holds = holds
 lasting_holds buffers (Refused moment) holds = holds

@@ -12,7 +12,7 @@ use Rattle.found_again.specs.declared.text.FoundText.{FoundText}
 -- a text of the id is found: it is stored since now, where nothing is known of it but an offer
 abbrev pub after_found : Token → (now : ℕ) → Claim → Claim
 after_found token now Unknown = Stored token now
-after_found token now (Offered session) = Stored token now
+after_found token now (Offered session since) = Stored token now
 after_found token now (Storing session article stage) = Storing session article stage
 after_found token now (Stored had moment) = Stored had moment
 after_found token now (Refused moment) = Refused moment

@@ -96,7 +96,7 @@ blind_by : (test : Claim → Bool)
     ≡ test (claim.Storing session article stage))
     → IsBlind test
 blind_by test storing claim.Unknown = refl
-blind_by test storing (claim.Offered session) = refl
+blind_by test storing (claim.Offered session since) = refl
 blind_by test storing (claim.Storing session article stage) = storing session article stage
 blind_by test storing (claim.Stored token moment) = refl
 blind_by test storing (claim.Refused moment) = refl
@@ -137,7 +137,7 @@ ids_of-found id (p ∷ pairs) = by (bytes_eq id (string_bytes p.0)) _ _ (ids_of-
 -- of an id with an entry something is known
 known_entry : (found : Option Entry) → is_some found ≡ is_known (claim_of (entry_mark found))
 known_entry None = refl
-known_entry (Some (entry.Offered session)) = refl
+known_entry (Some (entry.Offered session since)) = refl
 known_entry (Some (entry.Storing session)) = refl
 known_entry (Some (entry.Stored token moment)) = refl
 known_entry (Some (entry.Refused moment)) = refl

@@ -40,7 +40,7 @@ mark_of-after_expire : (now remember : ℕ) (fronts : List Passed) (c : Claim)
     → mark_of (after_expire now remember fronts c)
     ≡ cond (is_forgotten now remember fronts (mark_of c)) Unknown (mark_of c)
 mark_of-after_expire now remember fronts claim.Unknown = refl
-mark_of-after_expire now remember fronts (claim.Offered session) = refl
+mark_of-after_expire now remember fronts (claim.Offered session since) = refl
 mark_of-after_expire now remember fronts (claim.Storing session article stage) = refl
 mark_of-after_expire now remember fronts (claim.Stored token moment) =
     mark_of-cond (is_forgotten now remember fronts (mark_of (claim.Stored token moment)))

@@ -179,7 +179,7 @@ some_left entries up = record {
 -- what is left of claims that last is left of them
 lasting-twice : (c : Claim) → lasting (lasting c) ≡ lasting c
 lasting-twice claim.Unknown = refl
-lasting-twice (claim.Offered session) = refl
+lasting-twice (claim.Offered session since) = refl
 lasting-twice (claim.Storing session article stage) = refl
 lasting-twice (claim.Stored token moment) = refl
 lasting-twice (claim.Refused moment) = refl
@@ -213,7 +213,7 @@ reads-back shards entries again up resumed read =
 -- where no id is being stored, what lasts is what a Restart leaves
 pub lasting-restart : (c : Claim) → is_storing c ≡ false → lasting c ≡ after_restart c
 lasting-restart claim.Unknown idle = refl
-lasting-restart (claim.Offered session) idle = refl
+lasting-restart (claim.Offered session since) idle = refl
 lasting-restart (claim.Storing session article stage) idle = absurd (false≢true (sym idle))
 lasting-restart (claim.Stored token moment) idle = refl
 lasting-restart (claim.Refused moment) idle = refl

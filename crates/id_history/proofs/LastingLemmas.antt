@@ -58,7 +58,7 @@ apart : (k : String Global) (pairs : Pairs)
     → AllByRecursion (λ y. string_eq k y ≡ false) (keys_of pairs)
     → AllByRecursion (λ y. bytes_eq (string_bytes k) y ≡ false) (ids_of (flat_map kept_of pairs))
 apart k [] all = tt
-apart k ((q, entry.Offered session) ∷ pairs) all = apart k pairs all.1
+apart k ((q, entry.Offered session since) ∷ pairs) all = apart k pairs all.1
 apart k ((q, entry.Storing session) ∷ pairs) all = apart k pairs all.1
 apart k ((q, entry.Stored token moment) ∷ pairs) all = (all.0, apart k pairs all.1)
 apart k ((q, entry.Refused moment) ∷ pairs) all = (all.0, apart k pairs all.1)
@@ -68,7 +68,7 @@ once : (pairs : Pairs) → IsDistinct string_eq (keys_of pairs)
     → IsDistinct bytes_eq (ids_of (flat_map kept_of pairs))
 unfolding IsDistinct
 once [] all = tt
-once ((q, entry.Offered session) ∷ pairs) all = once pairs all.1
+once ((q, entry.Offered session since) ∷ pairs) all = once pairs all.1
 once ((q, entry.Storing session) ∷ pairs) all = once pairs all.1
 once ((q, entry.Stored token moment) ∷ pairs) all = (apart q pairs all.0, once pairs all.1)
 once ((q, entry.Refused moment) ∷ pairs) all = (apart q pairs all.0, once pairs all.1)
@@ -76,7 +76,7 @@ once ((q, entry.Refused moment) ∷ pairs) all = (apart q pairs all.0, once pair
 -- what is left of a claim is left of its mark
 lasting-mark : (c : Claim) → lasting c ≡ lasting (claim_of (mark_of c))
 lasting-mark claim.Unknown = refl
-lasting-mark (claim.Offered session) = refl
+lasting-mark (claim.Offered session since) = refl
 lasting-mark (claim.Storing session article stage) = refl
 lasting-mark (claim.Stored token moment) = refl
 lasting-mark (claim.Refused moment) = refl
@@ -94,7 +94,7 @@ each : (shard : Shard) (claims : List ℕ → Claim) → Keeps shard claims → 
     (flat_map kept_of pairs)
 unfolding mark_at
 each shard claims keeps [] found = tt
-each shard claims keeps ((q, entry.Offered session) ∷ pairs) found =
+each shard claims keeps ((q, entry.Offered session since) ∷ pairs) found =
     each shard claims keeps pairs found.1
 each shard claims keeps ((q, entry.Storing session) ∷ pairs) found =
     each shard claims keeps pairs found.1
@@ -130,7 +130,7 @@ member id ((q, one) ∷ pairs) left =
     here : (e : Entry) → left_of (Some e) ≢ Unknown → bytes_eq id (string_bytes q) ≡ true
         → is_member bytes_eq (ids_of (kept_by (string_bytes q) e ++ flat_map kept_of pairs)) id
         ≡ true
-    here (entry.Offered session) left same = absurd (left refl)
+    here (entry.Offered session since) left same = absurd (left refl)
     here (entry.Storing session) left same = absurd (left refl)
     here (entry.Stored token moment) left same =
         ap (λ b. b || is_member bytes_eq (ids_of (flat_map kept_of pairs)) id) same
@@ -140,7 +140,7 @@ member id ((q, one) ∷ pairs) left =
     there : (e : Entry) → is_member bytes_eq (ids_of (flat_map kept_of pairs)) id ≡ true
         → is_member bytes_eq (ids_of (kept_by (string_bytes q) e ++ flat_map kept_of pairs)) id
         ≡ true
-    there (entry.Offered session) among = among
+    there (entry.Offered session since) among = among
     there (entry.Storing session) among = among
     there (entry.Stored token moment) among = or_right (bytes_eq id (string_bytes q)) _ among
     there (entry.Refused moment) among = or_right (bytes_eq id (string_bytes q)) _ among
@@ -207,7 +207,7 @@ put_all-at claims base id (one ∷ others) each =
 -- of an id that isn't there nothing is left
 nothing : (c : Claim) → (c ≢ Unknown → false ≡ true) → c ≡ Unknown
 nothing claim.Unknown h = refl
-nothing (claim.Offered session) h = absurd (false≢true (h (λ e. cc)))
+nothing (claim.Offered session since) h = absurd (false≢true (h (λ e. cc)))
 nothing (claim.Storing session article stage) h = absurd (false≢true (h (λ e. cc)))
 nothing (claim.Stored token moment) h = absurd (false≢true (h (λ e. cc)))
 nothing (claim.Refused moment) h = absurd (false≢true (h (λ e. cc)))

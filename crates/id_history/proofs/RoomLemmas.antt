@@ -41,7 +41,7 @@ length-left pair pairs =
 one_left : (pair : String Global × Entry)
     → cond (is_stored (claim_by pair.1)) 1 0 + cond (is_refused (claim_by pair.1)) 1 0
     ≡ length (kept_of pair)
-one_left (q, entry.Offered session) = refl
+one_left (q, entry.Offered session since) = refl
 one_left (q, entry.Storing session) = refl
 one_left (q, entry.Stored token moment) = refl
 one_left (q, entry.Refused moment) = refl

@@ -9,7 +9,7 @@ use Rattle.id_history.specs.declared.counts.Counts.{Counts}
 -- something is known of the id
 abbrev pub is_known : Claim → Bool
 is_known Unknown = false
-is_known (Offered session) = true
+is_known (Offered session since) = true
 is_known (Storing session article stage) = true
 is_known (Stored token moment) = true
 is_known (Refused moment) = true
@@ -17,7 +17,7 @@ is_known (Refused moment) = true
 -- a session was told to send the article of the id
 abbrev pub is_offered : Claim → Bool
 is_offered Unknown = false
-is_offered (Offered session) = true
+is_offered (Offered session since) = true
 is_offered (Storing session article stage) = false
 is_offered (Stored token moment) = false
 is_offered (Refused moment) = false
@@ -25,7 +25,7 @@ is_offered (Refused moment) = false
 -- the article of the id was stored
 abbrev pub is_stored : Claim → Bool
 is_stored Unknown = false
-is_stored (Offered session) = false
+is_stored (Offered session since) = false
 is_stored (Storing session article stage) = false
 is_stored (Stored token moment) = true
 is_stored (Refused moment) = false
@@ -33,7 +33,7 @@ is_stored (Refused moment) = false
 -- an article of the id was refused
 abbrev pub is_refused : Claim → Bool
 is_refused Unknown = false
-is_refused (Offered session) = false
+is_refused (Offered session since) = false
 is_refused (Storing session article stage) = false
 is_refused (Stored token moment) = false
 is_refused (Refused moment) = true

@@ -13,7 +13,7 @@ passed_view front =
 -- gone
 abbrev pub is_forgotten : (now remember : ℕ) → List Passed → Mark → Bool
 is_forgotten now remember fronts Unknown = false
-is_forgotten now remember fronts (Offered session) = false
+is_forgotten now remember fronts (Offered session since) = false
 is_forgotten now remember fronts (Storing session) = false
 is_forgotten now remember fronts (Stored token moment) =
     nat_le (moment + remember) now && is_passed fronts token

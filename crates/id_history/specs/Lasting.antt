@@ -12,7 +12,7 @@ use Rattle.relay_model.specs.State.{put_id}
 -- what is left of a claim: nothing where the id is only offered or is being stored
 abbrev pub lasting : Claim → Claim
 lasting Unknown = Unknown
-lasting (Offered session) = Unknown
+lasting (Offered session since) = Unknown
 lasting (Storing session article stage) = Unknown
 lasting (Stored token moment) = Stored token moment
 lasting (Refused moment) = Refused moment

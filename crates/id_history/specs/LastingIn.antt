@@ -13,7 +13,7 @@ use Rattle.id_history.specs.declared.shards.Shards.{Shards}
 
 -- what is left of an entry of this id
 abbrev pub kept_by : List ℕ → Entry → List KeptId
-kept_by id (entry.Offered session) = []
+kept_by id (entry.Offered session since) = []
 kept_by id (entry.Storing session) = []
 kept_by id (entry.Stored token moment) =
     record { id = id; token = Some (token_view token); moment = moment } ∷ []

@@ -6,10 +6,11 @@ ghost use Rattle.cyc_token.specs.Token.{token_view};
 ghost use Rattle.relay_model.specs.Claims.{Accepted, Claim, Unknown, offer_answer, after_offer};
 ghost use Rattle.relay_model.specs.Claims.{take_answer, after_take, after_refuse, after_release};
 ghost use Rattle.relay_model.specs.Claims.{after_forget, is_storing_for, after_settle, look_answer};
+ghost use Rattle.relay_model.specs.Claims.{standing};
 ghost use Rattle.id_history.specs.OnlyIds.{OnlyIds};
 
 use crate::counts::Counts;
-use crate::expiry::{is_over, is_passed};
+use crate::expiry::{has_run_out, is_over, is_passed};
 use crate::kept::KeptId;
 use crate::keys::{id_of, kept, text_of};
 use cyc_buffer::Front;
@@ -63,7 +64,7 @@ impl Settled {
 /// What is known of a message-id. Where nothing is known, there is no entry.
 #[derive(Clone, Copy)]
 enum Entry {
-    Offered { session: u64 },
+    Offered { session: u64, since: u64 },
     Storing { session: u64 },
     Stored { token: Token, moment: u64 },
     Refused { moment: u64 },
@@ -176,23 +177,38 @@ impl Shard {
         }
     }
 
-    /// The session offers the article of the id: an id that is unknown becomes its offer.
-    pub fn offer(&mut self, id: &MsgId, session: u64) -> Result<Offer, AllocError>
+    /// The session offers the article of the id at this moment: an id that is unknown becomes its
+    /// offer, and so does one whose offer has run out, where offers last so many seconds.
+    pub fn offer(
+        &mut self,
+        id: &MsgId,
+        session: u64,
+        now: u64,
+        lasting: Option<u64>,
+    ) -> Result<Offer, AllocError>
         ensures answer { IfOk result (λ answer. OfClaim (Keeps self.old) id.now
-            (λ claim. offer_view answer ≡ offer_answer session claim)) }
-        ensures claims { OnOk result
-            (ChangesClaim (Keeps self.old) (Keeps self.new) id.now (after_offer session)) }
+            (λ claim. offer_view answer ≡ offer_answer session (standing lasting now claim))) }
+        ensures claims { OnOk result (ChangesClaim (Keeps self.old) (Keeps self.new) id.now
+            (λ claim. after_offer session now (standing lasting now claim))) }
         ensures err { OnErr result (KeepsClaims (Keeps self.old) (Keeps self.new)) }
 
         // An id that is known takes no memory.
         ensures known { OfClaim (Keeps self.old) id.now (λ claim. claim ≢ Unknown → IsOk result) }
     {
+        let offered = Entry::Offered {
+            session,
+            since: now,
+        };
         match self.entry(id) {
             None => {
-                self.add(id, Entry::Offered { session })?;
+                self.add(id, offered)?;
                 Ok(Offer::Wanted)
             }
-            Some(Entry::Offered { session: other }) if other == session => Ok(Offer::Wanted),
+            Some(Entry::Offered { since, .. }) if has_run_out(lasting, since, now) => {
+                self.change(id, offered);
+                Ok(Offer::Wanted)
+            }
+            Some(Entry::Offered { session: other, .. }) if other == session => Ok(Offer::Wanted),
             Some(Entry::Offered { .. } | Entry::Storing { .. }) => Ok(Offer::Later),
             Some(Entry::Stored { .. } | Entry::Refused { .. }) => Ok(Offer::Seen),
         }
@@ -224,11 +240,18 @@ impl Shard {
         }
     }
 
-    /// The session's article of the id was refused at this moment: where the id is unknown or
-    /// offered to the session, that is remembered.
-    pub fn refuse(&mut self, id: &MsgId, session: u64, now: u64) -> Result<(), AllocError>
-        ensures claims { OnOk result
-            (ChangesClaim (Keeps self.old) (Keeps self.new) id.now (after_refuse session now)) }
+    /// The session's article of the id was refused at this moment: where the id is unknown, offered
+    /// to the session, or its offer has run out, where offers last so many seconds, that is
+    /// remembered.
+    pub fn refuse(
+        &mut self,
+        id: &MsgId,
+        session: u64,
+        now: u64,
+        lasting: Option<u64>,
+    ) -> Result<(), AllocError>
+        ensures claims { OnOk result (ChangesClaim (Keeps self.old) (Keeps self.new) id.now
+            (λ claim. after_refuse session now (standing lasting now claim))) }
         ensures err { OnErr result (KeepsClaims (Keeps self.old) (Keeps self.new)) }
 
         // An id that is known takes no memory.
@@ -237,7 +260,12 @@ impl Shard {
         let refused = Entry::Refused { moment: now };
         match self.entry(id) {
             None => self.add(id, refused)?,
-            Some(Entry::Offered { session: other }) if other == session => self.change(id, refused),
+            Some(Entry::Offered { since, .. }) if has_run_out(lasting, since, now) => {
+                self.change(id, refused);
+            }
+            Some(Entry::Offered { session: other, .. }) if other == session => {
+                self.change(id, refused);
+            }
             Some(_) => {}
         }
         Ok(())
@@ -248,7 +276,7 @@ impl Shard {
         ensures { ChangesClaim (Keeps self.old) (Keeps self.new) id.now (after_release session) }
     {
         match self.entry(id) {
-            Some(Entry::Offered { session: other }) if other == session => self.remove(id),
+            Some(Entry::Offered { session: other, .. }) if other == session => self.remove(id),
             _ => {}
         }
     }

@@ -1,4 +1,4 @@
-//! What may be forgotten (docs/PROTOCOL.md, Forgetting).
+//! What may be forgotten (docs/PROTOCOL.md, Forgetting), and which offers have run out (Claims).
 ghost use Rattle.std.specs.Prelude.{◌≡◌, ◌+◌, ◌*◌, map, nat_le, nat_lt};
 ghost use Rattle.cyc_token.specs.Token.{token_view};
 ghost use Rattle.relay_model.specs.Claims as claims;
@@ -36,4 +36,14 @@ pub(crate) fn is_over(moment: u64, remember: u64, now: u64) -> bool
     ensures { result ≡ nat_le (moment + remember) now }
 {
     u128::from(moment) + u128::from(remember) <= u128::from(now)
+}
+
+/// Whether an offer that was made then has run out now, where offers last so many seconds.
+pub(crate) fn has_run_out(lasting: Option<u64>, since: u64, now: u64) -> bool
+    ensures { result ≡ claims.has_run_out lasting since now }
+{
+    match lasting {
+        Some(seconds) => u128::from(since) + u128::from(seconds) < u128::from(now),
+        None => false,
+    }
 }

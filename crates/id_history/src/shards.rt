@@ -2,7 +2,7 @@ ghost use Rattle.std.specs.Prelude.{◌≡◌, ◌≢◌, ◌<◌, ℕ, List, So
 ghost use Rattle.std.specs.Prelude.{IsOk, IfOk, IfSome, OnOk, OnErr, ◌+◌, vec_len, vec_capacity};
 ghost use Rattle.std.specs.List.{AllByRecursion};
 ghost use Rattle.cyc_token.specs.Token.{token_view};
-ghost use Rattle.relay_model.specs.Claims.{Accepted, Claim, Unknown, offer_answer, after_offer};
+ghost use Rattle.relay_model.specs.Claims.{standing, Accepted, Claim, Unknown, offer_answer, after_offer};
 ghost use Rattle.relay_model.specs.Claims.{take_answer, after_take, after_refuse, after_release};
 ghost use Rattle.relay_model.specs.Claims.{after_forget, is_storing_for, after_settle, look_answer};
 ghost use Rattle.relay_model.specs.Run as run;
@@ -82,18 +82,24 @@ impl Shards {
     }
 
     /// See `Shard::offer`.
-    pub fn offer(&mut self, id: &MsgId, session: u64) -> Result<Offer, AllocError>
+    pub fn offer(
+        &mut self,
+        id: &MsgId,
+        session: u64,
+        now: u64,
+        lasting: Option<u64>,
+    ) -> Result<Offer, AllocError>
         ensures answer { IfOk result (λ answer. OfClaim (KeepsAll self.old) id.now
-            (λ claim. offer_view answer ≡ offer_answer session claim)) }
-        ensures claims { OnOk result
-            (ChangesClaim (KeepsAll self.old) (KeepsAll self.new) id.now (after_offer session)) }
+            (λ claim. offer_view answer ≡ offer_answer session (standing lasting now claim))) }
+        ensures claims { OnOk result (ChangesClaim (KeepsAll self.old) (KeepsAll self.new) id.now
+            (λ claim. after_offer session now (standing lasting now claim))) }
         ensures err { OnErr result (KeepsClaims (KeepsAll self.old) (KeepsAll self.new)) }
 
         // An id that is known takes no memory.
         ensures known { OfClaim (KeepsAll self.old) id.now
             (λ claim. claim ≢ Unknown → IsOk result) }
     {
-        self.shards[shard_of(id)].offer(id, session)
+        self.shards[shard_of(id)].offer(id, session, now, lasting)
     }
 
     /// See `Shard::take`.
@@ -113,17 +119,22 @@ impl Shards {
     }
 
     /// See `Shard::refuse`.
-    pub fn refuse(&mut self, id: &MsgId, session: u64, now: u64) -> Result<(), AllocError>
-        ensures claims { OnOk result
-            (ChangesClaim (KeepsAll self.old) (KeepsAll self.new) id.now
-            (after_refuse session now)) }
+    pub fn refuse(
+        &mut self,
+        id: &MsgId,
+        session: u64,
+        now: u64,
+        lasting: Option<u64>,
+    ) -> Result<(), AllocError>
+        ensures claims { OnOk result (ChangesClaim (KeepsAll self.old) (KeepsAll self.new) id.now
+            (λ claim. after_refuse session now (standing lasting now claim))) }
         ensures err { OnErr result (KeepsClaims (KeepsAll self.old) (KeepsAll self.new)) }
 
         // An id that is known takes no memory.
         ensures known { OfClaim (KeepsAll self.old) id.now
             (λ claim. claim ≢ Unknown → IsOk result) }
     {
-        self.shards[shard_of(id)].refuse(id, session, now)
+        self.shards[shard_of(id)].refuse(id, session, now, lasting)
     }
 
     /// See `Shard::release`.

@@ -13,7 +13,7 @@ use Rattle.relay_core.specs.Idle.{IsIdleAs}
 -- an id that is being stored is known
 storing_known : (claim : Claim) → is_storing claim ≡ true → is_known claim ≡ true
 storing_known Unknown e = absurd (true≢false (sym e))
-storing_known (Offered session) e = refl
+storing_known (Offered session since) e = refl
 storing_known (Storing session article stage) e = refl
 storing_known (Stored token moment) e = refl
 storing_known (Refused moment) e = refl

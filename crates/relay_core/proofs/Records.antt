@@ -194,7 +194,7 @@ waiting_of P kept size feed is all =
 -- a claim of which something is left has a moment that there is
 timed : (claim : Claim) → IsTimed claim → IsTimed (lasting claim)
 timed claims.Unknown is = tt
-timed (claims.Offered session) is = tt
+timed (claims.Offered session since) is = tt
 timed (claims.Storing session article stage) is = tt
 timed (claims.Stored token moment) is = is
 timed (claims.Refused moment) is = is
@@ -203,7 +203,7 @@ timed (claims.Refused moment) is = is
 stored_is : (claim : Claim) (token : Token) (moment : ℕ)
     → claims.Stored token moment ≡ lasting claim → claim ≡ claims.Stored token moment
 stored_is claims.Unknown token moment e = absurd (cc)
-stored_is (claims.Offered session) token moment e = absurd (cc)
+stored_is (claims.Offered session since) token moment e = absurd (cc)
 stored_is (claims.Storing session article stage) token moment e = absurd (cc)
 stored_is (claims.Stored other since) token moment e = sym e
 stored_is (claims.Refused since) token moment e = absurd (cc)
@@ -211,7 +211,7 @@ stored_is (claims.Refused since) token moment e = absurd (cc)
 -- of a claim that isn't being stored the same lasts after a Restart
 pub lasts_again : (claim : Claim) → lasting (after_restart claim) ≡ lasting claim
 lasts_again claims.Unknown = refl
-lasts_again (claims.Offered session) = refl
+lasts_again (claims.Offered session since) = refl
 lasts_again (claims.Storing session article stage) = refl
 lasts_again (claims.Stored token moment) = refl
 lasts_again (claims.Refused moment) = refl

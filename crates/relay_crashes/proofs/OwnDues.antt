@@ -22,14 +22,15 @@ use Rattle.relay_model.specs.Asks.{TakesQueue, Refuses, Takes, Pushes, LooksInSl
 use Rattle.relay_model.specs.Asks.{Due, due_as, offer_asked, is_full, later, queue_asked, feed_of}
 use Rattle.relay_model.specs.Asks.{TokenAsked, IsDue, IsDueIn, IsDueOfCommand}
 use Rattle.relay_model.specs.Asks.{IsDueOfLine, IsDueWhereReady, IsDueOfBlock, IsDueWhereOwing}
-use Rattle.relay_model.specs.Asks.{judged_asked, or_push, leaving_due, without_offer}
+use Rattle.relay_model.specs.Asks.{judged_asked, or_push, leaving_due, without_offer, with_offer}
+use Rattle.relay_model.specs.Asks.{IsDueAtCommand, run_out}
 use Rattle.relay_model.specs.Asks as asks
 use Rattle.relay_model.specs.Claims.{Accepted}
 use Rattle.relay_model.specs.Judging.{Judges, IsOversize, IsNone, IsRead, identity_of, judged}
 use Rattle.relay_model.specs.Judging.{stored_text}
 use Rattle.relay_model.specs.State.{Session, Phase, Ready, AwaitsBlock, Holds, Waits, Fetches}
 use Rattle.relay_model.specs.State.{Leaving, Ended, Transfer, TakesThis, Has, Job, in_phase}
-use Rattle.relay_model.specs.State.{with_unread, with_offers}
+use Rattle.relay_model.specs.State.{OpenOffer, with_unread, with_offers}
 use Rattle.relay_model.specs.Terms.{Terms, Reason}
 use Rattle.relay_facts.specs.Sound.{IsSound}
 use Rattle.relay_laws.proofs.Reasons.{offered, is_updated}
@@ -114,11 +115,12 @@ due_is ask after asks goes_on d e =
     subst DueOwn (sym e) (record { asks = asks; goes_on = goes_on })
 
 -- CHECK, IHAVE
-offer_own : (one : Session) (transfer : Transfer) (id : List ℕ)
-    → AskOwn (offer_asked one transfer id)
-offer_own one transfer id =
-    cond_both (is_full one.offers id) (Says (later transfer id)) (Offers transfer id) AskOwn
-    (λ e. tt) (λ e. tt)
+offer_own : (one : Session) → PhaseOwn one.phase → (now : ℕ) (transfer : Transfer) (id : List ℕ)
+    → DueOwn (offer_asked one now transfer id)
+offer_own one own now transfer id =
+    cond_both (is_full one.offers id) (due_as (Says (later transfer id)) one)
+    (due_as (Offers transfer id) (with_offers one (with_offer one.offers id now))) DueOwn
+    (λ e. record { asks = tt; goes_on = own }) (λ e. record { asks = tt; goes_on = own })
 
 -- XTAKE
 queue_own : (most : ℕ) (feed : Option ℕ) → AskOwn (queue_asked most feed)
@@ -134,9 +136,9 @@ token_own word ask (asks.IsNone none e) = subst AskOwn (sym e) tt
 command_own : (w : Terms) (one : Session) → PhaseOwn one.phase → (now : ℕ) (command : Command)
     (d : Due) → IsDueOfCommand w one now command d → DueOwn d
 command_own w one own now (Check id) d e =
-    due_is (offer_asked one TakesThis id) one (offer_own one TakesThis id) own d e
+    subst DueOwn (sym e) (offer_own one own now TakesThis id)
 command_own w one own now (Ihave id) d e =
-    due_is (offer_asked one Has id) one (offer_own one Has id) own d e
+    subst DueOwn (sym e) (offer_own one own now Has id)
 command_own w one own now (TakeThis id) d e =
     due_is GoesOn (in_phase one (AwaitsBlock TakesThis id)) tt tt d e
 command_own w one own now (Fetch part id) d e = due_is (Looks part id) one tt own d e
@@ -206,19 +208,27 @@ waiting_own transfer id None = tt
 waiting_own transfer id (Some job) = tt
 
 -- where it leaves
-leaving_own : (one : Session) → PhaseOwn one.phase → (hand : Option Job) (offers : List (List ℕ))
+leaving_own : (one : Session) → PhaseOwn one.phase → (hand : Option Job) (offers : List OpenOffer)
     (d : Due) → d ≡ leaving_due one hand offers → DueOwn d
 leaving_own one own (Some job) offers d e = due_is (Pushes job) one tt own d e
 leaving_own one own None [] d e = due_is Ends one tt own d e
-leaving_own one own None (id ∷ offers) d e =
-    due_is (Releases id) (with_offers one offers) tt own d e
+leaving_own one own None (offer ∷ offers) d e =
+    due_is (Releases offer.id) (with_offers one offers) tt own d e
+
+-- where a command is due
+at_command_own : (w : Terms) (one : Session) → PhaseOwn one.phase → (now : ℕ)
+    (ended : Option (OpenOffer × List OpenOffer)) (d : Due) → IsDueAtCommand w one now ended d
+    → DueOwn d
+at_command_own w one own now None d e = ready_own w one own now (next_line one.unread) d e
+at_command_own w one own now (Some ended) d e =
+    due_is (Releases ended.0.id) (with_offers one ended.1) tt own d e
 
 -- by the phase
 phase_own : (w : Terms) → IsSound w → (one : Session) → PhaseOwn one.phase
     → one.peer < length w.peers → (now : ℕ) (phase : Phase) → PhaseOwn phase → (d : Due)
     → IsDueIn w one now phase d → DueOwn d
 phase_own w sound one own inside now Ready holds d e =
-    ready_own w one own now (next_line one.unread) d e
+    at_command_own w one own now (run_out w.offers now one.offers) d e
 phase_own w sound one own inside now (AwaitsBlock transfer id) holds d e =
     owing_own w sound one own inside transfer id now (next_block w.max_article one.unread) d e
 phase_own w sound one own inside now (Holds id article) holds d e =

@@ -21,7 +21,7 @@ use Rattle.relay_model.specs.Run.{HasNoRoom, HasNot, refusal, expired, reads_fro
 use Rattle.relay_model.specs.Run.{new_session, is_running, is_there, opened, restarted}
 use Rattle.relay_model.specs.Run.{first_of_two}
 use Rattle.relay_model.specs.Run as run
-use Rattle.relay_model.specs.Shares.{Answer, Shares, HasNotRead, Pushing}
+use Rattle.relay_model.specs.Shares.{Answer, Shares, HasNotRead, Pushing, known_at}
 use Rattle.relay_model.specs.Shares as shares
 use Rattle.relay_model.specs.State.{State, Session, Kept, Job}
 use Rattle.relay_model.specs.State.{Ended, Leaving, in_phase, put_at, put_id, with_unread}
@@ -73,7 +73,7 @@ take_own : (id : List ℕ) (s : ℕ) (article : Accepted) → IsOf id article.te
     → ClaimOwn id claim → ClaimOwn id (after_take s article claim)
 take_own id s article is Unknown own n other stage e =
     let same : article ≡ other = cc (e) in subst (λ (one : Accepted). IsOf id one.text) same is
-take_own id s article is (Offered peer) own n other stage e =
+take_own id s article is (Offered peer since) own n other stage e =
     let same : article ≡ other = cc (e) in subst (λ (one : Accepted). IsOf id one.text) same is
 take_own id s article is (Storing peer had at) own n other stage e = own n other stage e
 take_own id s article is (Stored token moment) own n other stage e = absurd (cc)
@@ -83,7 +83,7 @@ take_own id s article is (Refused moment) own n other stage e = absurd (cc)
 restart_own : (id : List ℕ) (claim : Claim) → ClaimOwn id claim
     → ClaimOwn id (after_restart claim)
 restart_own id Unknown own n other stage e = absurd (cc)
-restart_own id (Offered peer) own n other stage e = absurd (cc)
+restart_own id (Offered peer since) own n other stage e = absurd (cc)
 restart_own id (Storing peer had at) own n other stage e = own n other stage e
 restart_own id (Stored token moment) own n other stage e = absurd (cc)
 restart_own id (Refused moment) own n other stage e = absurd (cc)
@@ -128,16 +128,16 @@ shared_own w x s now GoesOn answer y asks own is = claims_own x y (ap claims_in 
 shared_own w x s now (Says reply) answer y asks own is = claims_own x y (ap claims_in is.1) own
 shared_own w x s now (Leaves reply) answer y asks own is = claims_own x y (ap claims_in is.1) own
 shared_own w x s now (Offers transfer id) answer y asks own is =
-    alike_owns x y id (after_offer s (x.state.claim id)) (ap claims_in is.1)
-    (offer_alike s (x.state.claim id)) own
+    alike_owns x y id (after_offer s now (known_at w x now id)) (ap claims_in is.1)
+    (offer_alike w.offers s now (x.state.claim id)) own
 shared_own w x s now (Looks part id) answer y asks own is = claims_own x y (ap claims_in is.1) own
 shared_own w x s now (Reads asked token had) answer y asks own is =
     claims_own x y (reading_claims w x token answer y is) own
 shared_own w x s now (TakesQueue feed most) answer y asks own is =
     claims_own x y (ap claims_in is.1) own
 shared_own w x s now (Refuses transfer id) answer y asks own is =
-    alike_owns x y id (after_refuse s now (x.state.claim id)) (ap claims_in is.1)
-    (refuse_alike s now (x.state.claim id)) own
+    alike_owns x y id (after_refuse s now (known_at w x now id)) (ap claims_in is.1)
+    (refuse_alike w.offers s now (x.state.claim id)) own
 shared_own w x s now (Takes transfer id article) answer y asks own is =
     subst (λ (z : World). Owns z) (sym is.1)
     (put_own x.state.claim id (after_take s article (x.state.claim id))

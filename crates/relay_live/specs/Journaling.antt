@@ -32,7 +32,7 @@ IsJournaled (store_results.Conflict forgotten) said = said ≡ None
 -- a refusal by this session marks a message-id: it is unknown, or offered to the session
 abbrev pub is_marked_by : ℕ → Claim → Bool
 is_marked_by s claims.Unknown = true
-is_marked_by s (claims.Offered other) = other == s
+is_marked_by s (claims.Offered other since) = other == s
 is_marked_by s (claims.Storing other article stage) = false
 is_marked_by s (claims.Stored token moment) = false
 is_marked_by s (claims.Refused moment) = false

@@ -43,7 +43,7 @@ both_left a c id (first ∷ ids) one other among =
 -- nothing is left where the id isn't among them
 none_left : (claim : Claim) → (claim ≢ Unknown → true ≡ false) → claim ≡ Unknown
 none_left Unknown none = refl
-none_left (Offered session) none = absurd (true≢false (none (λ e. cc)))
+none_left (Offered session since) none = absurd (true≢false (none (λ e. cc)))
 none_left (Storing session article stage) none = absurd (true≢false (none (λ e. cc)))
 none_left (Stored token moment) none = absurd (true≢false (none (λ e. cc)))
 none_left (Refused moment) none = absurd (true≢false (none (λ e. cc)))

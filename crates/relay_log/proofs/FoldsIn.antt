@@ -20,7 +20,7 @@ use Rattle.relay_log.specs.Journal as entry
 -- what is known of an id, in a store with so many buffers
 ClaimHolds : (buffers : ℕ) → Claim → Type 0
 ClaimHolds buffers Unknown = Unit {0}
-ClaimHolds buffers (Offered session) = Unit {0}
+ClaimHolds buffers (Offered session since) = Unit {0}
 ClaimHolds buffers (Storing session article stage) = Unit {0}
 ClaimHolds buffers (Stored token moment) = (token.buffer < buffers) × (moment ≤ last_moment)
 ClaimHolds buffers (Refused moment) = moment ≤ last_moment
@@ -52,7 +52,7 @@ lasting_holds : (buffers : ℕ) (claim : Claim) → ClaimHolds buffers claim
     → ClaimHolds buffers (lasting claim)
 unfolding ClaimHolds
 lasting_holds buffers Unknown holds = tt
-lasting_holds buffers (Offered session) holds = tt
+lasting_holds buffers (Offered session since) holds = tt
 lasting_holds buffers (Storing session article stage) holds = tt
 lasting_holds buffers (Stored token moment) holds = holds
 lasting_holds buffers (Refused moment) holds = holds

@@ -27,7 +27,7 @@ keeps_same shards claims others same keeps =
 refused_after : (claim : Claim) (moment : ℕ) → lasting claim ≡ claim
     → after_refuse 0 moment claim ≡ or_else claim (Refused moment)
 refused_after Unknown moment lasts = refl
-refused_after (Offered session) moment lasts = absurd cc
+refused_after (Offered session since) moment lasts = absurd cc
 refused_after (Storing session article stage) moment lasts = absurd cc
 refused_after (Stored token had) moment lasts = refl
 refused_after (Refused had) moment lasts = refl
@@ -51,7 +51,7 @@ mine_after : (claim : Claim) (token : Token) (moment : ℕ) → Mine ≡ take_an
     → after_settle 0 token moment (after_take 0 no_article claim)
     ≡ or_else claim (Stored token moment)
 mine_after Unknown token moment says lasts = refl
-mine_after (Offered session) token moment says lasts = absurd cc
+mine_after (Offered session since) token moment says lasts = absurd cc
 mine_after (Storing session article stage) token moment says lasts = absurd cc
 mine_after (Stored had since) token moment says lasts = absurd cc
 mine_after (Refused since) token moment says lasts = absurd cc
@@ -61,7 +61,7 @@ held_after : (claim : Claim) (token : Token) (moment : ℕ) → Held ≡ take_an
     → lasting claim ≡ claim
     → after_take 0 no_article claim ≡ or_else claim (Stored token moment)
 held_after Unknown token moment says lasts = absurd cc
-held_after (Offered session) token moment says lasts = absurd cc
+held_after (Offered session since) token moment says lasts = absurd cc
 held_after (Storing session article stage) token moment says lasts = absurd cc
 held_after (Stored had since) token moment says lasts = absurd cc
 held_after (Refused since) token moment says lasts = absurd cc
@@ -71,7 +71,7 @@ had_after : (claim : Claim) (token : Token) (moment : ℕ) → Had ≡ take_answ
     → lasting claim ≡ claim
     → after_take 0 no_article claim ≡ or_else claim (Stored token moment)
 had_after Unknown token moment says lasts = absurd cc
-had_after (Offered session) token moment says lasts = absurd cc
+had_after (Offered session since) token moment says lasts = absurd cc
 had_after (Storing session article stage) token moment says lasts = absurd cc
 had_after (Stored had since) token moment says lasts = refl
 had_after (Refused since) token moment says lasts = refl

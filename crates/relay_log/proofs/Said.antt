@@ -13,28 +13,28 @@ use Rattle.relay_log.specs.Folding.{nothing}
 -- what is known of an id, or else this
 abbrev pub or_else : Claim → Claim → Claim
 or_else Unknown other = other
-or_else (Offered session) other = Offered session
+or_else (Offered session since) other = Offered session
 or_else (Storing session article stage) other = Storing session article stage
 or_else (Stored token moment) other = Stored token moment
 or_else (Refused moment) other = Refused moment
 
 or_else-assoc : (a b c : Claim) → or_else (or_else a b) c ≡ or_else a (or_else b c)
 or_else-assoc Unknown b c = refl
-or_else-assoc (Offered session) b c = refl
+or_else-assoc (Offered session since) b c = refl
 or_else-assoc (Storing session article stage) b c = refl
 or_else-assoc (Stored token moment) b c = refl
 or_else-assoc (Refused moment) b c = refl
 
 or_else-unknown : (a : Claim) → or_else a Unknown ≡ a
 or_else-unknown Unknown = refl
-or_else-unknown (Offered session) = refl
+or_else-unknown (Offered session since) = refl
 or_else-unknown (Storing session article stage) = refl
 or_else-unknown (Stored token moment) = refl
 or_else-unknown (Refused moment) = refl
 
 pub or_else-twice : (a b : Claim) → or_else a (or_else a b) ≡ or_else a b
 or_else-twice Unknown b = refl
-or_else-twice (Offered session) b = refl
+or_else-twice (Offered session since) b = refl
 or_else-twice (Storing session article stage) b = refl
 or_else-twice (Stored token moment) b = refl
 or_else-twice (Refused moment) b = refl

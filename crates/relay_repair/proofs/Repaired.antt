@@ -60,7 +60,7 @@ at_rest found id = by (claim_again found id) refl
   where
     by : (claim : Claim) → claim_again found id ≡ claim → is_storing claim ≡ false
     by Unknown is = refl
-    by (Offered session) is = refl
+    by (Offered session since) is = refl
     by (Storing session article stage) is =
         absurd (never_storing found id session article stage is)
     by (Stored token moment) is = refl

@@ -1,5 +1,5 @@
 use Rattle.std.proofs.Common.{◌≡◌, ◌≢◌, IsOk, refl}
-use Rattle.relay_model.specs.Claims.{Unknown, offer_answer, after_offer}
+use Rattle.relay_model.specs.Claims.{Unknown, offer_answer, after_offer, standing}
 use Rattle.id_history.specs.Answers.{offer_view}
 use Rattle.std.proofs.lemmas.Result.{on_err_weaker, on_ok_weaker}
 use Rattle.id_history.proofs.ShardsLemmas.{changes, if_ok_of_claim, keeps_claims}
@@ -11,13 +11,14 @@ use Rattle.id_history.proofs.shards.Shards.offer.Goals as goal
 pub returns-clause-answer : goal.returns-clause-answer
 returns-clause-answer c =
     if_ok_of_claim c.offer.result _ _ _ c.args.id.now
-    (λ answer claim. offer_view answer ≡ offer_answer c.args.session claim)
+    (λ answer claim. offer_view answer
+    ≡ offer_answer c.args.session (standing c.args.lasting c.args.now claim))
     c.shard_of.ensures c.index_mut.ensures.value c.offer.ensures.answer
 
 -- the change is that of the id's own shard
 pub returns-clause-claims : goal.returns-clause-claims
 returns-clause-claims c =
-    on_ok_weaker c.offer.result (changes _ _ _ _ _ c.args.id.now (after_offer c.args.session)
+    on_ok_weaker c.offer.result (changes _ _ _ _ _ c.args.id.now (λ claim. after_offer c.args.session c.args.now (standing c.args.lasting c.args.now claim))
     c.shard_of.ensures c.index_mut.ensures.value refl) c.offer.ensures.claims
 
 -- what the id's own shard keeps, they keep
@@ -38,5 +39,5 @@ invariant_of-self-clause-own c =
     OwnIds-set _ _ _ _ c.args.id.now c.shard_of.ensures c.index_mut.ensures.value
     c.args.self.now.own
     (either_way c.offer.result c.offer.ensures.claims c.offer.ensures.err
-    (λ change. others_by_change _ _ c.args.id.now (after_offer c.args.session) change)
+    (λ change. others_by_change _ _ c.args.id.now (λ claim. after_offer c.args.session c.args.now (standing c.args.lasting c.args.now claim)) change)
     (λ kept. others_kept _ _ c.args.id.now kept))

@@ -1,5 +1,5 @@
 use Rattle.std.proofs.Common.{◌≢◌, IsOk, refl}
-use Rattle.relay_model.specs.Claims.{Unknown, after_refuse}
+use Rattle.relay_model.specs.Claims.{Unknown, after_refuse, standing}
 use Rattle.std.proofs.lemmas.Result.{on_err_weaker, on_ok_weaker}
 use Rattle.id_history.proofs.ShardsLemmas.{changes, keeps_claims, of_claim}
 use Rattle.id_history.proofs.OwnLemmas.{OwnIds-set, others_by_change, others_kept, either_way}
@@ -9,7 +9,7 @@ use Rattle.id_history.proofs.shards.Shards.refuse.Goals as goal
 pub returns-clause-claims : goal.returns-clause-claims
 returns-clause-claims c =
     on_ok_weaker c.refuse.result
-    (changes _ _ _ _ _ c.args.id.now (after_refuse c.args.session c.args.now)
+    (changes _ _ _ _ _ c.args.id.now (λ claim. after_refuse c.args.session c.args.now (standing c.args.lasting c.args.now claim))
     c.shard_of.ensures c.index_mut.ensures.value refl) c.refuse.ensures.claims
 
 -- what the id's own shard keeps, they keep
@@ -30,5 +30,5 @@ invariant_of-self-clause-own c =
     OwnIds-set _ _ _ _ c.args.id.now c.shard_of.ensures c.index_mut.ensures.value
     c.args.self.now.own
     (either_way c.refuse.result c.refuse.ensures.claims c.refuse.ensures.err
-    (λ change. others_by_change _ _ c.args.id.now (after_refuse c.args.session c.args.now) change)
+    (λ change. others_by_change _ _ c.args.id.now (λ claim. after_refuse c.args.session c.args.now (standing c.args.lasting c.args.now claim)) change)
     (λ kept. others_kept _ _ c.args.id.now kept))

@@ -21,7 +21,7 @@ use Rattle.live_jobs.proofs.desk.both.settle_both.Goals as goal
 unsettled : (session : ℕ) (token : terms.Token) (now : ℕ) (claim : Claim)
     → false ≡ is_storing_for session claim → after_settle session token now claim ≡ claim
 unsettled session token now Unknown other = refl
-unsettled session token now (Offered by) other = refl
+unsettled session token now (Offered by since) other = refl
 unsettled session token now (Storing by article stage) other = rw (sym other) refl
 unsettled session token now (Stored had moment) other = refl
 unsettled session token now (Refused moment) other = refl
