@@ -70,7 +70,7 @@ fn refuse_all(shards: &mut Shards, listed: &[KeptId]) -> Result<(), AllocError>
         → KeepsAll shards.new (all_refused claims listed.now)) }
 {
     for one in listed {
-        shards.refuse(&one.id, REPAIR, one.moment)?;
+        shards.refuse(&one.id, REPAIR, one.moment, None)?;
     }
     Ok(())
 }

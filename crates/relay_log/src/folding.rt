@@ -147,7 +147,7 @@ fn say_refused(shards: &mut Shards, id: &MsgId, moment: u64) -> Result<(), Alloc
     ensures { OnOk result (KnowsBefore shards.old shards.new
         (record { id = id.now; token = None; moment = moment } ∷ [])) }
 {
-    shards.refuse(id, FOLDING, moment)?;
+    shards.refuse(id, FOLDING, moment, None)?;
     Ok(())
 }
 
