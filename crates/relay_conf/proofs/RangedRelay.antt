@@ -8,6 +8,7 @@ use Rattle.news_terms.specs.Path.{is_agent}
 use Rattle.line_words.specs.Comments.{is_skipped}
 use Rattle.line_words.specs.Parts.{one_of, two_of, three_of}
 use Rattle.relay_conf.specs.declared.faults.Fault.{Fault}
+use Rattle.relay_conf.specs.declared.reach.Range.{Range}
 use Rattle.relay_conf.specs.declared.relay.Feed.{Feed}
 use Rattle.relay_conf.specs.declared.relay.Peer.{Peer}
 use Rattle.relay_conf.specs.declared.relay.PeerConnections.{PeerConnections}
@@ -17,7 +18,8 @@ use Rattle.relay_conf.specs.RelayLines.{Remember, Patience, Sync, PeerLine, Conn
 use Rattle.relay_conf.specs.RelayLines.{FeedLine}
 use Rattle.relay_conf.specs.RelayLines.{RawSays, LineSays, own_line, number_line, number_or_fault}
 use Rattle.relay_conf.specs.RelayLines.{with_number, bind_line, peer_ported, peer_line}
-use Rattle.relay_conf.specs.RelayLines.{connections_numbered, connections_line, feed_ringed}
+use Rattle.relay_conf.specs.RelayLines.{connections_numbered, connections_line, allow_line, allow_ranged}
+use Rattle.relay_conf.specs.RelayLines.{feed_ringed, ranges_of}
 use Rattle.relay_conf.specs.RelayLines.{feed_line, relay_words, relay_line}
 use Rattle.relay_conf.specs.Relay.{own_of, max_article_of, cutoff_of, remember_of, patience_of}
 use Rattle.relay_conf.specs.Relay.{sync_of, peer_of, connections_of, feed_of}
@@ -46,7 +48,7 @@ of_number line least most None h = tt
 of_number line least most (Some word) h =
     within_range IsRanged (λ o. with_number line (number_or_fault o)) least most word tt h
 
--- with what follows `own`, `bind`, `peer`, `connections` and `feed`,
+-- with what follows `own`, `bind`, `peer`, `connections`, `allow` and `feed`,
 of_own : (word : Option (List ℕ)) → IsRanged (own_line word)
 of_own word = grind arith
 
@@ -66,6 +68,18 @@ of_connections (Some two) =
     cond_both (is_name two.0) _ _ IsRanged
     (λ e. within_range IsRanged (connections_numbered two.0) 1 64 two.1 tt
     (λ n least most. (least, most))) (λ e. tt)
+
+of_ranges : (name : List ℕ) (ranges : Result (List Range) Fault)
+    → IsRanged (allow_ranged name ranges)
+of_ranges name (Err fault) = tt
+of_ranges name (Ok ranges) = tt
+
+of_allow : (after : List (List ℕ)) → IsRanged (allow_line after)
+of_allow [] = tt
+of_allow (name ∷ []) = tt
+of_allow (name ∷ first ∷ more) =
+    cond_both (is_name name) _ _ IsRanged (λ e. of_ranges name (ranges_of (first ∷ more)))
+    (λ e. tt)
 
 of_feed : (three : Option (List ℕ × List ℕ × List ℕ)) → IsRanged (feed_line three)
 of_feed None = tt
@@ -93,8 +107,9 @@ of_words (word ∷ after) =
     (λ e. cond_both (bytes_eq word (codes "peer")) _ _ IsRanged (λ e. of_peer (three_of after))
     (λ e. cond_both (bytes_eq word (codes "connections")) _ _ IsRanged
     (λ e. of_connections (two_of after))
+    (λ e. cond_both (bytes_eq word (codes "allow")) _ _ IsRanged (λ e. of_allow after)
     (λ e. cond_both (bytes_eq word (codes "feed")) _ _ IsRanged (λ e. of_feed (three_of after))
-    (λ e. tt))))))))))
+    (λ e. tt)))))))))))
 
 -- with a line,
 of_line : (line : List ℕ) → IsRanged (relay_line line)
