@@ -1,11 +1,10 @@
 -- Ranges of addresses in lines of relay.conf.
 use Rattle.std.proofs.Common.{◌≡◌, ℕ, List, [], ◌∷◌, ◌++◌, map, Option, None}
-use Rattle.std.proofs.Common.{Some, Result, Ok, Err, refl, ap, ◌∙◌, sym, append-nil, append_assoc}
+use Rattle.std.proofs.Common.{Some, Result, Ok, Err, refl, ap, ◌∙◌, sym, append_assoc}
 use Rattle.std.proofs.Common.{arith}
-use Rattle.std.specs.Prelude.{◌==◌, filter_map, flat_map, if◌then◌else◌}
+use Rattle.std.specs.Prelude.{◌==◌, filter_map, if◌then◌else◌}
 use Rattle.std.specs.List.{cons_option}
 use Rattle.std.specs.Result.{result_ok}
-use Rattle.std.proofs.lemmas.Grind.{flat_map-append}
 use Rattle.relay_conf.specs.declared.faults.Fault.{Fault}
 use Rattle.relay_conf.specs.declared.faults.Fault.TheVariants.{Syntax}
 use Rattle.relay_conf.specs.declared.reach.NamedAllow.{NamedAllow}
@@ -20,12 +19,6 @@ use Rattle.relay_conf.specs.Words.{is_name}
 use Rattle.line_words.specs.Parts.{parts, one_of}
 use Rattle.line_words.proofs.Cuts.{some_part}
 use Rattle.relay_conf.proofs.NamedLines.{named, named_if}
-
--- What lines and one more give.
-pub flat_one : {L B : Type 0} (g : L → List B) (before : List L) (y : L)
-    → flat_map g (before ++ y ∷ []) ≡ flat_map g before ++ g y
-flat_one g before y =
-    flat_map-append g before (y ∷ []) ∙ ap (λ ys. flat_map g before ++ ys) (append-nil (g y))
 
 -- Ranges by the number of their peer.
 pub numbered_ranges : (peers : List Peer) (name : List ℕ) (ranges : List Range)

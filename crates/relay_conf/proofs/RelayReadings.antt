@@ -39,9 +39,9 @@ use Rattle.relay_conf.specs.RelayDraft.{IsReadingOf, first_unknown, numbered_fee
 use Rattle.relay_conf.specs.RelayDraft.{nothing, named_feed_of, named_allows_of, numbered_allow}
 use Rattle.relay_conf.specs.RelayViews.{relay_view, RelayGives}
 use Rattle.relay_conf.proofs.FaultlessLines.{no_fault_keeps, none_yet}
-use Rattle.relay_conf.proofs.FirstFaults.{filter_one}
+use Rattle.relay_conf.proofs.FirstFaults.{filter_one, flat_one}
 use Rattle.relay_conf.proofs.LinesRead.{draft_answers, step_gives}
-use Rattle.relay_conf.proofs.Ranges.{flat_one, numbered_ranges}
+use Rattle.relay_conf.proofs.Ranges.{numbered_ranges}
 
 -- WHAT STANDS
 
