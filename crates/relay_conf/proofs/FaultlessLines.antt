@@ -1,19 +1,20 @@
 -- Lines without a fault: what each of them keeps, or gives, holds of all.
 use Rattle.std.proofs.Common.{◌≡◌, ℕ, ◌+◌, ◌≤◌, List, [], ◌∷◌, ◌++◌, All, length, Option, Some}
 use Rattle.std.proofs.Common.{None, Ok, refl, sym, subst, append-nil, append_assoc, arith}
-use Rattle.std.specs.Prelude.{◌&&◌, nat_le, filter_map}
+use Rattle.std.specs.Prelude.{◌&&◌, nat_le, filter_map, flat_map}
 use Rattle.std.specs.List.{cons_option}
 use Rattle.std.specs.Option.{IfSome, option_to_list}
 use Rattle.std.specs.Str.Parse.{digits_value}
 use Rattle.std.proofs.lemmas.Bool.{and_parts, cond_both, leb-true}
-use Rattle.std.proofs.lemmas.List.Elements.{All-cons, All-head, All-nil, All-tail}
+use Rattle.std.proofs.lemmas.List.Elements.{All-append, All-cons, All-head, All-nil}
+use Rattle.std.proofs.lemmas.List.Elements.{All-tail}
 use Rattle.line_words.specs.Numbers.{is_numeral, number_within}
 use Rattle.relay_conf.specs.declared.faults.Fault.{Fault}
 use Rattle.relay_conf.specs.declared.faults.LineFault.{LineFault}
 use Rattle.relay_conf.specs.Faults.{fault_or_later, first_fault, whole_fault, unless_fault}
 use Rattle.relay_conf.specs.LineByLine.{SayEach}
 use Rattle.relay_conf.specs.Relay.{once}
-use Rattle.relay_conf.proofs.FirstFaults.{filter_one}
+use Rattle.relay_conf.proofs.FirstFaults.{filter_one, flat_one}
 
 -- NO FAULT
 
@@ -92,6 +93,26 @@ all_given {L} {Y} R P give holds (one ∷ said) all =
         → All P (cons_option o (filter_map give said))
     joined None is rest = rest
     joined (Some y) is rest = All-cons P y (filter_map give said) is rest
+
+-- What holds of all that a line gives holds of all that lines give.
+pub all_listed : {L Y : Type 0} (R : L → Type 0) (P : Y → Type 0) (give : L → List Y)
+    → ((one : L) → R one → All P (give one)) → (said : List L) → All R said
+    → All P (flat_map give said)
+all_listed R P give holds [] all = All-nil P
+all_listed R P give holds (one ∷ said) all =
+    All-append P (give one) (flat_map give said) (holds one (All-head R one said all))
+    (all_listed R P give holds said (All-tail R one said all))
+
+-- What each line without a fault gives holds of what all of them give.
+pub listed_without_fault : {L Y : Type 0} (wrong : List L → L → Option Fault) (P : Y → Type 0)
+    (give : L → List Y)
+    → ((before : List L) (line : L) → wrong before line ≡ None → All P (give line))
+    → (said : List L) → first_fault wrong [] said ≡ None → All P (flat_map give said)
+listed_without_fault wrong P give holds said none =
+    no_fault_keeps wrong (λ before. All P (flat_map give before))
+    (λ before line e all. rw (flat_one give before line)
+    (All-append P (flat_map give before) (give line) all (holds before line e)))
+    [] said none (All-nil P)
 
 -- NUMBERS
 

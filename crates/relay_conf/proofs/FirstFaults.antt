@@ -2,8 +2,9 @@
 use Rattle.std.proofs.Common.{◌≡◌, ℕ, ◌+◌, ◌<◌, List, [], ◌∷◌, ◌++◌, length, take, drop, map}
 use Rattle.std.proofs.Common.{get_or, Option, Some, None, refl, ap, ◌∙◌, sym, add-one, drop-cons}
 use Rattle.std.proofs.Common.{append_assoc, append-nil, arith}
-use Rattle.std.specs.Prelude.{filter_map}
+use Rattle.std.specs.Prelude.{filter_map, flat_map}
 use Rattle.std.specs.Option.{option_to_list}
+use Rattle.std.proofs.lemmas.Grind.{flat_map-append}
 use Rattle.std.proofs.lemmas.List.{map-append}
 use Rattle.std.proofs.lemmas.List.Elements.{filter_map-append}
 use Rattle.std.proofs.Math.Seq.{take-suc}
@@ -31,6 +32,12 @@ map_one f xs i d h = ap (map f) (take_one xs i d h) ∙ map-append f (take i xs)
 pub filter_one : {L B : Type 0} (g : L → Option B) (before : List L) (y : L)
     → filter_map g (before ++ y ∷ []) ≡ filter_map g before ++ option_to_list (g y)
 filter_one g before y = grind (arith, filter_map-append)
+
+-- What lines and one more give together.
+pub flat_one : {L B : Type 0} (g : L → List B) (before : List L) (y : L)
+    → flat_map g (before ++ y ∷ []) ≡ flat_map g before ++ g y
+flat_one g before y =
+    flat_map-append g before (y ∷ []) ∙ ap (λ ys. flat_map g before ++ ys) (append-nil (g y))
 
 -- A fault of a line, or that of later lines, comes before further ones.
 late_behind : (n : ℕ) (here : Option Fault) (later more : Option LineFault)

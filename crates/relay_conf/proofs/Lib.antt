@@ -15,6 +15,8 @@ pub mod OneRelay
 pub mod OneStorage
 pub mod PathIdentities
 pub mod RangedRelay
+pub mod Ranges
+pub mod Reaches
 pub mod RelayReadings
 pub mod SizedBuffers
 pub mod SkippedCycbuff

@@ -20,7 +20,7 @@ named line None = Err Syntax
 named line (Some name) = line name
 
 -- Where the name is the word, if that is one, so it is by whether it is one.
-named_if : (line : List ℕ → RawLine) (is : Bool) (word : List ℕ) (name : Option (List ℕ))
+pub named_if : (line : List ℕ → RawLine) (is : Bool) (word : List ℕ) (name : Option (List ℕ))
     → name ≡ (if is then Some word else None)
     → named line name ≡ (if is then line word else Err Syntax)
 named_if line true word name e = ap (named line) e

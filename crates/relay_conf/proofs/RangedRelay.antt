@@ -1,13 +1,18 @@
 -- What lines of relay.conf say is as it may be configured: identities, and numbers in their ranges.
 use Rattle.std.proofs.Common.{◌≡◌, ℕ, ◌≤◌, true, List, [], ◌∷◌, All, Option, None, Some, Result, Ok}
 use Rattle.std.proofs.Common.{Err, sym, subst, arith}
-use Rattle.std.specs.Prelude.{◌&&◌, filter_map, codes, bytes_eq, IsTrue}
+use Rattle.std.specs.Prelude.{◌&&◌, filter_map, flat_map, codes, bytes_eq, IsTrue}
 use Rattle.std.proofs.lemmas.Bool.{and_parts, cond_both}
+use Rattle.std.proofs.lemmas.List.Elements.{All-cons, All-map, All-nil}
+use Rattle.line_words.specs.Numbers.{number_within}
+use Rattle.line_words.specs.Parts.{parts}
 use Rattle.news_terms.specs.Article.{without_outer_white}
 use Rattle.news_terms.specs.Path.{is_agent}
 use Rattle.line_words.specs.Comments.{is_skipped}
 use Rattle.line_words.specs.Parts.{one_of, two_of, three_of}
 use Rattle.relay_conf.specs.declared.faults.Fault.{Fault}
+use Rattle.relay_conf.specs.declared.reach.Allow.{Allow}
+use Rattle.relay_conf.specs.declared.reach.Range.{Range}
 use Rattle.relay_conf.specs.declared.relay.Feed.{Feed}
 use Rattle.relay_conf.specs.declared.relay.Peer.{Peer}
 use Rattle.relay_conf.specs.declared.relay.PeerConnections.{PeerConnections}
@@ -17,12 +22,14 @@ use Rattle.relay_conf.specs.RelayLines.{Remember, Patience, Sync, PeerLine, Conn
 use Rattle.relay_conf.specs.RelayLines.{FeedLine}
 use Rattle.relay_conf.specs.RelayLines.{RawSays, LineSays, own_line, number_line, number_or_fault}
 use Rattle.relay_conf.specs.RelayLines.{with_number, bind_line, peer_ported, peer_line}
-use Rattle.relay_conf.specs.RelayLines.{connections_numbered, connections_line, feed_ringed}
+use Rattle.relay_conf.specs.RelayLines.{connections_numbered, connections_line, allow_line, allow_ranged}
+use Rattle.relay_conf.specs.RelayLines.{AllowLine, address_of, feed_ringed, range_and_more}
+use Rattle.relay_conf.specs.RelayLines.{range_of, range_of_parts, ranged, ranges_of}
 use Rattle.relay_conf.specs.RelayLines.{feed_line, relay_words, relay_line}
 use Rattle.relay_conf.specs.Relay.{own_of, max_article_of, cutoff_of, remember_of, patience_of}
-use Rattle.relay_conf.specs.Relay.{sync_of, peer_of, connections_of, feed_of}
+use Rattle.relay_conf.specs.Relay.{sync_of, peer_of, connections_of, feed_of, allow_of, allows_of}
 use Rattle.relay_conf.specs.Words.{words, is_name, is_identity}
-use Rattle.relay_conf.proofs.FaultlessLines.{all_given, all_said, within_range}
+use Rattle.relay_conf.proofs.FaultlessLines.{all_given, all_listed, all_said, within_range}
 use Rattle.relay_conf.proofs.PathIdentities.{identity_is_agent}
 
 -- the identity of a line is one, and its numbers are in their ranges
@@ -35,6 +42,7 @@ IsRanged (Ok (Patience seconds)) = (1 ≤ seconds) × (seconds ≤ 86400)
 IsRanged (Ok (Sync seconds)) = (1 ≤ seconds) × (seconds ≤ 86400)
 IsRanged (Ok (PeerLine name identity port)) = is_identity identity ≡ true
 IsRanged (Ok (ConnectionsLine name connections)) = (1 ≤ connections) × (connections ≤ 64)
+IsRanged (Ok (AllowLine name ranges)) = All (λ range. range.bits ≤ 32) ranges
 IsRanged (Ok (FeedLine name ring expression)) = (1 ≤ ring) × (ring ≤ 65536)
 IsRanged said = Unit {0}
 
@@ -46,7 +54,7 @@ of_number line least most None h = tt
 of_number line least most (Some word) h =
     within_range IsRanged (λ o. with_number line (number_or_fault o)) least most word tt h
 
--- with what follows `own`, `bind`, `peer`, `connections` and `feed`,
+-- with what follows `own`, `bind`, `peer`, `connections`, `allow` and `feed`,
 of_own : (word : Option (List ℕ)) → IsRanged (own_line word)
 of_own word = grind arith
 
@@ -66,6 +74,57 @@ of_connections (Some two) =
     cond_both (is_name two.0) _ _ IsRanged
     (λ e. within_range IsRanged (connections_numbered two.0) 1 64 two.1 tt
     (λ n least most. (least, most))) (λ e. tt)
+
+-- a range counts 0 to 32 bits
+abbrev HasBits : Result Range Fault → Type 0
+HasBits (Err fault) = Unit {0}
+HasBits (Ok range) = range.bits ≤ 32
+
+-- each of them does
+abbrev HaveBits : Result (List Range) Fault → Type 0
+HaveBits (Err fault) = Unit {0}
+HaveBits (Ok ranges) = All (λ (range : Range). range.bits ≤ 32) ranges
+
+of_whole : (address : Option (List ℕ)) → HasBits (ranged address (Some 32))
+of_whole None = tt
+of_whole (Some address) = omega arith
+
+of_bits : (address : Option (List ℕ)) (bits : List ℕ)
+    → HasBits (ranged address (number_within 0 32 bits))
+of_bits None bits = tt
+of_bits (Some address) bits =
+    within_range HasBits (ranged (Some address)) 0 32 bits tt (λ n least most. most)
+
+of_range : (parts : List (List ℕ)) → HasBits (range_of_parts parts)
+of_range [] = tt
+of_range (address ∷ []) = of_whole (address_of address)
+of_range (address ∷ bits ∷ []) = of_bits (address_of address) bits
+of_range (address ∷ bits ∷ other ∷ more) = tt
+
+of_one_more : (one : Result Range Fault) (more : Result (List Range) Fault) → HasBits one
+    → HaveBits more → HaveBits (range_and_more one more)
+of_one_more (Err fault) more h k = tt
+of_one_more (Ok range) (Err fault) h k = tt
+of_one_more (Ok range) (Ok ranges) h k =
+    All-cons (λ (range : Range). range.bits ≤ 32) range ranges h k
+
+of_ranges : (words : List (List ℕ)) → HaveBits (ranges_of words)
+of_ranges [] = All-nil (λ (range : Range). range.bits ≤ 32)
+of_ranges (word ∷ more) =
+    of_one_more (range_of word) (ranges_of more) (of_range (parts 47 word)) (of_ranges more)
+
+of_allowed : (name : List ℕ) (ranges : Result (List Range) Fault) → HaveBits ranges
+    → IsRanged (allow_ranged name ranges)
+of_allowed name (Err fault) h = tt
+of_allowed name (Ok ranges) h = h
+
+of_allow : (after : List (List ℕ)) → IsRanged (allow_line after)
+of_allow [] = tt
+of_allow (name ∷ []) = tt
+of_allow (name ∷ first ∷ more) =
+    cond_both (is_name name) _ _ IsRanged (λ e. of_allowed name (ranges_of (first ∷ more))
+    (of_ranges (first ∷ more)))
+    (λ e. tt)
 
 of_feed : (three : Option (List ℕ × List ℕ × List ℕ)) → IsRanged (feed_line three)
 of_feed None = tt
@@ -93,8 +152,9 @@ of_words (word ∷ after) =
     (λ e. cond_both (bytes_eq word (codes "peer")) _ _ IsRanged (λ e. of_peer (three_of after))
     (λ e. cond_both (bytes_eq word (codes "connections")) _ _ IsRanged
     (λ e. of_connections (two_of after))
+    (λ e. cond_both (bytes_eq word (codes "allow")) _ _ IsRanged (λ e. of_allow after)
     (λ e. cond_both (bytes_eq word (codes "feed")) _ _ IsRanged (λ e. of_feed (three_of after))
-    (λ e. tt))))))))))
+    (λ e. tt)))))))))))
 
 -- with a line,
 of_line : (line : List ℕ) → IsRanged (relay_line line)
@@ -122,6 +182,8 @@ pub record AreRanged (said : List SaidLine) : Type 0 where
       (filter_map connections_of said)
   pub rings : (peers : List Peer) → All (λ (feed : Feed). (1 ≤ feed.ring) × (feed.ring ≤ 65536))
       (filter_map (feed_of peers) said)
+  pub bits : (peers : List Peer) → All (λ (allow : Allow). allow.range.bits ≤ 32)
+      (flat_map (allows_of peers) said)
 
 -- What lines say is so.
 pub are_ranged : (lines : List (List ℕ)) (said : List SaidLine) → SayEach LineSays [] lines said
@@ -151,4 +213,11 @@ are_ranged lines said h =
       rings = λ peers. all_given IsRanged
           (λ (feed : Feed). (1 ≤ feed.ring) × (feed.ring ≤ 65536)) (feed_of peers)
           (elim [ Ok (FeedLine name n expression) ↦ λ is. is | one ↦ λ is. tt ]) said all;
+      bits = λ peers. all_listed IsRanged (λ (allow : Allow). allow.range.bits ≤ 32)
+          (allows_of peers)
+          (elim [
+            | Ok (AllowLine name ranges) ↦ λ is.
+                All-map (λ (allow : Allow). allow.range.bits ≤ 32) (allow_of peers name) ranges is
+            | one ↦ λ is. All-nil (λ (allow : Allow). allow.range.bits ≤ 32)
+          ]) said all;
     }

@@ -3,7 +3,7 @@ use Rattle.std.proofs.lemmas.Bool.Decides.{nat_tests}
 use Rattle.std.proofs.Common.{◌≡◌, ℕ, ◌+◌, ◌≤◌, Bool, true, false, List, [], ◌∷◌, ◌++◌, length, map}
 use Rattle.std.proofs.Common.{Option, Some, None, Result, Ok, Err, refl, ap, ◌∙◌, sym, subst, arith}
 use Rattle.std.proofs.Common.{append_assoc, append-nil, lit≤}
-use Rattle.std.specs.Prelude.{bytes_eq, filter_map, unwrap_or, not, OnOk, IsErrAnd}
+use Rattle.std.specs.Prelude.{bytes_eq, filter_map, flat_map, unwrap_or, not, OnOk, IsErrAnd}
 use Rattle.std.specs.Prelude.{option_map}
 use Rattle.std.specs.List.{cons_option, list_any}
 use Rattle.std.specs.Option.{option_to_list}
@@ -14,6 +14,8 @@ use Rattle.relay_conf.specs.declared.faults.Fault.TheVariants.{Duplicate}
 use Rattle.relay_conf.specs.declared.faults.LineFault.{LineFault}
 use Rattle.relay_conf.specs.declared.faults.Refusal.{Refusal}
 use Rattle.relay_conf.specs.declared.faults.Refusal.TheVariants.{Memory, Faulty}
+use Rattle.relay_conf.specs.declared.reach.Allow.{Allow}
+use Rattle.relay_conf.specs.declared.reach.NamedAllow.{NamedAllow}
 use Rattle.relay_conf.specs.declared.relay.Feed.{Feed}
 use Rattle.relay_conf.specs.declared.relay.NamedFeed.{NamedFeed}
 use Rattle.relay_conf.specs.declared.relay.NamedLine.{NamedLine}
@@ -24,20 +26,22 @@ use Rattle.relay_conf.specs.Drafts.{StepGives, IsDrawnFrom}
 use Rattle.relay_conf.specs.Faults.{first_fault, whole_fault, unless_fault, ConfGives}
 use Rattle.relay_conf.specs.Faults.{fault_or_later}
 use Rattle.relay_conf.specs.RelayLines.{RelayLine, RawLine, SaidLine, RawSays, LineSays, relay_line}
+use Rattle.relay_conf.specs.RelayLines.{AllowLine}
 use Rattle.relay_conf.specs.Relay.{name_in, Stand, stand_of, own_of, max_article_of, cutoff_of}
 use Rattle.relay_conf.specs.Relay.{remember_of, patience_of, sync_of, bind_of, peer_of}
 use Rattle.relay_conf.specs.Relay.{connections_of}
-use Rattle.relay_conf.specs.Relay.{feed_name_of, feed_of, line_fault, early_fault, late_fault}
+use Rattle.relay_conf.specs.Relay.{feed_name_of, feed_of, allows_of, line_fault, early_fault, late_fault}
 use Rattle.relay_conf.specs.Relay.{unknown_fault, again_fault, no_own_fault, first_or, first_of}
 use Rattle.relay_conf.specs.Relay.{connected, each_address, relay_said, RelaySettings}
 use Rattle.relay_conf.specs.RelayDraft.{AddsLine, IsDraftOf, Lists, draft_view, Reading, with_peers}
 use Rattle.relay_conf.specs.RelayDraft.{stand_view, fault_behind, after_line, named_of, named_from}
 use Rattle.relay_conf.specs.RelayDraft.{IsReadingOf, first_unknown, numbered_feed, draft_said}
-use Rattle.relay_conf.specs.RelayDraft.{nothing, named_feed_of}
+use Rattle.relay_conf.specs.RelayDraft.{nothing, named_feed_of, named_allows_of, numbered_allow}
 use Rattle.relay_conf.specs.RelayViews.{relay_view, RelayGives}
 use Rattle.relay_conf.proofs.FaultlessLines.{no_fault_keeps, none_yet}
-use Rattle.relay_conf.proofs.FirstFaults.{filter_one}
+use Rattle.relay_conf.proofs.FirstFaults.{filter_one, flat_one}
 use Rattle.relay_conf.proofs.LinesRead.{draft_answers, step_gives}
+use Rattle.relay_conf.proofs.Ranges.{numbered_ranges}
 
 -- WHAT STANDS
 
@@ -108,6 +112,11 @@ feeds_after : (number : ℕ) (r : Reading) (line : RelayLine (List Marked))
     → (after_line number r line).feeds ≡ r.feeds ++ option_to_list (named_feed_of (Ok line))
 feeds_after number r line = grind (arith, append-nil)
 
+-- The ranges after a line.
+allows_after : (number : ℕ) (r : Reading) (line : RelayLine (List Marked))
+    → (after_line number r line).allows ≡ r.allows ++ named_allows_of (Ok line)
+allows_after number r line = grind (arith, append-nil)
+
 -- The reading after a line without fault is that of the lines with it.
 reading_more : (said : List SaidLine) (r : Reading) (line : RelayLine (List Marked))
     → fault_behind r (Ok line) ≡ None → IsReadingOf said r
@@ -119,6 +128,8 @@ reading_more said r line none reading =
           ∙ sym (stand_one said (Ok line));
       feeds = rw (filter_one named_feed_of said (Ok line), ← reading.feeds)
           (feeds_after (length said + 1) r line);
+      allows = rw (flat_one named_allows_of said (Ok line), ← reading.allows)
+          (allows_after (length said + 1) r line);
       named = rw (named_one 1 (length said + 1) said (Ok line) (omega arith), ← reading.named)
           (named_after (length said + 1) r line);
       few = subst (λ (st : Stand). length st.peers ≤ 1024) (sym stands)
@@ -210,6 +221,21 @@ feeds_are_numbered peers (line ∷ said) =
     by_feed None = refl
     by_feed (Some feed) = refl
 
+-- The ranges of a line by the numbers of their peers.
+allow_is_numbered : (peers : List Peer) (line : SaidLine)
+    → allows_of peers line ≡ map (numbered_allow peers) (named_allows_of line)
+allow_is_numbered peers (Ok (AllowLine name ranges)) = numbered_ranges peers name ranges
+allow_is_numbered peers line = refl
+
+-- The ranges of lines by the numbers of their peers.
+allows_are_numbered : (peers : List Peer) (said : List SaidLine)
+    → flat_map (allows_of peers) said ≡ map (numbered_allow peers) (flat_map named_allows_of said)
+allows_are_numbered peers [] = refl
+allows_are_numbered peers (line ∷ said) =
+    rw (allow_is_numbered peers line, allows_are_numbered peers said)
+    (sym (map-append (numbered_allow peers) (named_allows_of line)
+    (flat_map named_allows_of said)))
+
 -- A name that is listed is Duplicate, and one that isn't is the first.
 pub name_listed : (names : List (List ℕ)) (name : List ℕ) (b added : Bool)
     → b ≡ list_any (bytes_eq name) names → added ≡ not b
@@ -223,9 +249,9 @@ first_or_is o d = grind arith
 first_of_is : {X : Type 0} (o : Option X) → first_of (option_to_list o) ≡ o
 first_of_is o = grind arith
 
--- the settings of what stands and of these feeds
-abbrev pub settings_by : Stand → List Feed → RelaySettings
-settings_by st feeds =
+-- the settings of what stands, of these feeds and of these ranges
+abbrev pub settings_by : Stand → List Feed → List Allow → RelaySettings
+settings_by st feeds allows =
     record {
       own = first_or [] st.owns;
       max_article = first_or 1000000 st.sizes;
@@ -236,13 +262,16 @@ settings_by st feeds =
       bind = first_or each_address st.binds;
       peers = map (connected st.connections) st.peers;
       feeds = feeds;
+      allows = allows;
     }
 
--- what lines without early fault say, by what stands, the feeds and the names
-abbrev said_by_stand : Stand → List NamedFeed → List NamedLine → Result RelaySettings LineFault
-said_by_stand st feeds named =
+-- what lines without early fault say, by what stands, the feeds, the ranges and the names
+abbrev said_by_stand : Stand → List NamedFeed → List NamedAllow → List NamedLine
+    → Result RelaySettings LineFault
+said_by_stand st feeds allows named =
     unless_fault (whole_fault (no_own_fault st.owns)) (unless_fault (first_unknown st.peers named)
-    (Ok (settings_by st (map (numbered_feed st.peers) feeds))))
+    (Ok (settings_by st (map (numbered_feed st.peers) feeds)
+    (map (numbered_allow st.peers) allows))))
 
 -- The lines say what their reading says.
 pub reading_says : (said : List SaidLine) (r : Reading) → first_fault early_fault [] said ≡ None
@@ -252,12 +281,17 @@ reading_says said r none reading =
       none,
       late_is_unknown (stand_of said).peers 1 [] said refl,
       feeds_are_numbered (stand_of said).peers said,
+      allows_are_numbered (stand_of said).peers said,
     )
-    (ap (λ (st : Stand). said_by_stand st (filter_map named_feed_of said) (named_from 1 said))
+    (ap (λ (st : Stand). said_by_stand st (filter_map named_feed_of said)
+    (flat_map named_allows_of said) (named_from 1 said))
     (sym reading.stand)
-    ∙ ap (λ (fs : List NamedFeed). said_by_stand (stand_view r) fs (named_from 1 said))
+    ∙ ap (λ (fs : List NamedFeed). said_by_stand (stand_view r) fs (flat_map named_allows_of said)
+    (named_from 1 said))
     (sym reading.feeds)
-    ∙ ap (said_by_stand (stand_view r) r.feeds) (sym reading.named)
+    ∙ ap (λ (all : List NamedAllow). said_by_stand (stand_view r) r.feeds all (named_from 1 said))
+    (sym reading.allows)
+    ∙ ap (said_by_stand (stand_view r) r.feeds r.allows) (sym reading.named)
     ∙ rw (
       first_or_is r.own [],
       first_or_is r.max_article 1000000,
@@ -273,7 +307,7 @@ pub no_draft : (d : RelayDraft) → draft_view d ≡ nothing → Lists d → IsD
 no_draft d e listed =
     record {
       reading = subst (IsReadingOf []) (sym e)
-          (record { stand = refl; feeds = refl; named = refl; few = lit≤ tt });
+          (record { stand = refl; feeds = refl; allows = refl; named = refl; few = lit≤ tt });
       listed = listed;
     }
 

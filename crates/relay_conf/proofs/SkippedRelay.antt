@@ -1,11 +1,12 @@
 -- Comments and empty lines of relay.conf.
-use Rattle.std.proofs.Common.{◌≡◌, ℕ, true, List, ◌∷◌, ◌++◌, Ok, refl, ap, ◌∙◌}
-use Rattle.std.specs.Prelude.{◌↔◌, filter_map}
+use Rattle.std.proofs.Common.{◌≡◌, ℕ, true, List, ◌∷◌, ◌++◌, Ok, refl, ap, ap₂, ◌∙◌}
+use Rattle.std.specs.Prelude.{◌↔◌, filter_map, flat_map}
 use Rattle.std.proofs.lemmas.List.Elements.{filter_map-append}
+use Rattle.std.proofs.lemmas.Grind.{flat_map-append}
 use Rattle.news_terms.specs.Article.{without_outer_white}
 use Rattle.line_words.specs.Comments.{is_skipped}
 use Rattle.relay_conf.specs.RelayLines.{SaidLine, Skipped, LineSays, relay_line}
-use Rattle.relay_conf.specs.Relay.{Stand, stand_of, feed_of, line_fault, early_fault, late_fault}
+use Rattle.relay_conf.specs.Relay.{Stand, stand_of, feed_of, allows_of, line_fault, early_fault, late_fault}
 use Rattle.relay_conf.specs.Relay.{no_own_fault, settings_of, RelaySettings}
 use Rattle.relay_conf.specs.RelayViews.{HasSettings}
 use Rattle.relay_conf.proofs.OneRelay.{line_one}
@@ -30,10 +31,11 @@ relay_idle = record {
   late_same = λ peers before after line. refl;
   made_same = λ before after.
       ap (λ (st : Stand).
-      settings_by st (filter_map (feed_of st.peers) (before ++ Ok Skipped ∷ after)))
+      settings_by st (filter_map (feed_of st.peers) (before ++ Ok Skipped ∷ after))
+      (flat_map (allows_of st.peers) (before ++ Ok Skipped ∷ after)))
       (stand_same before after)
-      ∙ ap (settings_by (stand_of (before ++ after)))
-      (simp filter_map-append);
+      ∙ ap₂ (settings_by (stand_of (before ++ after)))
+      (simp filter_map-append) (simp flat_map-append);
 }
 
 -- A comment or an empty line is skipped.

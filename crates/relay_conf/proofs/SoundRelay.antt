@@ -3,7 +3,7 @@ use Rattle.std.proofs.lemmas.Bool.Decides.{nat_tests}
 use Rattle.std.proofs.Common.{◌≡◌, ◌≢◌, ℕ, zero, suc, ◌<◌, ◌≤◌, true, List, [], ◌∷◌, All, length}
 use Rattle.std.proofs.Common.{None, Some, Ok, slice_get, get_or, ap, ◌∙◌, sym, subst, refl, arith}
 use Rattle.std.proofs.Common.{append-nil, lit≤}
-use Rattle.std.specs.Prelude.{filter_map, bytes_eq, IsTrue}
+use Rattle.std.specs.Prelude.{filter_map, flat_map, bytes_eq, IsTrue}
 use Rattle.std.specs.List.{list_any}
 use Rattle.std.specs.Option.{ForSome, IfSome, option_to_list}
 use Rattle.std.proofs.lemmas.Bool.{cond_both}
@@ -15,18 +15,21 @@ use Rattle.std.proofs.lemmas.Slice.Eq.{bytes_eq-Decides}
 use Rattle.news_terms.specs.Path.{is_agent}
 use Rattle.news_terms.proofs.ListPlaces.{Apart, apart_more, found_at, holds_at}
 use Rattle.relay_conf.specs.declared.faults.Fault.TheVariants.{Duplicate}
+use Rattle.relay_conf.specs.declared.reach.Allow.{Allow}
 use Rattle.relay_conf.specs.declared.relay.Feed.{Feed}
 use Rattle.relay_conf.specs.declared.relay.Peer.{Peer}
 use Rattle.relay_conf.specs.declared.relay.PeerConnections.{PeerConnections}
 use Rattle.relay_conf.specs.Faults.{first_fault}
-use Rattle.relay_conf.specs.RelayLines.{SaidLine, FeedLine}
-use Rattle.relay_conf.specs.Relay.{feed_name_of, feed_of, peer_number, name_in, unknown_fault}
+use Rattle.relay_conf.specs.RelayLines.{SaidLine, AllowLine, FeedLine}
+use Rattle.relay_conf.specs.Relay.{feed_name_of, feed_of, allow_of, allows_of, peer_number}
+use Rattle.relay_conf.specs.Relay.{name_in, unknown_fault}
 use Rattle.relay_conf.specs.Relay.{line_fault, stand_of, early_fault, late_fault, no_own_fault}
 use Rattle.relay_conf.specs.Relay.{settings_of, RelaySettings, Stand, again_fault, connected}
 use Rattle.relay_conf.specs.Relay.{connections_for, first_or, first_of}
 use Rattle.relay_conf.specs.RelayViews.{HasSettings}
 use Rattle.relay_conf.specs.SoundRelay.{IsSoundRelay}
 use Rattle.relay_conf.proofs.FaultlessLines.{all_option, behind_trials, given_keeps}
+use Rattle.relay_conf.proofs.FaultlessLines.{listed_without_fault}
 use Rattle.relay_conf.proofs.RangedRelay.{are_ranged}
 use Rattle.relay_conf.proofs.RelayReadings.{join, stand_kept, few_joined}
 
@@ -118,6 +121,28 @@ own_feeds peers said early late =
           apart i j one.0 one.1 (two.1 ∙ ap (λ (name : List ℕ). Some name) (sym names));
     }
 
+-- THE PEERS OF RANGES
+
+-- A range behind a line without a fault is of a peer.
+range_known : (peers : List Peer) (line : SaidLine) → unknown_fault peers (name_in line) ≡ None
+    → All (λ (allow : Allow). allow.peer < length peers) (allows_of peers line)
+range_known peers (Ok (AllowLine name ranges)) e =
+    let known : peer_number peers name < length peers = by_name e in
+    All-map (λ (allow : Allow). allow.peer < length peers) (allow_of peers name) ranges
+    (λ k d less. known)
+  where
+    by_name : unknown_fault peers (Some name) ≡ None → peer_number peers name < length peers
+    by_name none = grind (arith, nat_tests)
+range_known peers line e = All-nil (λ (allow : Allow). allow.peer < length peers)
+
+-- So is each range.
+ranges_known : (peers : List Peer) (said : List SaidLine)
+    → first_fault (late_fault peers) [] said ≡ None
+    → All (λ (allow : Allow). allow.peer < length peers) (flat_map (allows_of peers) said)
+ranges_known peers said none =
+    listed_without_fault (late_fault peers) (λ (allow : Allow). allow.peer < length peers)
+    (allows_of peers) (λ before line e. range_known peers line e) said none
+
 -- WHAT IS SAID, OR STANDS WITHOUT A LINE
 
 -- The connections of a peer are in their range, where those that are said are.
@@ -176,6 +201,9 @@ relay_is_sound lines settings h =
       of_peers = λ k d less. subst (λ n. (get_or (settings_of said).feeds k d).peer < n)
           (sym as_many) (feeds.within k _ (slice_get-get_or (settings_of said).feeds k d less));
       own_feed = feeds.own;
+      bits = ranged.bits stand.peers;
+      allows_of_peers = λ k d less. subst (λ n. (get_or (settings_of said).allows k d).peer < n)
+          (sym as_many) (ranges_known stand.peers said none.2 k d less);
       some_octets = octets.0;
       most_octets = octets.1;
       cutoff = first_holds (λ n. n ≤ 4000000000) 864000 stand.cutoffs (omega arith)

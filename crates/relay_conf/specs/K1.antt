@@ -52,6 +52,7 @@ k1_relay =
           ∷ record { name = codes "p2"; identity = codes "two.example"; port = 0; connections = 1 }
           ∷ [];
       feeds = record { peer = 1; ring = 2; expression = every_newsgroup } ∷ [];
+      allows = [];
     }
 
 -- the configuration is K1 (docs/FORMATS.md, K1)

@@ -9,6 +9,8 @@ pub mod K2
 pub mod LineByLine
 pub mod Lines
 pub mod Places
+pub mod Reach
+pub mod ReachExamples
 pub mod Readings
 pub mod Relay
 pub mod RelayDraft

@@ -1,5 +1,5 @@
 -- relay.conf: what its lines say together.
-use Rattle.std.specs.Prelude.{ℕ, nat_le, nat_lt, Bool, List, [], ◌∷◌, length, map, filter_map}
+use Rattle.std.specs.Prelude.{ℕ, nat_le, nat_lt, Bool, List, [], ◌∷◌, length, map, filter_map, flat_map}
 use Rattle.std.specs.Prelude.{bytes_eq, Option, None, Some, Result, Ok, Err, if◌then◌else◌}
 use Rattle.std.specs.List.{list_any, position_or_len}
 use Rattle.relay_conf.specs.declared.faults.Fault.{Fault}
@@ -9,9 +9,12 @@ use Rattle.relay_conf.specs.declared.faults.LineFault.{LineFault}
 use Rattle.relay_conf.specs.declared.relay.Peer.{Peer}
 use Rattle.relay_conf.specs.declared.relay.Feed.{Feed}
 use Rattle.relay_conf.specs.declared.relay.PeerConnections.{PeerConnections}
+use Rattle.relay_conf.specs.declared.reach.Allow.{Allow}
+use Rattle.relay_conf.specs.declared.reach.Range.{Range}
 use Rattle.relay_conf.specs.Faults.{first_fault, whole_fault, unless_fault}
 use Rattle.relay_conf.specs.RelayLines.{SaidLine, Skipped, Own, MaxArticle, Cutoff, Remember}
-use Rattle.relay_conf.specs.RelayLines.{Patience, Sync, Bind, PeerLine, ConnectionsLine, FeedLine}
+use Rattle.relay_conf.specs.RelayLines.{Patience, Sync, Bind, PeerLine, ConnectionsLine, AllowLine}
+use Rattle.relay_conf.specs.RelayLines.{FeedLine}
 
 -- the own identity that a line says
 abbrev pub own_of : SaidLine → Option (List ℕ)
@@ -26,6 +29,7 @@ own_of (Ok (Sync seconds)) = None
 own_of (Ok (Bind address)) = None
 own_of (Ok (PeerLine name identity port)) = None
 own_of (Ok (ConnectionsLine name connections)) = None
+own_of (Ok (AllowLine name ranges)) = None
 own_of (Ok (FeedLine name ring expression)) = None
 
 -- the largest article that a line says
@@ -41,6 +45,7 @@ max_article_of (Ok (Sync seconds)) = None
 max_article_of (Ok (Bind address)) = None
 max_article_of (Ok (PeerLine name identity port)) = None
 max_article_of (Ok (ConnectionsLine name connections)) = None
+max_article_of (Ok (AllowLine name ranges)) = None
 max_article_of (Ok (FeedLine name ring expression)) = None
 
 -- the cutoff that a line says
@@ -56,6 +61,7 @@ cutoff_of (Ok (Sync seconds)) = None
 cutoff_of (Ok (Bind address)) = None
 cutoff_of (Ok (PeerLine name identity port)) = None
 cutoff_of (Ok (ConnectionsLine name connections)) = None
+cutoff_of (Ok (AllowLine name ranges)) = None
 cutoff_of (Ok (FeedLine name ring expression)) = None
 
 -- how long a line says that ids are remembered
@@ -71,6 +77,7 @@ remember_of (Ok (Sync seconds)) = None
 remember_of (Ok (Bind address)) = None
 remember_of (Ok (PeerLine name identity port)) = None
 remember_of (Ok (ConnectionsLine name connections)) = None
+remember_of (Ok (AllowLine name ranges)) = None
 remember_of (Ok (FeedLine name ring expression)) = None
 
 -- how long a line says that a silent peer is waited for
@@ -86,6 +93,7 @@ patience_of (Ok (Sync seconds)) = None
 patience_of (Ok (Bind address)) = None
 patience_of (Ok (PeerLine name identity port)) = None
 patience_of (Ok (ConnectionsLine name connections)) = None
+patience_of (Ok (AllowLine name ranges)) = None
 patience_of (Ok (FeedLine name ring expression)) = None
 
 -- how often a line says that files are flushed
@@ -101,6 +109,7 @@ sync_of (Ok (Sync seconds)) = Some seconds
 sync_of (Ok (Bind address)) = None
 sync_of (Ok (PeerLine name identity port)) = None
 sync_of (Ok (ConnectionsLine name connections)) = None
+sync_of (Ok (AllowLine name ranges)) = None
 sync_of (Ok (FeedLine name ring expression)) = None
 
 -- the address that a line says
@@ -116,6 +125,7 @@ bind_of (Ok (Sync seconds)) = None
 bind_of (Ok (Bind address)) = Some address
 bind_of (Ok (PeerLine name identity port)) = None
 bind_of (Ok (ConnectionsLine name connections)) = None
+bind_of (Ok (AllowLine name ranges)) = None
 bind_of (Ok (FeedLine name ring expression)) = None
 
 -- the peer that a line says, with one connection
@@ -132,6 +142,7 @@ peer_of (Ok (Bind address)) = None
 peer_of (Ok (PeerLine name identity port)) =
     Some (record { name = name; identity = identity; port = port; connections = 1 })
 peer_of (Ok (ConnectionsLine name connections)) = None
+peer_of (Ok (AllowLine name ranges)) = None
 peer_of (Ok (FeedLine name ring expression)) = None
 
 -- the connections that a line says, by the name of their peer
@@ -148,6 +159,7 @@ connections_of (Ok (Bind address)) = None
 connections_of (Ok (PeerLine name identity port)) = None
 connections_of (Ok (ConnectionsLine name connections)) =
     Some (record { name = name; connections = connections })
+connections_of (Ok (AllowLine name ranges)) = None
 connections_of (Ok (FeedLine name ring expression)) = None
 
 -- the name of the peer whose feed a line says
@@ -163,9 +175,10 @@ feed_name_of (Ok (Sync seconds)) = None
 feed_name_of (Ok (Bind address)) = None
 feed_name_of (Ok (PeerLine name identity port)) = None
 feed_name_of (Ok (ConnectionsLine name connections)) = None
+feed_name_of (Ok (AllowLine name ranges)) = None
 feed_name_of (Ok (FeedLine name ring expression)) = Some name
 
--- the name of a peer that a line says something of: its connections or its feed
+-- the name of a peer that a line says something of: its connections, who may connect, or its feed
 abbrev pub name_in : SaidLine → Option (List ℕ)
 name_in (Err fault) = None
 name_in (Ok Skipped) = None
@@ -178,6 +191,7 @@ name_in (Ok (Sync seconds)) = None
 name_in (Ok (Bind address)) = None
 name_in (Ok (PeerLine name identity port)) = None
 name_in (Ok (ConnectionsLine name connections)) = Some name
+name_in (Ok (AllowLine name ranges)) = Some name
 name_in (Ok (FeedLine name ring expression)) = Some name
 
 -- the number of the peer of a name: how many stand before the first of that name (docs/FORMATS.md,
@@ -202,8 +216,29 @@ feed_of peers (Ok (Sync seconds)) = None
 feed_of peers (Ok (Bind address)) = None
 feed_of peers (Ok (PeerLine name identity port)) = None
 feed_of peers (Ok (ConnectionsLine name connections)) = None
+feed_of peers (Ok (AllowLine name ranges)) = None
 feed_of peers (Ok (FeedLine name ring expression)) =
     Some (record { peer = peer_number peers name; ring = ring; expression = expression })
+
+-- a range of the peer of a name, over these peers (docs/FORMATS.md, Configuration)
+abbrev pub allow_of : List Peer → (name : List ℕ) → Range → Allow
+allow_of peers name range = record { peer = peer_number peers name; range = range }
+
+-- the ranges of addresses that a line says, over these peers (docs/FORMATS.md, Configuration)
+abbrev pub allows_of : List Peer → SaidLine → List Allow
+allows_of peers (Err fault) = []
+allows_of peers (Ok Skipped) = []
+allows_of peers (Ok (Own identity)) = []
+allows_of peers (Ok (MaxArticle octets)) = []
+allows_of peers (Ok (Cutoff seconds)) = []
+allows_of peers (Ok (Remember seconds)) = []
+allows_of peers (Ok (Patience seconds)) = []
+allows_of peers (Ok (Sync seconds)) = []
+allows_of peers (Ok (Bind address)) = []
+allows_of peers (Ok (PeerLine name identity port)) = []
+allows_of peers (Ok (ConnectionsLine name connections)) = []
+allows_of peers (Ok (AllowLine name ranges)) = map (allow_of peers name) ranges
+allows_of peers (Ok (FeedLine name ring expression)) = []
 
 -- what lines say that a further line may double
 pub record Stand : Type 0 where
@@ -266,13 +301,14 @@ line_fault stand (Ok (Bind address)) = once stand.binds
 line_fault stand (Ok (PeerLine name identity port)) = peer_fault stand.peers name
 line_fault stand (Ok (ConnectionsLine name connections)) =
     again_fault (map (λ one. one.name) stand.connections) name
+line_fault stand (Ok (AllowLine name ranges)) = None
 line_fault stand (Ok (FeedLine name ring expression)) = again_fault stand.feed_names name
 
 -- the same behind the lines before it (docs/FORMATS.md, Configuration)
 abbrev pub early_fault : (before : List SaidLine) → SaidLine → Option Fault
 early_fault before line = line_fault (stand_of before) line
 
--- a feed, or a number of connections, of no peer (docs/FORMATS.md, Configuration)
+-- a feed, a number of connections, or ranges of addresses, of no peer (docs/FORMATS.md, Configuration)
 abbrev pub unknown_fault : List Peer → Option (List ℕ) → Option Fault
 unknown_fault peers None = None
 unknown_fault peers (Some name) = if is_peer peers name then None else Some UnknownName
@@ -307,6 +343,7 @@ pub record RelaySettings : Type 0 where
   pub bind : List ℕ
   pub peers : List Peer
   pub feeds : List Feed
+  pub allows : List Allow
 
 -- the connections of the peer of a name: what the first of these says that is of it, else one
 -- (docs/FORMATS.md, Configuration)
@@ -342,6 +379,7 @@ settings_of said =
       bind = first_or each_address (stand_of said).binds;
       peers = map (connected (stand_of said).connections) (stand_of said).peers;
       feeds = filter_map (feed_of (stand_of said).peers) said;
+      allows = flat_map (allows_of (stand_of said).peers) said;
     }
 
 -- what lines say together: the first fault of a line, else that of the whole file, else the first

@@ -1,6 +1,6 @@
 -- How far the lines of relay.conf are read. No public contract cites it.
 use Rattle.std.specs.Prelude.{◌≡◌, ℕ, ◌+◌, ◌≤◌, List, [], ◌∷◌, ◌++◌, length, map, bytes_eq}
-use Rattle.std.specs.Prelude.{filter_map, unwrap_or, Option, None, Some, Result, Ok, Err}
+use Rattle.std.specs.Prelude.{filter_map, flat_map, unwrap_or, Option, None, Some, Result, Ok, Err}
 use Rattle.std.specs.Prelude.{if◌then◌else◌, OnOk}
 use Rattle.std.specs.List.{list_any}
 use Rattle.std.specs.Option.{option_to_list}
@@ -10,6 +10,9 @@ use Rattle.relay_conf.specs.declared.faults.Fault.{Fault}
 use Rattle.relay_conf.specs.declared.faults.Fault.TheVariants.{UnknownName}
 use Rattle.relay_conf.specs.declared.faults.LineFault.{LineFault}
 use Rattle.relay_conf.specs.declared.faults.Refusal.{Refusal}
+use Rattle.relay_conf.specs.declared.reach.Allow.{Allow}
+use Rattle.relay_conf.specs.declared.reach.NamedAllow.{NamedAllow}
+use Rattle.relay_conf.specs.declared.reach.Range.{Range}
 use Rattle.relay_conf.specs.declared.relay.Peer.{Peer}
 use Rattle.relay_conf.specs.declared.relay.Feed.{Feed}
 use Rattle.relay_conf.specs.declared.relay.NamedFeed.{NamedFeed}
@@ -20,9 +23,9 @@ use Rattle.relay_conf.specs.Faults.{whole_fault, unless_fault}
 use Rattle.relay_conf.specs.Drafts.{ReadingGives}
 use Rattle.relay_conf.specs.RelayLines.{RelayLine, RawLine, SaidLine, RawSays, Skipped, Own}
 use Rattle.relay_conf.specs.RelayLines.{MaxArticle, Cutoff, Remember, Patience, Sync, Bind}
-use Rattle.relay_conf.specs.RelayLines.{PeerLine, ConnectionsLine, FeedLine}
+use Rattle.relay_conf.specs.RelayLines.{PeerLine, ConnectionsLine, AllowLine, FeedLine}
 use Rattle.relay_conf.specs.Relay.{Stand, stand_of, connected, each_address, line_fault}
-use Rattle.relay_conf.specs.Relay.{peer_number, is_peer, no_own_fault, RelaySettings}
+use Rattle.relay_conf.specs.Relay.{peer_number, is_peer, allow_of, no_own_fault, RelaySettings}
 
 -- what lines so far say
 pub record Reading : Type 0 where
@@ -37,6 +40,7 @@ pub record Reading : Type 0 where
   pub connections : List PeerConnections
   pub named : List NamedLine
   pub feeds : List NamedFeed
+  pub allows : List NamedAllow
 
 -- the draft as a reading
 abbrev pub draft_view : RelayDraft → Reading
@@ -53,6 +57,7 @@ draft_view d =
       connections = d.connections.items;
       named = d.named.items;
       feeds = d.feeds.items;
+      allows = d.allows.items;
     }
 
 -- the reading of no lines
@@ -70,6 +75,7 @@ nothing =
       connections = [];
       named = [];
       feeds = [];
+      allows = [];
     }
 
 -- the reading with other peers
@@ -92,6 +98,10 @@ stand_view r =
       feed_names = map (λ feed. feed.name) r.feeds;
     }
 
+-- a range by the name of its peer
+abbrev pub named_allow : (name : List ℕ) → Range → NamedAllow
+named_allow name range = record { name = name; range = range }
+
 -- the reading after a line of this number that has no fault
 abbrev pub after_line : ℕ → Reading → RelayLine (List Marked) → Reading
 after_line number r Skipped = r
@@ -110,6 +120,11 @@ after_line number r (PeerLine name identity port) =
 after_line number r (ConnectionsLine name connections) =
     record r {
       connections = r.connections ++ record { name = name; connections = connections } ∷ [];
+      named = r.named ++ record { line = number; name = name } ∷ [];
+    }
+after_line number r (AllowLine name ranges) =
+    record r {
+      allows = r.allows ++ map (named_allow name) ranges;
       named = r.named ++ record { line = number; name = name } ∷ [];
     }
 after_line number r (FeedLine name ring expression) =
@@ -160,6 +175,12 @@ abbrev pub AddsConnections : ℕ → (name : List ℕ) (connections : ℕ) → (
 AddsConnections number name connections old after result =
     Lists old → AddsLine number (Ok (ConnectionsLine name connections)) old after result
 
+-- a line of the ranges of a peer is added
+abbrev pub AddsAllow : ℕ → (name : List ℕ) (ranges : List Range) → (old after : RelayDraft)
+    → Result (Unit {0}) Refusal → Type 0
+AddsAllow number name ranges old after result =
+    Lists old → AddsLine number (Ok (AllowLine name ranges)) old after result
+
 -- a line of a feed is added
 abbrev pub AddsFeed : ℕ → (name : List ℕ) (ring : ℕ) (text : List ℕ) → (old after : RelayDraft)
     → Result (Unit {0}) Refusal → Type 0
@@ -179,8 +200,25 @@ named_feed_of (Ok (Sync seconds)) = None
 named_feed_of (Ok (Bind address)) = None
 named_feed_of (Ok (PeerLine name identity port)) = None
 named_feed_of (Ok (ConnectionsLine name connections)) = None
+named_feed_of (Ok (AllowLine name ranges)) = None
 named_feed_of (Ok (FeedLine name ring expression)) =
     Some (record { name = name; ring = ring; expression = expression })
+
+-- the ranges that a line says, by the name of their peer
+abbrev pub named_allows_of : SaidLine → List NamedAllow
+named_allows_of (Err fault) = []
+named_allows_of (Ok Skipped) = []
+named_allows_of (Ok (Own identity)) = []
+named_allows_of (Ok (MaxArticle octets)) = []
+named_allows_of (Ok (Cutoff seconds)) = []
+named_allows_of (Ok (Remember seconds)) = []
+named_allows_of (Ok (Patience seconds)) = []
+named_allows_of (Ok (Sync seconds)) = []
+named_allows_of (Ok (Bind address)) = []
+named_allows_of (Ok (PeerLine name identity port)) = []
+named_allows_of (Ok (ConnectionsLine name connections)) = []
+named_allows_of (Ok (AllowLine name ranges)) = map (named_allow name) ranges
+named_allows_of (Ok (FeedLine name ring expression)) = []
 
 -- the name of a peer that a line of this number says something of
 abbrev pub named_of : ℕ → SaidLine → Option NamedLine
@@ -196,6 +234,7 @@ named_of number (Ok (Bind address)) = None
 named_of number (Ok (PeerLine name identity port)) = None
 named_of number (Ok (ConnectionsLine name connections)) =
     Some (record { line = number; name = name })
+named_of number (Ok (AllowLine name ranges)) = Some (record { line = number; name = name })
 named_of number (Ok (FeedLine name ring expression)) =
     Some (record { line = number; name = name })
 
@@ -209,6 +248,7 @@ named_from number (line ∷ more) =
 pub record IsReadingOf (said : List SaidLine) (r : Reading) : Type 0 where
   pub stand : stand_view r ≡ stand_of said
   pub feeds : r.feeds ≡ filter_map named_feed_of said
+  pub allows : r.allows ≡ flat_map named_allows_of said
   pub named : r.named ≡ named_from 1 said
   pub few : length r.peers ≤ 1024
 
@@ -233,6 +273,10 @@ abbrev pub numbered_feed : List Peer → NamedFeed → Feed
 numbered_feed peers feed =
     record { peer = peer_number peers feed.name; ring = feed.ring; expression = feed.expression }
 
+-- a range by the number of its peer
+abbrev pub numbered_allow : List Peer → NamedAllow → Allow
+numbered_allow peers allow = allow_of peers allow.name allow.range
+
 -- the settings of a reading
 abbrev pub reading_settings : Reading → RelaySettings
 reading_settings r =
@@ -246,6 +290,7 @@ reading_settings r =
       bind = unwrap_or r.bind each_address;
       peers = map (connected r.connections) r.peers;
       feeds = map (numbered_feed r.peers) r.feeds;
+      allows = map (numbered_allow r.peers) r.allows;
     }
 
 -- what a reading without early fault says

@@ -11,6 +11,7 @@ use Rattle.line_words.specs.Comments.{is_skipped}
 use Rattle.line_words.specs.Numbers.{number_within}
 use Rattle.line_words.specs.Parts.{parts, one_of, two_of, three_of}
 use Rattle.relay_conf.specs.Words.{words, is_name, is_identity}
+use Rattle.relay_conf.specs.declared.reach.Range.{Range}
 
 -- what a line of relay.conf says, faults apart; a feed has its expression as E: first its text,
 -- then what that is (docs/FORMATS.md, Configuration)
@@ -35,6 +36,8 @@ pub data RelayLine (E : Type 0) : Type 0 where
   PeerLine : (name identity : List ℕ) (port : ℕ) → RelayLine E
   -- `connections NAME N`
   ConnectionsLine : (name : List ℕ) (connections : ℕ) → RelayLine E
+  -- `allow NAME ADDRESS[/BITS] ..`
+  AllowLine : (name : List ℕ) (ranges : List Range) → RelayLine E
   -- `feed NAME RING EXPR`
   FeedLine : (name : List ℕ) (ring : ℕ) (expression : E) → RelayLine E
 
@@ -131,6 +134,49 @@ connections_line None = Err Syntax
 connections_line (Some two) =
     if is_name two.0 then connections_numbered two.0 (number_within 1 64 two.1) else Err Syntax
 
+-- a range of this address and of so many of its bits, or the fault of what is none of these
+-- (docs/FORMATS.md, Configuration)
+abbrev pub ranged : (address : Option (List ℕ)) → (bits : Option ℕ) → Result Range Fault
+ranged None bits = Err Syntax
+ranged (Some address) None = Err Number
+ranged (Some address) (Some bits) = Ok (record { address = address; bits = bits })
+
+-- the range of the parts between slashes: an address, and how many of its bits count, without a
+-- number all 32 (docs/FORMATS.md, Configuration)
+abbrev pub range_of_parts : List (List ℕ) → Result Range Fault
+range_of_parts [] = Err Syntax
+range_of_parts (address ∷ []) = ranged (address_of address) (Some 32)
+range_of_parts (address ∷ bits ∷ []) = ranged (address_of address) (number_within 0 32 bits)
+range_of_parts (address ∷ bits ∷ other ∷ more) = Err Syntax
+
+-- the range that a word is, or its fault (docs/FORMATS.md, Configuration)
+abbrev pub range_of : (word : List ℕ) → Result Range Fault
+range_of word = range_of_parts (parts (byte "/") word)
+
+-- a range, and those behind it, or the first fault (docs/FORMATS.md, Configuration)
+abbrev pub range_and_more : Result Range Fault → Result (List Range) Fault
+    → Result (List Range) Fault
+range_and_more (Err fault) more = Err fault
+range_and_more (Ok range) (Err fault) = Err fault
+range_and_more (Ok range) (Ok more) = Ok (range ∷ more)
+
+-- the ranges that words are, or the first fault (docs/FORMATS.md, Configuration)
+abbrev pub ranges_of : (words : List (List ℕ)) → Result (List Range) Fault
+ranges_of [] = Ok []
+ranges_of (word ∷ more) = range_and_more (range_of word) (ranges_of more)
+
+-- a peer's ranges, or their fault (docs/FORMATS.md, Configuration)
+abbrev pub allow_ranged : (name : List ℕ) → Result (List Range) Fault → RawLine
+allow_ranged name (Err fault) = Err fault
+allow_ranged name (Ok ranges) = Ok (AllowLine name ranges)
+
+-- what follows `allow`: a name, and one range or more (docs/FORMATS.md, Configuration)
+abbrev pub allow_line : (after : List (List ℕ)) → RawLine
+allow_line [] = Err Syntax
+allow_line (name ∷ []) = Err Syntax
+allow_line (name ∷ first ∷ more) =
+    if is_name name then allow_ranged name (ranges_of (first ∷ more)) else Err Syntax
+
 -- a feed, or Number where its ring is none (docs/FORMATS.md, Configuration)
 abbrev pub feed_ringed : (name text : List ℕ) → Option ℕ → RawLine
 feed_ringed name text None = Err Number
@@ -162,6 +208,7 @@ relay_words (word ∷ after) =
     else if bytes_eq word (codes "bind") then bind_line (one_of after)
     else if bytes_eq word (codes "peer") then peer_line (three_of after)
     else if bytes_eq word (codes "connections") then connections_line (two_of after)
+    else if bytes_eq word (codes "allow") then allow_line after
     else if bytes_eq word (codes "feed") then feed_line (three_of after)
     else Err UnknownKey
 
@@ -196,6 +243,7 @@ RawSays (Ok (Sync seconds)) said = said ≡ Ok (Sync seconds)
 RawSays (Ok (Bind address)) said = said ≡ Ok (Bind address)
 RawSays (Ok (PeerLine name identity port)) said = said ≡ Ok (PeerLine name identity port)
 RawSays (Ok (ConnectionsLine name connections)) said = said ≡ Ok (ConnectionsLine name connections)
+RawSays (Ok (AllowLine name ranges)) said = said ≡ Ok (AllowLine name ranges)
 RawSays (Ok (FeedLine name ring text)) said = FeedSays name ring text said
 
 -- what a line of relay.conf says, whatever stands before it (docs/FORMATS.md, Configuration)

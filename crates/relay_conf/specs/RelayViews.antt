@@ -1,5 +1,6 @@
 -- Lines of relay.conf that were read, as the definitions have them.
-use Rattle.std.specs.Prelude.{ℕ, List, Result, Ok, Err}
+use Rattle.std.specs.Prelude.{ℕ, List, filter_map, Result, Ok, Err}
+use Rattle.std.specs.Result.{result_ok}
 use Rattle.std.specs.Net.Addr.{ipv4_octets}
 use Rattle.relay_conf.specs.declared.faults.Fault.{Fault}
 use Rattle.relay_conf.specs.declared.relay_lines.Line.{Line}
@@ -8,12 +9,18 @@ use Rattle.relay_conf.specs.declared.relay_lines.Limit.{Limit}
 use Rattle.relay_conf.specs.declared.relay_lines.Limit.TheVariants as limits
 use Rattle.relay_conf.specs.declared.faults.LineFault.{LineFault}
 use Rattle.relay_conf.specs.declared.faults.ConfError.{ConfError}
+use Rattle.relay_conf.specs.declared.reach.Range.{Range}
 use Rattle.relay_conf.specs.declared.settings.Relay.{Relay}
 use Rattle.relay_conf.specs.LineByLine.{SayTogether, HaveFault, LinesGive}
 use Rattle.relay_conf.specs.RelayLines.{LineSays, RelayLine, RawLine, Skipped, Own, MaxArticle}
 use Rattle.relay_conf.specs.RelayLines.{Cutoff, Remember, Patience, Sync, Bind, PeerLine}
-use Rattle.relay_conf.specs.RelayLines.{ConnectionsLine, FeedLine}
+use Rattle.relay_conf.specs.RelayLines.{ConnectionsLine, AllowLine, FeedLine, range_of}
+use Rattle.relay_conf.specs.Words.{words}
 use Rattle.relay_conf.specs.Relay.{RelaySettings, early_fault, relay_said}
+
+-- the ranges that are among the words of a text
+abbrev pub ranges_in : (text : List ℕ) → List Range
+ranges_in text = filter_map (λ word. result_ok (range_of word)) (words text)
 
 -- a line of relay.conf as the definitions have it, its expression as text
 abbrev pub raw_view : Line → RelayLine (List ℕ)
@@ -27,6 +34,7 @@ raw_view (lines.Sync seconds) = Sync seconds
 raw_view (lines.Bind address) = Bind address
 raw_view (lines.Peer name identity port) = PeerLine name.now identity.now port
 raw_view (lines.Connections name connections) = ConnectionsLine name.now connections
+raw_view (lines.Allow name text) = AllowLine name.now (ranges_in text.now)
 raw_view (lines.Feed name ring text) = FeedLine name.now ring text.now
 
 -- the answer is what a line says alone
@@ -55,6 +63,7 @@ relay_view relay =
       bind = ipv4_octets relay.bind;
       peers = relay.peers.items;
       feeds = relay.feeds.items;
+      allows = relay.allows.items;
     }
 
 -- the lines say these settings together (docs/FORMATS.md, Configuration)

@@ -19,6 +19,9 @@ pub record IsSoundRelay (settings : RelaySettings) : Type 0 where
   pub of_peers : All (λ feed. feed.peer < length settings.peers) settings.feeds
   pub own_feed : (i j : ℕ) (a b : Feed) → slice_get settings.feeds i ≡ Some a
       → slice_get settings.feeds j ≡ Some b → a.peer ≡ b.peer → i ≡ j
+  -- a range of addresses counts 0 to 32 bits, and is of one of the peers
+  pub bits : All (λ allow. allow.range.bits ≤ 32) settings.allows
+  pub allows_of_peers : All (λ allow. allow.peer < length settings.peers) settings.allows
   -- the limits are in their ranges
   pub some_octets : 1 ≤ settings.max_article
   pub most_octets : settings.max_article ≤ 16777216

@@ -1,7 +1,7 @@
 //! Laws of what the files say, and of the settings that are read of them. Nothing of the code
 //! stands on them; other crates take from them what holds of each value of the settings.
 ghost use Rattle.std.specs.Prelude.{◌≡◌, ◌↔◌, ◌≤◌, ◌<◌, ◌^◌, ℕ, List, [], ◌∷◌, ◌++◌, Ok, IsTrue};
-ghost use Rattle.std.specs.Prelude.{All, length, map};
+ghost use Rattle.std.specs.Prelude.{◌||◌, All, Err, codes, false, length, map, true};
 ghost use Rattle.std.specs.List.{list_all};
 ghost use Rattle.news_terms.specs.Article.{line_feed, without_outer_white};
 ghost use Rattle.news_terms.specs.Lines.{crlf};
@@ -16,8 +16,11 @@ ghost use Rattle.relay_conf.specs.K2.{k2_buffers, k2_cycbuff};
 ghost use Rattle.relay_conf.specs.Lines.{lines_of, joined_by, is_line};
 ghost use Rattle.line_words.specs.Comments.{is_skipped};
 ghost use Rattle.relay_conf.specs.Places.{groups_over, numbered_buffers};
+ghost use Rattle.relay_conf.specs.Reach.{IsAddress, has_address, has_allow, is_allowed, may_reach};
+ghost use Rattle.relay_conf.specs.ReachExamples.{reach_lines, reach_settings, reaches};
 ghost use Rattle.relay_conf.specs.Readings.{RelayHasReading, StorageHasReading};
 ghost use Rattle.relay_conf.specs.Relay.{RelaySettings};
+ghost use Rattle.relay_conf.specs.RelayLines.{relay_line};
 ghost use Rattle.relay_conf.specs.RelayViews.{relay_view};
 ghost use Rattle.relay_conf.specs.RelayViews as relay;
 ghost use Rattle.relay_conf.specs.Settings.{places_of_buffers, places_of_groups};
@@ -26,7 +29,10 @@ ghost use Rattle.relay_conf.specs.Storage.{entry_view};
 ghost use Rattle.relay_conf.specs.StorageViews as storage;
 ghost use Rattle.relay_conf.specs.Words.{is_identity};
 ghost use Rattle.relay_conf.specs.declared.config.TheConstants.{K1_CYCBUFF, K1_STORAGE, K1_RELAY};
+ghost use Rattle.relay_conf.specs.declared.faults.Fault.TheVariants.{Number, Syntax};
 ghost use Rattle.relay_conf.specs.declared.faults.LineFault.{LineFault};
+ghost use Rattle.relay_conf.specs.declared.reach.Allow.{Allow};
+ghost use Rattle.relay_conf.specs.declared.reach.Range.{Range};
 
 use crate::settings::{Buffers, Config, Relay};
 
@@ -116,6 +122,61 @@ pub fn places_of_k2()
     ensures cycbuff { cycbuff_of k2_cycbuff ≡ Ok k2_buffers }
     ensures buffers { numbered_buffers k2_buffers.buffers ≡ eight ∷ six ∷ [] }
     ensures groups { groups_over k2_buffers.buffers k2_buffers.groups ≡ eight_then_six ∷ [] }
+{}
+
+/// In an example lines of `allow` say their ranges, in their order, whether they stand before their
+/// peers or behind them.
+pub fn ranges_of_an_example()
+    ensures { relay.HasSettings reach_lines reach_settings }
+{}
+
+/// There a range of 31 bits ends at its last bit, one of 32 is one address, one of 8 ends at its
+/// first octet; lines of one peer add up, those of another don't count, and a peer without one is
+/// reached from everywhere.
+pub fn who_connects_in_an_example()
+    ensures inside { (reaches 0 192 0 2 4 ≡ true) × (reaches 0 192 0 2 5 ≡ true) }
+    ensures outside { (reaches 0 192 0 2 3 ≡ false) × (reaches 0 192 0 2 6 ≡ false) }
+    ensures one { (reaches 0 203 0 113 9 ≡ true) × (reaches 0 203 0 113 8 ≡ false) }
+    ensures octet { (reaches 0 10 0 0 0 ≡ true) × (reaches 0 10 255 255 255 ≡ true) }
+    ensures beside { (reaches 0 9 255 255 255 ≡ false) × (reaches 0 11 0 0 0 ≡ false) }
+    ensures another { (reaches 0 198 51 100 7 ≡ false) × (reaches 1 198 51 100 7 ≡ true) }
+    ensures of_another { (reaches 1 192 0 2 4 ≡ false) × (reaches 1 10 1 2 3 ≡ false) }
+    ensures everywhere { (reaches 2 192 0 2 6 ≡ true) × (reaches 2 0 0 0 0 ≡ true) }
+{}
+
+/// A range of no bits has each address, and one of 32 only its own.
+pub fn ranges_of_no_bit_and_of_all()
+    ensures all { (range : Range) (address : List ℕ) → IsAddress address → IsAddress range.address
+        → range.bits ≡ 0 → has_address range address ≡ true }
+    ensures one { (range : Range) (address : List ℕ) → IsAddress address → IsAddress range.address
+        → range.bits ≡ 32 → has_address range address ≡ true → address ≡ range.address }
+{}
+
+/// What is said of other peers doesn't count, further ranges of a peer add up, and a peer of which
+/// none is said is reached from everywhere.
+pub fn ranges_add_up()
+    ensures others { (allows more : List Allow) (peer : ℕ) (address : List ℕ)
+        → has_allow more peer ≡ false
+        → may_reach (allows ++ more) peer address ≡ may_reach allows peer address }
+    ensures further { (allows more : List Allow) (peer : ℕ) (address : List ℕ)
+        → has_allow allows peer ≡ true
+        → may_reach (allows ++ more) peer address
+        ≡ (may_reach allows peer address || is_allowed more peer address) }
+    ensures none { (allows : List Allow) (peer : ℕ) (address : List ℕ)
+        → has_allow allows peer ≡ false → may_reach allows peer address ≡ true }
+{}
+
+/// Of two faults in a line of `allow` the first from the left counts; Number is a number of bits
+/// that is none, Syntax what is no address, has two slashes, or has no range.
+pub fn faults_of_allow()
+    ensures none { relay_line (codes "allow p") ≡ Err Syntax }
+    ensures bits { relay_line (codes "allow p 10.0.0.0/33") ≡ Err Number }
+    ensures no_bits { relay_line (codes "allow p 10.0.0.0/") ≡ Err Number }
+    ensures slashes { relay_line (codes "allow p 10.0.0.0/8/9") ≡ Err Syntax }
+    ensures address { relay_line (codes "allow p 10.0.0/33") ≡ Err Syntax }
+    ensures first { (relay_line (codes "allow p 10.0.0.0/33 x") ≡ Err Number)
+        × (relay_line (codes "allow p x 10.0.0.0/33") ≡ Err Syntax) }
+    ensures name { relay_line (codes "allow p! 10.0.0.0/33") ≡ Err Syntax }
 {}
 
 /// The identities of relay.conf are such as an agent may put into a Path: not empty, without a dot

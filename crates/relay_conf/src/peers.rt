@@ -3,9 +3,10 @@
 ghost use Rattle.std.specs.Prelude.{◌≡◌, ◌≤◌, length, map, IfOk};
 ghost use Rattle.relay_conf.specs.Faults.{ConfGives};
 ghost use Rattle.relay_conf.specs.Relay as terms;
-ghost use Rattle.relay_conf.specs.RelayDraft.{named_said, numbered_feed};
+ghost use Rattle.relay_conf.specs.RelayDraft.{named_said, numbered_allow, numbered_feed};
 
 use crate::faults::{ConfError, Fault, LineFault};
+use crate::reach::{Allow, NamedAllow};
 use crate::relay::{Feed, NamedFeed, NamedLine, Peer, PeerConnections};
 use line_words::is;
 use std::alloc::{AllocError, Global};
@@ -76,6 +77,24 @@ pub(crate) fn numbered(
         })?;
     }
     Ok(feeds)
+}
+
+/// The ranges of addresses by the numbers of their peers.
+pub(crate) fn numbered_allows(
+    alloc: Global,
+    peers: &[Peer],
+    named: Vec<NamedAllow>,
+) -> Result<Vec<Allow>, AllocError>
+    requires { length peers.now ≤ 1024 }
+    ensures { IfOk result (λ allows. allows.items ≡ map (numbered_allow peers.now) named.items) }
+{
+    let mut allows = Vec::new(alloc);
+    for allow in named {
+        let NamedAllow { name, range } = allow;
+        let peer = number_of(peers, name.as_slice());
+        allows.push(Allow { peer, range })?;
+    }
+    Ok(allows)
 }
 
 /// Gives the peers their connections.

@@ -3,16 +3,18 @@ ghost use Rattle.std.specs.Prelude.{◌≡◌, ◌≤◌, ◌∷◌, ◌++◌, [
 ghost use Rattle.relay_conf.specs.Faults.{ConfGives, LineGives};
 ghost use Rattle.relay_conf.specs.Lines.{lines_of};
 ghost use Rattle.relay_conf.specs.Relay.{RelaySettings, peer_fault};
-ghost use Rattle.relay_conf.specs.RelayDraft.{AddsConnections, AddsFeed, AddsLine, Lists, nothing};
+ghost use Rattle.relay_conf.specs.RelayDraft.{AddsAllow, AddsConnections, AddsFeed, AddsLine};
+ghost use Rattle.relay_conf.specs.RelayDraft.{Lists, nothing};
 ghost use Rattle.relay_conf.specs.RelayDraft.{draft_view, draft_said, with_peers};
-ghost use Rattle.relay_conf.specs.RelayViews.{relay_view, raw_view, RelayGives};
+ghost use Rattle.relay_conf.specs.RelayViews.{relay_view, ranges_in, raw_view, RelayGives};
 ghost use Rattle.relay_conf.specs.SoundRelay.{IsSoundRelay};
 
 use crate::drafts::{LineByLine, read_lines, set_once};
 use crate::expressions::expression_of;
 use crate::faults::{ConfError, Fault, LineFault, Refusal};
 use crate::names::add_name;
-use crate::peers::{connect, is_peer, known_names, numbered};
+use crate::peers::{connect, is_peer, known_names, numbered, numbered_allows};
+use crate::reach::{NamedAllow, push_ranges};
 use crate::relay_lines::{Line, relay_line};
 use crate::settings::Relay;
 use line_words::Octets;
@@ -80,6 +82,7 @@ pub(crate) struct RelayDraft {
     peers: Vec<Peer>,
     connections: Vec<PeerConnections>,
     feeds: Vec<NamedFeed>,
+    allows: Vec<NamedAllow>,
     /// The names of peers that lines say something of.
     named: Vec<NamedLine>,
     /// The names of the connections.
@@ -148,6 +151,7 @@ impl RelayDraft {
             peers: Vec::new(alloc),
             connections: Vec::new(alloc),
             feeds: Vec::new(alloc),
+            allows: Vec::new(alloc),
             named: Vec::new(alloc),
             connected_names: HashSet::new(alloc),
             feed_names: HashSet::new(alloc),
@@ -172,6 +176,7 @@ impl RelayDraft {
             Line::Connections(name, connections) => {
                 self.add_connections(alloc, number, name, connections)
             }
+            Line::Allow(name, ranges) => self.add_allow(alloc, number, name, ranges),
             Line::Feed(name, ring, text) => self.add_feed(alloc, number, name, ring, text),
         }
     }
@@ -217,6 +222,22 @@ impl RelayDraft {
         }
         let name = name.as_bytes();
         push_connections(alloc, &mut self.connections, name, connections)?;
+        push_named(alloc, &mut self.named, line, name)?;
+        Ok(())
+    }
+
+    /// Adds the ranges of addresses that may connect to a peer.
+    fn add_allow(
+        &mut self,
+        alloc: Global,
+        line: usize,
+        name: &str,
+        ranges: &[u8],
+    ) -> Result<(), Refusal>
+        ensures { AddsAllow line name.now (ranges_in ranges.now) self.old self.new result }
+    {
+        let name = name.as_bytes();
+        push_ranges(alloc, &mut self.allows, name, ranges)?;
         push_named(alloc, &mut self.named, line, name)?;
         Ok(())
     }
@@ -333,6 +354,7 @@ fn finished(alloc: Global, draft: RelayDraft) -> Result<Relay, ConfError>
         mut peers,
         connections,
         feeds,
+        allows,
         named,
         connected_names,
         feed_names,
@@ -348,6 +370,7 @@ fn finished(alloc: Global, draft: RelayDraft) -> Result<Relay, ConfError>
     known_names(&peers, &named)?;
     drop(named);
     let feeds = numbered(alloc, &peers, feeds)?;
+    let allows = numbered_allows(alloc, &peers, allows)?;
     connect(&mut peers, &connections);
     Ok(Relay {
         own,
@@ -359,5 +382,6 @@ fn finished(alloc: Global, draft: RelayDraft) -> Result<Relay, ConfError>
         bind: Ipv4Addr::from_octets(bind.unwrap_or(EACH_ADDRESS)),
         peers,
         feeds,
+        allows,
     })
 }

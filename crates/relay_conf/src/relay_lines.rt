@@ -7,6 +7,7 @@ ghost use Rattle.relay_conf.specs.Words.{words};
 
 use crate::faults::Fault;
 use crate::names::name_of;
+use crate::reach::range_fault;
 use crate::words::{first_word, is_identity, is_name, one_word, three_words, two_words};
 use line_words::{cut, is, is_skipped, number_within, three_parts, trim};
 
@@ -33,6 +34,8 @@ pub(crate) enum Line<'a> {
     Peer(&'a [u8], &'a [u8], u16),
     /// The name of a peer and how many of its connections are served at once.
     Connections(&'a str, u32),
+    /// The name of a peer and the ranges of addresses that may connect to it.
+    Allow(&'a str, &'a [u8]),
     /// A feed: the name of its peer, its ring and the text of its expression.
     Feed(&'a str, u32, &'a [u8]),
 }
@@ -83,6 +86,8 @@ fn line_of<'a>(word: &[u8], rest: &'a [u8]) -> Result<Line<'a>, Fault>
         peer_line(rest)
     } else if is(word, b"connections") {
         connections_line(rest)
+    } else if is(word, b"allow") {
+        allow_line(rest)
     } else if is(word, b"feed") {
         feed_line(rest)
     } else {
@@ -143,7 +148,7 @@ fn bind_line(rest: &[u8]) -> Result<Line<'_>, Fault>
 }
 
 /// The octets of an IPv4 address, where the word is one.
-fn address_of(word: &[u8]) -> Option<[u8; 4]>
+pub(crate) fn address_of(word: &[u8]) -> Option<[u8; 4]>
     ensures { result ≡ terms.address_of word.now }
 {
     let (first, rest) = cut(word, b'.');
@@ -201,6 +206,25 @@ fn connections_line(rest: &[u8]) -> Result<Line<'_>, Fault>
     match number_within(1, 64, connections) {
         Some(connections) => Ok(Line::Connections(name, connections as u32)),
         None => Err(Fault::Number),
+    }
+}
+
+/// Reads what follows `allow`.
+fn allow_line(rest: &[u8]) -> Result<Line<'_>, Fault>
+    ensures { raw_by result ≡ terms.allow_line (words rest.now) }
+{
+    let Some((name, ranges)) = first_word(rest) else {
+        return Err(Fault::Syntax);
+    };
+    let Some(_first) = first_word(ranges) else {
+        return Err(Fault::Syntax);
+    };
+    let Some(name) = name_of(name) else {
+        return Err(Fault::Syntax);
+    };
+    match range_fault(ranges) {
+        Some(fault) => Err(fault),
+        None => Ok(Line::Allow(name, ranges)),
     }
 }
 

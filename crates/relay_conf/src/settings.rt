@@ -9,6 +9,7 @@ ghost use Rattle.relay_conf.specs.Places.{group_view, groups_over, numbered_buff
 ghost use Rattle.relay_conf.specs.SoundRelay.{IsSoundRelay};
 
 use crate::cycbuff::{BufferConf, GroupConf};
+use crate::reach::Allow;
 use crate::relay::{Feed, Peer};
 use line_words::Octets;
 use std::net::Ipv4Addr;
@@ -81,6 +82,8 @@ pub struct Relay {
     pub bind: Ipv4Addr,
     pub peers: Vec<Peer>,
     pub feeds: Vec<Feed>,
+    /// The addresses that may connect to the peers; each may to a peer without one.
+    pub allows: Vec<Allow>,
     pub ghost sound: { IsSoundRelay (record {
       own = own;
       max_article = max_article;
@@ -91,6 +94,7 @@ pub struct Relay {
       bind = ipv4_octets bind;
       peers = peers.items;
       feeds = feeds.items;
+      allows = allows.items;
     }) } by { Prim.hlevel props },
 }
 
@@ -107,6 +111,7 @@ impl Drop for Relay {
             bind: _,
             peers: _,
             feeds: _,
+            allows: _,
         } = self;
     }
 }

@@ -5,7 +5,7 @@ use Rattle.relay_conf.specs.declared.relay.Peer.{Peer}
 use Rattle.relay_conf.specs.declared.relay.PeerConnections.{PeerConnections}
 use Rattle.relay_conf.specs.Relay.{connected}
 use Rattle.relay_conf.specs.RelayDraft.{Reading, draft_view, draft_said, named_said, numbered_feed}
-use Rattle.relay_conf.specs.RelayDraft.{reading_settings}
+use Rattle.relay_conf.specs.RelayDraft.{reading_settings, numbered_allow}
 use Rattle.relay_conf.proofs.relay.finished.Goals.{After-from_octets}
 use Rattle.relay_conf.proofs.relay.finished.Goals as goal
 
@@ -33,9 +33,9 @@ peers : (c : After-from_octets)
     ≡ map (connected c.args.draft.connections.items) c.args.draft.peers.items
 peers c =
     c.connect.ensures
-    ∙ ap (map (connected c.deref-4.result.now)) c.deref_mut.ensures.value
+    ∙ ap (map (connected c.deref-5.result.now)) c.deref_mut.ensures.value
     ∙ ap (λ (all : List PeerConnections). map (connected all) c.args.draft.peers.items)
-    c.deref-4.ensures.value
+    c.deref-5.ensures.value
 
 -- and are as many,
 as_many : (c : After-from_octets) → length c.connect.new.peers ≡ c.args.draft.peers.len
@@ -47,6 +47,15 @@ as_many c =
       length-map draft.peers.items (connected draft.connections.items),
       draft.peers.ok.0,
     )
+
+-- the ranges of addresses the numbers of theirs,
+allows : (c : After-from_octets)
+    → c.in_ok-allows.allows.items
+    ≡ map (numbered_allow c.args.draft.peers.items) c.args.draft.allows.items
+allows c =
+    c.in_ok-allows.ensures
+    ∙ ap (λ (peers : List Peer). map (numbered_allow peers) c.args.draft.allows.items)
+    c.deref-4.ensures.value
 
 -- and the feeds the numbers of theirs.
 feeds : (c : After-from_octets)
@@ -70,6 +79,7 @@ invariant_of-result c =
         take_at,
         peers c,
         feeds c,
+        allows c,
       ) (c.requires.sound _ (says c));
     }
 
@@ -86,4 +96,5 @@ returns c =
       take_at,
       peers made,
       feeds made,
+      allows made,
     ) (says made)

@@ -112,5 +112,8 @@ returns-in_err-copied-in-Own c = λ listed. no_memory _ c.from_residual.ensures.
 pub returns-in-Connections : goal.returns-in-Connections
 returns-in-Connections c = λ listed. rw c.in-Connections.is (c.add_connections.ensures listed)
 
+pub returns-in-Allow : goal.returns-in-Allow
+returns-in-Allow c = λ listed. rw c.in-Allow.is (c.add_allow.ensures listed)
+
 pub returns-in-Feed : goal.returns-in-Feed
 returns-in-Feed c = λ listed. rw c.in-Feed.is (c.add_feed.ensures listed)
