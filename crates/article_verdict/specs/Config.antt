@@ -18,6 +18,7 @@ terms_of config =
       max_article = config.relay.max_article;
       cutoff = config.relay.cutoff;
       remember = config.relay.remember;
+      offers = config.relay.offers;
       buffers = places_of_buffers config.buffers;
       groups = places_of_groups config.buffers;
       entries = map entry_view config.storage_entries.items;

@@ -39,7 +39,7 @@ pub(crate) fn is_over(moment: u64, remember: u64, now: u64) -> bool
 }
 
 /// Whether an offer that was made then has run out now, where offers last so many seconds.
-pub(crate) fn has_run_out(lasting: Option<u64>, since: u64, now: u64) -> bool
+pub fn has_run_out(lasting: Option<u64>, since: u64, now: u64) -> bool
     ensures { result ≡ claims.has_run_out lasting since now }
 {
     match lasting {

@@ -30,6 +30,7 @@ mod writing;
 pub use claims::{Offer, Settled, Shard, Take};
 pub use conditions::{LAST_MOMENT, feed_holds, feeds_hold, ids_hold, rise};
 pub use counts::Counts;
+pub use expiry::has_run_out;
 pub use fault::HistoryError;
 pub use kept::{History, KeptFeed, KeptId, Setting};
 pub use lasting::sort;

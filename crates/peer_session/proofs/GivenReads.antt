@@ -183,8 +183,8 @@ plans_block todos.Rest = false
 plans_block (todos.Owe id) = false
 plans_block (todos.Say octets) = false
 plans_block (todos.Leave octets) = false
-plans_block (todos.Check id room) = false
-plans_block (todos.Ihave id copy room) = false
+plans_block (todos.Check id room since) = false
+plans_block (todos.Ihave id copy room since) = false
 plans_block (todos.Look part id room) = false
 plans_block (todos.Fetch reading) = true
 plans_block todos.ReadOn = true
@@ -204,8 +204,8 @@ no_block todos.Rest read old d none is = ap (λ (one : Due). reads_block one.ask
 no_block (todos.Owe id) read old d none is = ap (λ (one : Due). reads_block one.ask) is
 no_block (todos.Say octets) read old d none is = ap (λ (one : Due). reads_block one.ask) is.2
 no_block (todos.Leave octets) read old d none is = ap (λ (one : Due). reads_block one.ask) is.2
-no_block (todos.Check id room) read old d none is = ap (λ (one : Due). reads_block one.ask) is.1
-no_block (todos.Ihave id copy room) read old d none is =
+no_block (todos.Check id room since) read old d none is = ap (λ (one : Due). reads_block one.ask) is.1
+no_block (todos.Ihave id copy room since) read old d none is =
     ap (λ (one : Due). reads_block one.ask) is.2
 no_block (todos.Look part id room) read old d none is = ap (λ (one : Due). reads_block one.ask) is
 no_block (todos.Fetch reading) read old d none is = cc
@@ -217,7 +217,7 @@ no_block (todos.Take copy article room) read old d none is =
 no_block (todos.TakeHeld copy) read old d none is = ap (λ (one : Due). reads_block one.ask) is.3
 no_block todos.Push read old d none is = ap (λ (one : Due). reads_block one.ask) is.2
 no_block todos.Slot read old d none is = ap (λ (one : Due). reads_block one.ask) is.4
-no_block todos.Release read old d none is = ap (λ (one : Due). reads_block one.ask) is.3
+no_block todos.Release read old d none is = ap (λ (one : Due). reads_block one.ask) is.4
 no_block todos.End read old d none is = ap (λ (one : Due). reads_block one.ask) is
 
 -- of what was read, nothing is to be said to another plan

@@ -10,6 +10,7 @@ use Rattle.relay_model.specs.Hears.{offer_heard, parts, says, silent}
 use Rattle.relay_model.specs.State as model
 use Rattle.relay_model.specs.State.{in_phase}
 use Rattle.peer_session.specs.Hearing.{HeardIs, Heeds}
+use Rattle.peer_session.specs.Planning.{offering}
 use Rattle.peer_session.specs.Said.{IsReply}
 use Rattle.peer_session.specs.Session.{passed}
 use Rattle.peer_session.specs.declared.phase.Phase.TheVariants as phases
@@ -72,15 +73,15 @@ not_ihave e = cc
 
 -- CHECK is answered
 pub checks : (s : ℕ) (old new : Session) (answer : Answer) (said : List ℕ)
-    (planned : CodePlanned) (read : ℕ) (id : List ℕ) (room : ℕ)
-    → IsPlanned old (todos.Check id room) read
+    (planned : CodePlanned) (read : ℕ) (id : List ℕ) (room since : ℕ)
+    → IsPlanned old (todos.Check id room since) read
     → ((told : Offer) → answer ≡ answers.Offer told → is_full old.offers id ≡ false
     → old.phase ≡ phases.Ready → HeardIs said (with_planned old planned)
-    (offer_heard (passed read old) model.TakesThis id (offer_view told)) new)
+    (offer_heard (offering read old id since) model.TakesThis id (offer_view told)) new)
     → Heeds s old answer said new
-checks s old new answer said planned read id room todo arm = λ w m d gathered told h.
-    let had = has_other w old m d gathered answer (todos.Check id room) read todo (λ e. cc) h in
-    let due : Due = due_as (asks.Offers model.TakesThis id) (passed read old) in
+checks s old new answer said planned read id room since todo arm = λ w m d gathered told h.
+    let had = has_other w old m d gathered answer (todos.Check id room since) read todo (λ e. cc) h in
+    let due : Due = due_as (asks.Offers model.TakesThis id) (offering read old id since) in
     by_due w s d due gathered answer told said new had.due_is.1
     (λ is. heard_of w s due told said (with_planned old planned) new
     (offer_heard due.after model.TakesThis id (offer_view is.0)) (offer_view is.0, is.2, refl)
@@ -88,17 +89,17 @@ checks s old new answer said planned read id room todo arm = λ w m d gathered t
 
 -- IHAVE is answered
 pub offers : (s : ℕ) (old new : Session) (answer : Answer) (said : List ℕ)
-    (planned : CodePlanned) (read : ℕ) (id copy : List ℕ) (room : ℕ)
-    → IsPlanned old (todos.Ihave id copy room) read
+    (planned : CodePlanned) (read : ℕ) (id copy : List ℕ) (room since : ℕ)
+    → IsPlanned old (todos.Ihave id copy room since) read
     → ((told : Offer) → answer ≡ answers.Offer told → copy ≡ id
     → is_full old.offers id ≡ false → old.phase ≡ phases.Ready
     → HeardIs said (with_planned old planned)
-    (offer_heard (passed read old) model.Has id (offer_view told)) new)
+    (offer_heard (offering read old id since) model.Has id (offer_view told)) new)
     → Heeds s old answer said new
-offers s old new answer said planned read id copy room todo arm = λ w m d gathered told h.
+offers s old new answer said planned read id copy room since todo arm = λ w m d gathered told h.
     let had =
-    has_other w old m d gathered answer (todos.Ihave id copy room) read todo (λ e. cc) h in
-    let due : Due = due_as (asks.Offers model.Has id) (passed read old) in
+    has_other w old m d gathered answer (todos.Ihave id copy room since) read todo (λ e. cc) h in
+    let due : Due = due_as (asks.Offers model.Has id) (offering read old id since) in
     by_due w s d due gathered answer told said new had.due_is.2
     (λ is. heard_of w s due told said (with_planned old planned) new
     (offer_heard due.after model.Has id (offer_view is.0)) (offer_view is.0, is.2, refl)

@@ -44,9 +44,9 @@ is_push (todos.Say octets) read old d job due ask =
     absurd (no_push d _ _ job due.2 (λ e. cc) ask)
 is_push (todos.Leave octets) read old d job due ask =
     absurd (no_push d _ _ job due.2 (λ e. cc) ask)
-is_push (todos.Check id room) read old d job due ask =
+is_push (todos.Check id room since) read old d job due ask =
     absurd (no_push d _ _ job due.1 (λ e. cc) ask)
-is_push (todos.Ihave id copy room) read old d job due ask =
+is_push (todos.Ihave id copy room since) read old d job due ask =
     absurd (no_push d _ _ job due.2 (λ e. cc) ask)
 is_push (todos.Look part id room) read old d job due ask =
     absurd (no_push d _ _ job due (λ e. cc) ask)
@@ -63,7 +63,7 @@ is_push (todos.TakeHeld copy) read old d job due ask =
     absurd (no_push d _ _ job due.3 (λ e. cc) ask)
 is_push todos.Push read old d job due ask = refl
 is_push todos.Slot read old d job due ask = absurd (no_push d _ _ job due.4 (λ e. cc) ask)
-is_push todos.Release read old d job due ask = absurd (no_push d _ _ job due.3 (λ e. cc) ask)
+is_push todos.Release read old d job due ask = absurd (no_push d _ _ job due.4 (λ e. cc) ask)
 is_push todos.End read old d job due ask = absurd (no_push d _ _ job due (λ e. cc) ask)
 
 -- the job in hand is given

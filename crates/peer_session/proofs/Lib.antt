@@ -7,6 +7,7 @@ mod HearLeaving
 mod HearLines
 mod HearWaiting
 pub mod Phases
+pub mod OfferLemmas
 pub mod PlaceLemmas
 mod PlanAll
 mod PlanBlocks

@@ -1,9 +1,10 @@
 -- What is due of a session, by its phase.
-use Rattle.std.proofs.Common.{◌≡◌, ◌∙◌, Bool, true, false, ap, sym, subst, Result, Ok, Err}
+use Rattle.std.proofs.Common.{◌≡◌, ◌∙◌, ℕ, Bool, true, false, ap, sym, subst, Option, Result, Ok}
+use Rattle.std.proofs.Common.{Err}
 use Rattle.std.proofs.lemmas.Bool.{true≢false}
 use Rattle.std.specs.Prelude.{OnErr}
 use Rattle.peer_session.specs.Asking.{IsAwaitingBlock}
-use Rattle.peer_session.specs.Session.{PlansFree, StandsAsBefore}
+use Rattle.peer_session.specs.Session.{PlansFree, PlansFreeIn, StandsAsBefore}
 use Rattle.peer_session.specs.declared.phase.Phase.{Phase}
 use Rattle.peer_session.specs.declared.phase.Phase.TheVariants as phases
 use Rattle.peer_session.specs.declared.session.Session.{Session}
@@ -42,7 +43,6 @@ so_err (Ok x) then so = tt
 so_err (Err e) then so = then so
 
 -- what is due in this phase without memory
-pub free_in : (old : Session) (phase : Phase) → old.phase ≡ phase
-    → PlansFree old.phase old.cutter old.hand old.offers
-    → PlansFree phase old.cutter old.hand old.offers
-free_in old phase is = subst (λ one. PlansFree one old.cutter old.hand old.offers) is
+pub free_in : (lasting : Option ℕ) (now : ℕ) (old : Session) (phase : Phase) → old.phase ≡ phase
+    → PlansFree lasting now old → PlansFreeIn lasting now old phase
+free_in lasting now old phase is = subst (PlansFreeIn lasting now old) is

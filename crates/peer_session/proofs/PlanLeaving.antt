@@ -5,7 +5,7 @@ use Rattle.buffer_group.specs.Jobs.{job_view}
 use Rattle.buffer_group.specs.declared.job.Job.{Job}
 use Rattle.relay_model.specs.Asks.{IsDue, due_as, leaving_due}
 use Rattle.relay_model.specs.Asks as asks
-use Rattle.relay_model.specs.State.{with_offers}
+use Rattle.relay_model.specs.State.{OpenOffer, with_offers}
 use Rattle.relay_model.specs.Terms.{Terms}
 use Rattle.peer_session.specs.Asking.{IsLeavingAsked}
 use Rattle.peer_session.specs.Planning.{PlanFor, Plans}
@@ -20,7 +20,7 @@ use Rattle.peer_session.proofs.PlanWaiting.{plans_push}
 
 -- what is due of a session that leaves
 leaving_in : (w : Terms) (session : Session) (now : ℕ) (hand : Option Job)
-    (offers : List (List ℕ)) → session.phase ≡ phases.Leaving → session.hand ≡ hand
+    (offers : List OpenOffer) → session.phase ≡ phases.Leaving → session.hand ≡ hand
     → session.offers ≡ offers
     → IsDue w (session_view session) now
     (leaving_due (session_view session) (option_map job_view hand) offers)
@@ -31,7 +31,7 @@ leaving_in w session now hand offers leaves has listed =
 
 -- a session leaves
 pub plans_leaving : (w : Terms) (session : Session) (now : ℕ) (hand : Option Job)
-    (offers : List (List ℕ)) (one : CodeDue) → session.phase ≡ phases.Leaving
+    (offers : List OpenOffer) (one : CodeDue) → session.phase ≡ phases.Leaving
     → session.hand ≡ hand → session.offers ≡ offers → IsLeavingAsked hand offers one
     → Plans w session now one session
 plans_leaving w session now (Some job) offers one leaves has listed asked =
@@ -49,15 +49,15 @@ plans_leaving w session now None [] one leaves has listed asked =
       is_step = tt;
       asks_of = tt;
     }))
-plans_leaving w session now None (id ∷ offers) one leaves has listed asked =
+plans_leaving w session now None (offer ∷ offers) one leaves has listed asked =
     plan_of w session now one session (λ limit has_all.
     subst (λ one. PlanFor w (session_view session) (gathered_of session.phase) now one session)
     (sym asked) (record {
       stands = stands_so w session limit has_all;
-      due = due_as (asks.Releases id) (with_offers (session_view session) offers);
-      is_due = leaving_in w session now None (id ∷ offers) leaves has listed;
-      due_is = (id, offers, listed, refl);
-      fits = leaves;
+      due = due_as (asks.Releases offer.id) (with_offers (session_view session) offers);
+      is_due = leaving_in w session now None (offer ∷ offers) leaves has listed;
+      due_is = (offer.id, offer.since, offers, listed, refl);
+      fits = subst HasReadNone (sym leaves) tt;
       is_step = refl;
       asks_of = tt;
     }))

@@ -1,7 +1,7 @@
 -- What is due of a session that reads a command, by the line at the front of its unread octets.
 use Rattle.std.proofs.Common.{arith, ◌≡◌, ◌∙◌, ◌+◌, nat_lt, true, false, ap, refl, sym, subst}
-use Rattle.std.proofs.Common.{inr, take, drop, ℕ, if◌then◌else◌}
-use Rattle.std.proofs.Common.{Bool, List, Option, Result, Ok}
+use Rattle.std.proofs.Common.{inr, take, drop, ℕ, None, if◌then◌else◌}
+use Rattle.std.proofs.Common.{Bool, List, Option, Result, Ok, Some, ◌∷◌}
 use Rattle.std.proofs.lemmas.Bool.{ltb-true, ltb-false}
 use Rattle.cyc_token.specs.Token.{token_view}
 use Rattle.news_terms.specs.Command.{Command, CommandFault, command_of}
@@ -11,15 +11,17 @@ use Rattle.news_terms.specs.Reply.{Reply, LineTooLong, SyntaxError}
 use Rattle.nntp_text.specs.Command.{part_view}
 use Rattle.nntp_text.specs.declared.command.Part.{Part}
 use Rattle.relay_model.specs.Asks.{Due, IsDue, IsDueIn, IsDueOfLine, IsDueWhereReady, due_as}
+use Rattle.relay_model.specs.Asks.{IsDueAtCommand, run_out, with_offer}
 use Rattle.relay_model.specs.Asks as asks
 use Rattle.relay_model.specs.State as model
-use Rattle.relay_model.specs.State.{in_phase, with_unread}
+use Rattle.relay_model.specs.State.{OpenOffer, in_phase, with_offers, with_unread}
 use Rattle.relay_model.specs.Terms.{Terms}
 use Rattle.stream_cut.specs.Stream.{Stream, ShowsLine}
 use Rattle.peer_session.specs.Answers.{AsksOf}
 use Rattle.peer_session.specs.Asking.{AskedFor, IsAskedBy, IsFetching, IsLeaving, IsLooking}
+use Rattle.peer_session.specs.Asking.{IsReleaseOf}
 use Rattle.peer_session.specs.Asking.{IsFull, IsNone, IsOffered, IsOffering, IsSaying, IsToken}
-use Rattle.peer_session.specs.Planning.{PlanFor, Plans}
+use Rattle.peer_session.specs.Planning.{PlanFor, Plans, offering}
 use Rattle.peer_session.specs.Session.{HasAll, HasReadNone, gathered_of, passed, phase_view}
 use Rattle.peer_session.specs.Session.{session_view}
 use Rattle.peer_session.specs.declared.phase.Due.{Due as CodeDue}
@@ -30,13 +32,24 @@ use Rattle.peer_session.specs.declared.session.Session.{Session}
 use Rattle.peer_session.specs.declared.steps.Step.{Step}
 use Rattle.peer_session.specs.declared.steps.Step.TheVariants as steps
 use Rattle.peer_session.proofs.PlanCommon.{all_kept, plan_of, stands_so}
+use Rattle.peer_session.proofs.OfferLemmas.{ended_first}
 
 -- what is due of a session that reads a command
-pub due_where_ready : (w : Terms) (session : Session) (now : ℕ) (next : NextLine) (d : Due)
-    → session.phase ≡ phases.Ready → next_line session.cutter.unread ≡ next
-    → IsDueWhereReady w (session_view session) now next d → IsDue w (session_view session) now d
-due_where_ready w session now next d ready is due =
+pub due_at_command : (w : Terms) (session : Session) (now : ℕ)
+    (ended : Option (OpenOffer × List OpenOffer)) (d : Due) → session.phase ≡ phases.Ready
+    → run_out w.offers now session.offers ≡ ended
+    → IsDueAtCommand w (session_view session) now ended d → IsDue w (session_view session) now d
+due_at_command w session now ended d ready is due =
     subst (λ phase. IsDueIn w (session_view session) now (phase_view phase) d) (sym ready)
+    (subst (λ ended. IsDueAtCommand w (session_view session) now ended d) (sym is) due)
+
+-- what is due of a session that reads a line
+pub due_where_ready : (w : Terms) (session : Session) (now : ℕ) (next : NextLine) (d : Due)
+    → session.phase ≡ phases.Ready → run_out w.offers now session.offers ≡ None
+    → next_line session.cutter.unread ≡ next
+    → IsDueWhereReady w (session_view session) now next d → IsDue w (session_view session) now d
+due_where_ready w session now next d ready lasting is due =
+    due_at_command w session now None d ready lasting
     (subst (λ next. IsDueWhereReady w (session_view session) now next d) (sym is) due)
 
 -- a session that reads a command is in that phase once the line counts as read
@@ -108,21 +121,23 @@ look_asked_so w now session part id one looking read ready =
     })
 
 -- what is due of an id that is offered, by whether a further offer may be opened
-abbrev by_full : model.Transfer → List ℕ → model.Session → (full : Bool) → Due
-by_full transfer id m full =
-    due_as (if full then asks.Says (asks.later transfer id) else asks.Offers transfer id) m
+abbrev by_full : model.Transfer → List ℕ → (now : ℕ) → model.Session → (full : Bool) → Due
+by_full transfer id now m full =
+    if full then due_as (asks.Says (asks.later transfer id)) m
+    else due_as (asks.Offers transfer id) (with_offers m (with_offer m.offers id now))
 
 -- CHECK
 pub check_asked_so : (w : Terms) (now : ℕ) (session : Session) (id : List ℕ) (one : Todo × Step)
-    → IsOffering session.offers model.TakesThis id one
+    → IsOffering session.offers now model.TakesThis id one
     → IsAskedBy w now session (Ok (commands.Check id)) one
 check_asked_so w now session id one (IsFull full saying) read ready =
     said_asked w now session (Ok (commands.Check id)) (asks.later model.TakesThis id) one
-    (λ read. ap (by_full model.TakesThis id (passed read session)) (sym full)) saying read ready
+    (λ read. ap (by_full model.TakesThis id now (passed read session)) (sym full)) saying read
+    ready
 check_asked_so w now session id one (IsOffered free is) read ready =
     subst (AskedFor w now read session (Ok (commands.Check id))) (sym is) (record {
-      due = due_as (asks.Offers model.TakesThis id) (passed read session);
-      is_due = ap (by_full model.TakesThis id (passed read session)) (sym free);
+      due = due_as (asks.Offers model.TakesThis id) (offering read session id now);
+      is_due = ap (by_full model.TakesThis id now (passed read session)) (sym free);
       due_is = (free, refl);
       fits = ready;
       is_step = (model.TakesThis, refl);
@@ -131,15 +146,15 @@ check_asked_so w now session id one (IsOffered free is) read ready =
 
 -- IHAVE
 pub ihave_asked_so : (w : Terms) (now : ℕ) (session : Session) (id : List ℕ) (one : Todo × Step)
-    → IsOffering session.offers model.Has id one
+    → IsOffering session.offers now model.Has id one
     → IsAskedBy w now session (Ok (commands.Ihave id)) one
 ihave_asked_so w now session id one (IsFull full saying) read ready =
     said_asked w now session (Ok (commands.Ihave id)) (asks.later model.Has id) one
-    (λ read. ap (by_full model.Has id (passed read session)) (sym full)) saying read ready
+    (λ read. ap (by_full model.Has id now (passed read session)) (sym full)) saying read ready
 ihave_asked_so w now session id one (IsOffered free is) read ready =
     subst (AskedFor w now read session (Ok (commands.Ihave id))) (sym is) (record {
-      due = due_as (asks.Offers model.Has id) (passed read session);
-      is_due = ap (by_full model.Has id (passed read session)) (sym free);
+      due = due_as (asks.Offers model.Has id) (offering read session id now);
+      is_due = ap (by_full model.Has id now (passed read session)) (sym free);
       due_is = (free, refl, refl);
       fits = ready;
       is_step = (model.Has, refl);
@@ -172,16 +187,17 @@ fetch_asked w now session word one (IsNone asked saying) read ready =
 
 -- what a line asks is planned
 pub plans_line : (w : Terms) (session : Session) (now end : ℕ) (one : Todo × Step)
-    → session.phase ≡ phases.Ready → ShowsLine session.cutter end
+    → session.phase ≡ phases.Ready → run_out w.offers now session.offers ≡ None
+    → ShowsLine session.cutter end
     → IsAskedBy w now session (command_of (take end session.cutter.unread)) one
     → Plans w session now (record { todo = one.0; read = end + 2; step = one.1 }) session
-plans_line w session now end one ready shows asked =
+plans_line w session now end one ready lasting shows asked =
     let so = asked (end + 2) ready in
     plan_of w session now _ session (λ limit has_all. record {
       stands = stands_so w session limit has_all;
       due = so.due;
       is_due = due_where_ready w session now (Cut (take end session.cutter.unread)
-          (drop (session.cutter.dropped + (end + 2)) session.cutter.unread)) so.due ready
+          (drop (session.cutter.dropped + (end + 2)) session.cutter.unread)) so.due ready lasting
           (shows.cut ∙ ap (λ count. Cut (take end session.cutter.unread)
           (drop count session.cutter.unread)) (all_kept session.cutter (end + 2) shows.kept))
           so.is_due;
@@ -194,16 +210,17 @@ plans_line w session now end one ready shows asked =
 
 -- no line within the limit comes
 pub plans_too_long : (w : Terms) (session : Session) (now : ℕ) (one : Todo × Step)
-    → session.phase ≡ phases.Ready → session.cutter.dropped ≡ 0
+    → session.phase ≡ phases.Ready → run_out w.offers now session.offers ≡ None
+    → session.cutter.dropped ≡ 0
     → next_line session.cutter.unread ≡ TooLong → IsLeaving LineTooLong one
     → Plans w session now (record { todo = one.0; read = 0; step = one.1 }) session
-plans_too_long w session now one ready kept too_long leaving =
+plans_too_long w session now one ready lasting kept too_long leaving =
     plan_of w session now _ session (λ limit has_all.
     subst (λ one. PlanFor w (session_view session) (gathered_of session.phase) now
     (record { todo = one.0; read = 0; step = one.1 }) session) (sym leaving.is) (record {
       stands = stands_so w session limit has_all;
       due = due_as (asks.Leaves LineTooLong) (session_view session);
-      is_due = due_where_ready w session now TooLong _ ready too_long refl;
+      is_due = due_where_ready w session now TooLong _ ready lasting too_long refl;
       due_is = (
         LineTooLong,
         leaving.said,
@@ -217,13 +234,14 @@ plans_too_long w session now one ready kept too_long leaving =
 
 -- no line is whole
 pub rests_ready : (w : Terms) (session : Session) (now : ℕ) → session.phase ≡ phases.Ready
+    → run_out w.offers now session.offers ≡ None
     → next_line session.cutter.unread ≡ Incomplete
     → Plans w session now (record { todo = todos.Rest; read = 0; step = steps.Nothing }) session
-rests_ready w session now ready incomplete =
+rests_ready w session now ready lasting incomplete =
     plan_of w session now _ session (λ limit has_all. record {
       stands = stands_so w session limit has_all;
       due = due_as asks.Rests (session_view session);
-      is_due = due_where_ready w session now Incomplete _ ready incomplete refl;
+      is_due = due_where_ready w session now Incomplete _ ready lasting incomplete refl;
       due_is = refl;
       fits = subst HasReadNone (sym ready) tt;
       is_step = tt;
@@ -242,3 +260,30 @@ never_passing w session now one ready passing m gathered stands =
 -- where no block is passed all unread octets are kept
 pub not_passing : (stream : Stream) → nat_lt 0 stream.dropped ≡ false → stream.dropped ≡ 0
 not_passing stream not = omega (arith, ltb-false 0 stream.dropped not)
+
+-- an offer that has run out ends
+pub ends_offer : (w : Terms) (session : Session) (now : ℕ) (id : List ℕ)
+    (ended : OpenOffer × List OpenOffer) (one : CodeDue) → session.phase ≡ phases.Ready
+    → run_out w.offers now session.offers ≡ Some ended → ended.0.id ≡ id → IsReleaseOf id one
+    → Plans w session now one session
+ends_offer w session now id ended one ready out is asked =
+    plan_of w session now one session (λ limit has_all.
+    subst (λ one. PlanFor w (session_view session) (gathered_of session.phase) now one session)
+    (sym asked) (record {
+      stands = stands_so w session limit has_all;
+      due = due_as (asks.Releases id) (with_offers (session_view session) ended.1);
+      is_due = due_at_command w session now (Some ended) _ ready out
+          (ap (λ id. due_as (asks.Releases id) (with_offers (session_view session) ended.1))
+          (sym is));
+      due_is = (
+        id,
+        ended.0.since,
+        ended.1,
+        ended_first w.offers now session.offers ended out
+            ∙ ap (λ id. record { id = id; since = ended.0.since } ∷ ended.1) is,
+        refl,
+      );
+      fits = subst HasReadNone (sym ready) tt;
+      is_step = refl;
+      asks_of = tt;
+    }))

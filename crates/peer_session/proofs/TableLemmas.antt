@@ -12,14 +12,6 @@ use Rattle.peer_session.proofs.PlaceLemmas.{has_id}
 use Rattle.peer_session.specs.Places.{open_ids}
 use Rattle.peer_session.specs.Table.{IsFirst}
 
--- the place that is first, where any has an id
-pub first_place : (places : List (Option (List ℕ))) (first : ℕ) (place : Option (List ℕ))
-    → IsFirst places first → first < length places → place ≡ get_or places first place
-    → (id : List ℕ) × ((place ≡ Some id) × (get_or places first None ≡ Some id))
-first_place places first place is lt at =
-    let had = is.first_open lt in
-    (had.0, ((at ∙ get_or_default places first place None lt) ∙ had.1, had.1))
-
 -- the first place stays the first once a place with an id is added
 pub first_more : (places : List (Option (List ℕ))) (first : ℕ) (id : List ℕ)
     → IsFirst places first → IsFirst (places ++ Some id ∷ []) first

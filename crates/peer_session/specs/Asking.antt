@@ -19,6 +19,7 @@ use Rattle.relay_model.specs.Asks.{Due, IsDueOfLine, TokenAsked, is_full}
 use Rattle.relay_model.specs.Asks as asks
 use Rattle.relay_model.specs.Judging.{Judges}
 use Rattle.relay_model.specs.State as model
+use Rattle.relay_model.specs.State.{OpenOffer}
 use Rattle.relay_model.specs.Terms.{Terms, Reason}
 use Rattle.stream_cut.specs.Stream.{Stream}
 use Rattle.peer_session.specs.Answers.{AsksOf, IsStepOf}
@@ -64,18 +65,19 @@ pub record IsLeaving (reply : Reply) (one : Todo × Step) : Type 0 where
   pub room : vec_capacity octets ≡ reply_room
   pub is : one ≡ (todos.Leave octets, steps.Nothing)
 
--- what is planned where an id is offered; the reply has room for no items
-abbrev pub offer_planned : model.Transfer → List ℕ → Todo
-offer_planned model.TakesThis id = todos.Check id 0
-offer_planned model.Has id = todos.Ihave id id 0
+-- what is planned where an id is offered at a moment; the reply has room for no items
+abbrev pub offer_planned : model.Transfer → List ℕ → (now : ℕ) → Todo
+offer_planned model.TakesThis id now = todos.Check id 0 now
+offer_planned model.Has id now = todos.Ihave id id 0 now
 
--- the id is offered, where these offers are open; where no further one may be opened, that is said
-pub data IsOffering (offers : List (List ℕ)) (transfer : model.Transfer) (id : List ℕ)
+-- the id is offered at this moment, where these offers are open; where no further one may be opened,
+-- that is said
+pub data IsOffering (offers : List OpenOffer) (now : ℕ) (transfer : model.Transfer) (id : List ℕ)
     (one : Todo × Step) : Type 0 where
   IsFull : is_full offers id ≡ true → IsSaying (asks.later transfer id) one
-      → IsOffering offers transfer id one
-  IsOffered : is_full offers id ≡ false → one ≡ (offer_planned transfer id, steps.Offer id)
-      → IsOffering offers transfer id one
+      → IsOffering offers now transfer id one
+  IsOffered : is_full offers id ≡ false → one ≡ (offer_planned transfer id now, steps.Offer id)
+      → IsOffering offers now transfer id one
 
 -- the id is looked up for this part, and the reply has room for no items
 abbrev pub IsLooking : Part → List ℕ → Todo × Step → Type 0
@@ -149,7 +151,7 @@ pub record DueOf (w : Terms) (now : ℕ) (old : Session) (result : Result CodeDu
     (new : Session) : Type 0 where
   pub due : IfOk result (λ due. Plans w old now due new)
   pub err : OnErr result (StandsAsBefore old new)
-  pub free : PlansFree old.phase old.cutter old.hand old.offers → IsOk result
+  pub free : PlansFree w.offers now old → IsOk result
   pub bounded : IsAwaitingBlock old.phase → IsBounded new.cutter
 
 -- the held article of this id is tried again
@@ -167,12 +169,15 @@ abbrev pub IsWaitingAsked : Option Job → CodeDue → Type 0
 IsWaitingAsked (Some job) one = IsPushOf job one
 IsWaitingAsked None one = one ≡ record { todo = todos.Slot; read = 0; step = steps.Slot }
 
+-- the open offer of this id is released
+abbrev pub IsReleaseOf : List ℕ → CodeDue → Type 0
+IsReleaseOf id one = one ≡ record { todo = todos.Release; read = 0; step = steps.Release id }
+
 -- the job in hand is pushed, or the oldest open offer is released, or nothing is left
-abbrev pub IsLeavingAsked : Option Job → List (List ℕ) → CodeDue → Type 0
+abbrev pub IsLeavingAsked : Option Job → List OpenOffer → CodeDue → Type 0
 IsLeavingAsked (Some job) offers one = IsPushOf job one
 IsLeavingAsked None [] one = one ≡ record { todo = todos.End; read = 0; step = steps.Nothing }
-IsLeavingAsked None (id ∷ offers) one =
-    one ≡ record { todo = todos.Release; read = 0; step = steps.Release id }
+IsLeavingAsked None (offer ∷ offers) one = IsReleaseOf offer.id one
 
 -- the next block of the fetch is read, which is prepared for it
 pub record IsReadingAsked (old new : Fetch) (one : CodeDue) : Type 0 where

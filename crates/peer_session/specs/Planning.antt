@@ -7,9 +7,9 @@ use Rattle.buffer_group.specs.declared.job.Job.{Job}
 use Rattle.news_terms.specs.Reply.{Reply}
 use Rattle.nntp_text.specs.Command.{part_view}
 use Rattle.relay_model.specs.Asks as asks
-use Rattle.relay_model.specs.Asks.{Due, IsDue, due_as, is_full, without_offer}
+use Rattle.relay_model.specs.Asks.{Due, IsDue, due_as, is_full, with_offer, without_offer}
 use Rattle.relay_model.specs.State as model
-use Rattle.relay_model.specs.State.{in_phase, with_offers}
+use Rattle.relay_model.specs.State.{OpenOffer, in_phase, with_offers}
 use Rattle.relay_model.specs.Terms.{Terms}
 use Rattle.peer_session.specs.Answers.{AsksOf, IsStepOf}
 use Rattle.peer_session.specs.Said.{IsReply}
@@ -28,6 +28,11 @@ abbrev pub block_passed : ℕ → Session → List ℕ → model.Session
 block_passed read session id =
     with_offers (in_phase (passed read session) model.Ready) (without_offer session.offers id)
 
+-- the session where so many octets of a line count as read: the id is open since then
+abbrev pub offering : ℕ → Session → List ℕ → (since : ℕ) → model.Session
+offering read session id since =
+    with_offers (passed read session) (with_offer session.offers id since)
+
 -- what is due, by what is planned: the ask, and the session once what it read counts as read
 abbrev pub DueIs : Todo → (read : ℕ) → Session → Due → Type 0
 DueIs todos.Rest read session d = d ≡ due_as asks.Rests (session_view session)
@@ -39,12 +44,12 @@ DueIs (todos.Say octets) read session d =
 DueIs (todos.Leave octets) read session d =
     (reply : Reply) × IsReply octets.items reply
     × (d ≡ due_as (asks.Leaves reply) (passed read session))
-DueIs (todos.Check id room) read session d =
+DueIs (todos.Check id room since) read session d =
     (is_full session.offers id ≡ false)
-    × (d ≡ due_as (asks.Offers model.TakesThis id) (passed read session))
-DueIs (todos.Ihave id copy room) read session d =
+    × (d ≡ due_as (asks.Offers model.TakesThis id) (offering read session id since))
+DueIs (todos.Ihave id copy room since) read session d =
     (is_full session.offers id ≡ false) × (copy ≡ id)
-    × (d ≡ due_as (asks.Offers model.Has id) (passed read session))
+    × (d ≡ due_as (asks.Offers model.Has id) (offering read session id since))
 DueIs (todos.Look part id room) read session d =
     d ≡ due_as (asks.Looks (part_view part) id) (passed read session)
 DueIs (todos.Fetch reading) read session d =
@@ -76,7 +81,8 @@ DueIs todos.Slot read session d =
     × (session.phase ≡ phases.Waits transfer id room)
     × (d ≡ due_as (asks.LooksInSlot (transfer_view transfer) id) (session_view session))
 DueIs todos.Release read session d =
-    (id : List ℕ) × (later : List (List ℕ)) × (session.offers ≡ id ∷ later)
+    (id : List ℕ) × (since : ℕ) × (later : List OpenOffer)
+    × (session.offers ≡ record { id = id; since = since } ∷ later)
     × (d ≡ due_as (asks.Releases id) (with_offers (session_view session) later))
 DueIs todos.End read session d = d ≡ due_as asks.Ends (session_view session)
 
@@ -86,8 +92,8 @@ rests todos.Rest = true
 rests (todos.Owe id) = false
 rests (todos.Say octets) = false
 rests (todos.Leave octets) = false
-rests (todos.Check id room) = false
-rests (todos.Ihave id copy room) = false
+rests (todos.Check id room since) = false
+rests (todos.Ihave id copy room since) = false
 rests (todos.Look part id room) = false
 rests (todos.Fetch reading) = false
 rests todos.ReadOn = false
@@ -106,8 +112,8 @@ FitsPhase todos.Rest phase = HasReadNone phase
 FitsPhase (todos.Owe id) phase = Unit {0}
 FitsPhase (todos.Say octets) phase = Unit {0}
 FitsPhase (todos.Leave octets) phase = Unit {0}
-FitsPhase (todos.Check id room) phase = phase ≡ phases.Ready
-FitsPhase (todos.Ihave id copy room) phase = phase ≡ phases.Ready
+FitsPhase (todos.Check id room since) phase = phase ≡ phases.Ready
+FitsPhase (todos.Ihave id copy room since) phase = phase ≡ phases.Ready
 FitsPhase (todos.Look part id room) phase = phase ≡ phases.Ready
 FitsPhase (todos.Fetch reading) phase = phase ≡ phases.Ready
 FitsPhase todos.ReadOn phase = Unit {0}
@@ -117,7 +123,7 @@ FitsPhase (todos.Take copy article room) phase = Unit {0}
 FitsPhase (todos.TakeHeld copy) phase = Unit {0}
 FitsPhase todos.Push phase = HasReadNone phase
 FitsPhase todos.Slot phase = Unit {0}
-FitsPhase todos.Release phase = phase ≡ phases.Leaving
+FitsPhase todos.Release phase = HasReadNone phase
 FitsPhase todos.End phase = Unit {0}
 
 -- The session stands for m, and has planned this.

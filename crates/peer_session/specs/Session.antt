@@ -6,7 +6,9 @@ use Rattle.buffer_group.specs.declared.job.Job.{Job}
 use Rattle.news_terms.specs.Blocks.{Unfinished, next_block, stuffed_room}
 use Rattle.news_terms.specs.Lines.{Incomplete, next_line}
 use Rattle.relay_model.specs.Run.{new_session}
+use Rattle.relay_model.specs.Asks.{run_out}
 use Rattle.relay_model.specs.State as model
+use Rattle.relay_model.specs.State.{OpenOffer}
 use Rattle.relay_model.specs.State.{in_phase, with_unread}
 use Rattle.relay_model.specs.Terms.{Terms}
 use Rattle.relay_model.specs.World as world
@@ -91,23 +93,28 @@ pub record Stands (w : Terms) (session : Session) (m : model.Session) (gathered 
   pub has_all : HasAll session.phase session.cutter.dropped
 
 -- a session that leaves pushes the job in hand, or has no open offer left
-abbrev pub LeavesFree : Option Job → List (List ℕ) → Type 0
+abbrev pub LeavesFree : Option Job → List OpenOffer → Type 0
 LeavesFree (Some job) offers = Unit {0}
 LeavesFree None offers = offers ≡ []
 
--- What is due is planned without memory. Nothing is due: a session that reads a command has no
--- whole line, and may still get one; one that owes a block has none that is whole; or it is closed.
--- Or it pushes the job in hand, looks into its slot, reads the next block of a fetch that is
--- prepared for it, or has nothing left to give up.
-abbrev pub PlansFree : Phase → Stream → Option Job → List (List ℕ) → Type 0
-PlansFree phases.Ready stream hand offers = next_line stream.unread ≡ Incomplete
-PlansFree (phases.AwaitsBlock transfer id) stream hand offers =
-    next_block stream.limit stream.unread ≡ Unfinished
-PlansFree (phases.Holds id article room) stream hand offers = ⊥
-PlansFree (phases.Waits transfer id room) stream hand offers = Unit {0}
-PlansFree (phases.Fetches reading) stream hand offers = reading.prepared ≡ true
-PlansFree phases.Leaving stream hand offers = LeavesFree hand offers
-PlansFree phases.Ended stream hand offers = Unit {0}
+-- What is due is planned without memory at this moment, where offers last so long. Nothing is due: a
+-- session that reads a command has no offer that has run out, and no whole line, but may still get
+-- one; one that owes a block has none that is whole; or it is closed. Or it pushes the job in hand,
+-- looks into its slot, reads the next block of a fetch that is prepared for it, or has nothing left
+-- to give up.
+abbrev pub PlansFreeIn : (lasting : Option ℕ) → (now : ℕ) → Session → Phase → Type 0
+PlansFreeIn lasting now session phases.Ready =
+    (run_out lasting now session.offers ≡ None) × (next_line session.cutter.unread ≡ Incomplete)
+PlansFreeIn lasting now session (phases.AwaitsBlock transfer id) =
+    next_block session.cutter.limit session.cutter.unread ≡ Unfinished
+PlansFreeIn lasting now session (phases.Holds id article room) = ⊥
+PlansFreeIn lasting now session (phases.Waits transfer id room) = Unit {0}
+PlansFreeIn lasting now session (phases.Fetches reading) = reading.prepared ≡ true
+PlansFreeIn lasting now session phases.Leaving = LeavesFree session.hand session.offers
+PlansFreeIn lasting now session phases.Ended = Unit {0}
+
+abbrev pub PlansFree : (lasting : Option ℕ) → (now : ℕ) → Session → Type 0
+PlansFree lasting now session = PlansFreeIn lasting now session session.phase
 
 -- where no block is whole, no more octets are kept than a block within the limit takes
 abbrev pub IsBounded : Stream → Type 0

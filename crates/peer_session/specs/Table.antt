@@ -3,7 +3,7 @@ use Rattle.std.specs.Prelude.{◌≡◌, ◌≢◌, ◌<◌, ◌≤◌, ℕ, Lis
 use Rattle.std.specs.Prelude.{slice_index_or, vec_capacity}
 use Rattle.std.specs.List.{AllPairs}
 use Rattle.relay_model.specs.Terms.{offer_limit}
-use Rattle.peer_session.specs.Places.{open_ids, place_count}
+use Rattle.peer_session.specs.Places.{ids_of, open_ids, open_offers, place_count}
 use Rattle.peer_session.specs.Chains.{AreChains, HasRoom}
 use Rattle.peer_session.specs.declared.table.Table.{Table}
 
@@ -16,11 +16,11 @@ pub record IsFirst (places : List (Option (List ℕ))) (first : ℕ) : Type 0 wh
 
 -- the table's parts agree
 pub record IsTable (table : Table) : Type 0 where
-  pub chains : AreChains table.ids.items table.chains
+  pub chains : AreChains (ids_of table.offers.items) table.chains
   pub chain_room : HasRoom table.chains
-  pub once : AllPairs (λ id other. id ≢ other) (open_ids table.ids.items)
-  pub counted : table.count ≡ length (open_ids table.ids.items)
+  pub once : AllPairs (λ id other. id ≢ other) (open_ids (ids_of table.offers.items))
+  pub counted : table.count ≡ length (open_offers table.offers.items)
   pub few : table.count ≤ offer_limit
-  pub first : IsFirst table.ids.items table.first
-  pub within : length table.ids.items ≤ place_count
-  pub room : place_count ≤ vec_capacity table.ids
+  pub first : IsFirst (ids_of table.offers.items) table.first
+  pub within : length table.offers.items ≤ place_count
+  pub room : place_count ≤ vec_capacity table.offers

@@ -2,7 +2,7 @@
 ghost use Rattle.std.specs.Prelude.{◌≡◌, ◌≢◌, ◌≤◌, ◌<◌, ◌++◌, ◌∷◌, [], ℕ, List, Option};
 ghost use Rattle.std.specs.Prelude.{None, Some, ◌↔◌, true, length, slice_index_or, slice_set};
 ghost use Rattle.std.specs.Prelude.{IfOk, IfSome, MatchOption};
-ghost use Rattle.peer_session.specs.Places.{bucket_of, bucket_count, place_count};
+ghost use Rattle.peer_session.specs.Places.{bucket_of, bucket_count, ids_of, place_count};
 ghost use Rattle.peer_session.specs.Chains.{AreChains, HasRoom, IsSpot};
 
 use nntp_text::MsgId;
@@ -15,6 +15,13 @@ const BUCKETS: usize = 512;
 /// How many places there are: twice as many as offers may be open, so that 256 more can be opened
 /// before they have to be closed up again.
 pub(crate) const PLACES: usize = 512;
+
+/// An open offer: its id, and the moment at which it was opened.
+#[derive(Drop)]
+pub(crate) struct Opened {
+    pub(crate) id: MsgId,
+    pub(crate) since: u64,
+}
 
 /// Where an id was found.
 #[derive(Clone, Copy)]
@@ -95,13 +102,13 @@ impl Chains {
     }
 
     /// Finds the id among the places from `first` on; those before it have none.
-    pub(crate) fn find(&self, ids: &[Option<MsgId>], first: usize, id: &MsgId) -> Option<Spot>
-        requires chains { AreChains ids.now self.now }
+    pub(crate) fn find(&self, offers: &[Option<Opened>], first: usize, id: &MsgId) -> Option<Spot>
+        requires chains { AreChains (ids_of offers.now) self.now }
         requires room { HasRoom self.now }
-        requires before { (j : ℕ) → j < first → slice_index_or ids.now j None ≡ None }
+        requires before { (j : ℕ) → j < first → slice_index_or (ids_of offers.now) j None ≡ None }
         ensures found { MatchOption result
-            ((j : ℕ) → slice_index_or ids.now j None ≢ Some id.now)
-            (λ spot. slice_index_or ids.now spot.place None ≡ Some id.now) }
+            ((j : ℕ) → slice_index_or (ids_of offers.now) j None ≢ Some id.now)
+            (λ spot. slice_index_or (ids_of offers.now) spot.place None ≡ Some id.now) }
         ensures spot { IfSome result (IsSpot self.now) }
     {
         let bucket = self.bucket(id);
@@ -109,7 +116,7 @@ impl Chains {
         let mut link = self.latest[bucket];
         while link > first {
             let place = link - 1;
-            if is_at(ids, place, id) {
+            if is_at(offers, place, id) {
                 return Some(Spot {
                     place,
                     bucket,
@@ -142,12 +149,12 @@ impl Chains {
 }
 
 /// Whether the place has this id.
-fn is_at(ids: &[Option<MsgId>], place: usize, id: &MsgId) -> bool
-    requires { place < length ids.now }
-    ensures { (result ≡ true) ↔ (slice_index_or ids.now place None ≡ Some id.now) }
+fn is_at(offers: &[Option<Opened>], place: usize, id: &MsgId) -> bool
+    requires { place < length offers.now }
+    ensures { (result ≡ true) ↔ (slice_index_or (ids_of offers.now) place None ≡ Some id.now) }
 {
-    match &ids[place] {
-        Some(other) => other.as_bytes() == id.as_bytes(),
+    match &offers[place] {
+        Some(other) => other.id.as_bytes() == id.as_bytes(),
         None => false,
     }
 }

@@ -2,10 +2,10 @@
 ghost use Rattle.std.specs.Prelude.{◌≡◌, ◌≢◌, ℕ, List, ◌∷◌, IfOk, IsOk};
 ghost use Rattle.relay_model.specs.Hears.{silent};
 ghost use Rattle.relay_model.specs.State as model;
-ghost use Rattle.relay_model.specs.State.{in_phase, with_offers};
-ghost use Rattle.peer_session.specs.Asking.{IsLeavingAsked};
+ghost use Rattle.relay_model.specs.State.{OpenOffer, in_phase, with_offers};
+ghost use Rattle.peer_session.specs.Asking.{IsLeavingAsked, IsReleaseOf};
 ghost use Rattle.peer_session.specs.Hearing.{HeardIs, HeardUnless};
-ghost use Rattle.peer_session.specs.Session.{LeavesFree, session_view};
+ghost use Rattle.peer_session.specs.Session.{HasAll, HasReadNone, LeavesFree, session_view};
 
 use crate::offers::OpenOffers;
 use crate::phase::{Due, Phase, Todo};
@@ -13,6 +13,7 @@ use crate::session::Session;
 use crate::steps::{Answer, Step};
 use crate::waiting::push_due;
 use buffer_group::Job;
+use nntp_text::MsgId;
 use std::alloc::{AllocError, Global};
 
 /// What is due where a session leaves: the job in hand is pushed, then the oldest open offer ends,
@@ -28,17 +29,25 @@ pub(crate) fn leaving_due(
     if let Some(job) = hand {
         return Ok(push_due(job));
     }
-    let (todo, step) = match offers.oldest() {
-        Some(id) => {
-            let copy = id.copied(alloc)?;
-            (Todo::Release, Step::Release(copy))
-        }
-        None => (Todo::End, Step::Nothing),
-    };
+    match offers.oldest() {
+        Some(id) => release_due(alloc, id),
+        None => Ok(Due {
+            todo: Todo::End,
+            read: 0,
+            step: Step::Nothing,
+        }),
+    }
+}
+
+/// The open offer of this id, the oldest, ends.
+pub(crate) fn release_due(alloc: Global, id: &MsgId) -> Result<Due, AllocError>
+    ensures { IfOk result (IsReleaseOf id.now) }
+{
+    let copy = id.copied(alloc)?;
     Ok(Due {
-        todo,
+        todo: Todo::Release,
         read: 0,
-        step,
+        step: Step::Release(copy),
     })
 }
 
@@ -46,8 +55,9 @@ impl Session {
     /// The oldest open offer was released.
     pub(crate) fn hear_released(&mut self, answer: Answer<'_>) -> Vec<u8>
         ensures { HeardUnless
-            ((id : List ℕ) (later : List (List ℕ)) → answer.entry ≡ Answer.Nothing
-            → self.old.phase ≡ Phase.Leaving → self.old.offers ≡ id ∷ later
+            ((id : List ℕ) (since : ℕ) (later : List OpenOffer) → answer.entry ≡ Answer.Nothing
+            → HasReadNone self.old.phase → HasAll self.old.phase self.old.cutter.dropped
+            → self.old.offers ≡ record { id = id; since = since } ∷ later
             → HeardIs result.items self.old (silent (with_offers (session_view self.old) later))
             self.new)
             (answer.entry ≢ Answer.Nothing)

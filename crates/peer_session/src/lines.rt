@@ -1,6 +1,6 @@
 //! Command lines: what each asks, and what is made of the answer to an offer.
 ghost use Rattle.std.specs.Prelude.{◌≡◌, ◌≢◌, ◌≤◌, ◌<◌, ◌==◌, ℕ, false, Ok, IfOk, IfSome, IsOk};
-ghost use Rattle.std.specs.Prelude.{OnErr, Some, length, map, position};
+ghost use Rattle.std.specs.Prelude.{OnErr, None, Some, length, map, position};
 ghost use Rattle.article_verdict.specs.Config.{terms_of};
 ghost use Rattle.feed_queue.specs.Permission.{feed_view};
 ghost use Rattle.id_history.specs.Answers.{offer_view};
@@ -9,7 +9,7 @@ ghost use Rattle.news_terms.specs.Command as commands;
 ghost use Rattle.news_terms.specs.Lines.{Incomplete, next_line};
 ghost use Rattle.nntp_text.specs.Command.{command_view};
 ghost use Rattle.nntp_text.specs.Reply.{reply_room, reply_view, room_of};
-ghost use Rattle.relay_model.specs.Asks.{feed_of, is_full};
+ghost use Rattle.relay_model.specs.Asks.{feed_of, is_full, run_out};
 ghost use Rattle.relay_model.specs.Hears.{offer_heard};
 ghost use Rattle.relay_model.specs.State as model;
 ghost use Rattle.relay_model.specs.Terms.{FeedTerms, last_moment};
@@ -18,9 +18,11 @@ ghost use Rattle.stream_cut.specs.Stream.{ShowsLine};
 ghost use Rattle.peer_session.specs.Asking.{IsAskedBy, IsFetching, IsLeaving, IsLooking};
 ghost use Rattle.peer_session.specs.Asking.{IsOffering, IsSaying};
 ghost use Rattle.peer_session.specs.Hearing.{HeardIs, HeardUnless};
-ghost use Rattle.peer_session.specs.Planning.{Plans};
+ghost use Rattle.peer_session.specs.Planning.{Plans, offering};
 ghost use Rattle.peer_session.specs.Session.{StandsAsBefore, passed, transfer_view};
 
+use crate::chains::Opened;
+use crate::leaving::release_due;
 use crate::offers::OpenOffers;
 use crate::phase::{Due, Phase, Todo, Transfer};
 use crate::room::Room;
@@ -36,10 +38,27 @@ use std::alloc::{AllocError, Global};
 use stream_cut::FoundLine;
 
 impl Session {
-    /// What is due where a command is read: nothing until a line is whole.
-    pub(crate) fn line_due(&mut self, config: &Config, now: u64) -> Result<Due, AllocError>
+    /// What is due where a command is read: the oldest open offer ends where it has run out, else
+    /// it is by a line.
+    pub(crate) fn command_due(&mut self, config: &Config, now: u64) -> Result<Due, AllocError>
         requires moment { now ≤ last_moment }
         requires ready { self.old.phase ≡ Phase.Ready }
+        ensures due { IfOk result (λ due. Plans (terms_of config.now) self.old now due self.new) }
+        ensures err { OnErr result (StandsAsBefore self.old self.new) }
+        ensures free { run_out (terms_of config.now).offers now self.old.offers ≡ None
+            → next_line self.old.cutter.unread ≡ Incomplete → IsOk result }
+    {
+        if let Some(id) = self.offers.oldest_ended(config.relay.offers, now) {
+            return release_due(self.alloc, id);
+        }
+        self.line_due(config, now)
+    }
+
+    /// What is due where a line is read: nothing until one is whole.
+    fn line_due(&mut self, config: &Config, now: u64) -> Result<Due, AllocError>
+        requires moment { now ≤ last_moment }
+        requires ready { self.old.phase ≡ Phase.Ready }
+        requires lasting { run_out (terms_of config.now).offers now self.old.offers ≡ None }
         ensures due { IfOk result (λ due. Plans (terms_of config.now) self.old now due self.new) }
         ensures err { OnErr result (StandsAsBefore self.old self.new) }
         ensures free { next_line self.old.cutter.unread ≡ Incomplete → IsOk result }
@@ -66,6 +85,7 @@ impl Session {
     fn due_of_line(&self, config: &Config, now: u64, end: usize) -> Result<Due, AllocError>
         requires moment { now ≤ last_moment }
         requires ready { self.now.phase ≡ Phase.Ready }
+        requires lasting { run_out (terms_of config.now).offers now self.now.offers ≡ None }
         requires shown { ShowsLine self.now.cutter end }
         ensures { IfOk result (λ due. Plans (terms_of config.now) self.now now due self.now) }
     {
@@ -104,8 +124,8 @@ impl Session {
             IsAskedBy (terms_of config.now) now self.now (Ok (command_view command.entry)) one) }
     {
         match command {
-            Command::Check(id) => check_asked(self.alloc, &self.offers, id),
-            Command::Ihave(id) => ihave_asked(self.alloc, &self.offers, id),
+            Command::Check(id) => check_asked(self.alloc, &self.offers, id, now),
+            Command::Ihave(id) => ihave_asked(self.alloc, &self.offers, id, now),
             Command::TakeThis(id) => Ok((Todo::Owe(id), Step::Nothing)),
             Command::Fetch(part, id) => look_asked(self.alloc, part, id),
             Command::FetchToken(word) => token_asked(self.alloc, word),
@@ -120,26 +140,28 @@ impl Session {
         }
     }
 
-    /// The answer to CHECK or IHAVE. After IHAVE the block of the id is owed where the article is
-    /// wanted; after CHECK none is.
+    /// The answer to CHECK or IHAVE of an id at this moment. After IHAVE the block of the id is owed
+    /// where the article is wanted; after CHECK none is.
     pub(crate) fn hear_offer(
         &mut self,
         read: usize,
         transfer: Transfer,
-        id: MsgId,
+        offer: Opened,
         owed: Option<MsgId>,
         room: Room,
         answer: Answer<'_>,
     ) -> Vec<u8>
         ensures { HeardUnless
             ((told : Offer) → answer.entry ≡ Answer.Offer told
-            → (transfer ≡ Transfer.Has → owed ≡ Some id) → is_full self.old.offers id ≡ false
-            → self.old.phase ≡ Phase.Ready
-            → HeardIs result.items self.old (offer_heard (passed read self.old)
-            (transfer_view transfer) id (offer_view told)) self.new)
+            → (transfer ≡ Transfer.Has → owed ≡ Some offer.id)
+            → is_full self.old.offers offer.id ≡ false → self.old.phase ≡ Phase.Ready
+            → HeardIs result.items self.old (offer_heard
+            (offering read self.old offer.id offer.since) (transfer_view transfer) offer.id
+            (offer_view told)) self.new)
             ((told : Offer) → answer.entry ≢ Answer.Offer told)
             result.items self.old self.new }
     {
+        let Opened { id, since } = offer;
         match answer {
             Answer::Offer(told) => {
                 drop(answer);
@@ -147,7 +169,7 @@ impl Session {
                 let octets = room.say(offer_reply(transfer, told, &id));
                 match told {
                     Offer::Wanted => {
-                        self.offers.open(id);
+                        self.offers.open(id, since);
                         if let Transfer::TakesThis = transfer {
                             drop(owed);
                             return octets;
@@ -219,27 +241,37 @@ pub(crate) fn room_and_copy(alloc: Global, id: &MsgId) -> Result<(Room, MsgId), 
     Ok((room, copy))
 }
 
-/// CHECK of an id, where these offers are open.
-fn check_asked(alloc: Global, offers: &OpenOffers, id: MsgId) -> Result<(Todo, Step), AllocError>
-    ensures { IfOk result (IsOffering offers.now model.TakesThis id) }
+/// CHECK of an id at this moment, where these offers are open.
+fn check_asked(
+    alloc: Global,
+    offers: &OpenOffers,
+    id: MsgId,
+    now: u64,
+) -> Result<(Todo, Step), AllocError>
+    ensures { IfOk result (IsOffering offers.now now model.TakesThis id) }
 {
     if offers.is_full(&id) {
         return said(alloc, Reply::AskLater(&id));
     }
     let (room, copy) = room_and_copy(alloc, &id)?;
-    Ok((Todo::Check(id, room), Step::Offer(copy)))
+    Ok((Todo::Check(id, room, now), Step::Offer(copy)))
 }
 
-/// IHAVE of an id, where these offers are open.
-fn ihave_asked(alloc: Global, offers: &OpenOffers, id: MsgId) -> Result<(Todo, Step), AllocError>
-    ensures { IfOk result (IsOffering offers.now model.Has id) }
+/// IHAVE of an id at this moment, where these offers are open.
+fn ihave_asked(
+    alloc: Global,
+    offers: &OpenOffers,
+    id: MsgId,
+    now: u64,
+) -> Result<(Todo, Step), AllocError>
+    ensures { IfOk result (IsOffering offers.now now model.Has id) }
 {
     if offers.is_full(&id) {
         return said(alloc, Reply::IhaveLater);
     }
     let copy = id.copied(alloc)?;
     let (room, asked) = room_and_copy(alloc, &id)?;
-    Ok((Todo::Ihave(id, copy, room), Step::Offer(asked)))
+    Ok((Todo::Ihave(id, copy, room, now), Step::Offer(asked)))
 }
 
 /// XTAKE of at most so many by the peer of this number.

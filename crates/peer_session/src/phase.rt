@@ -46,10 +46,11 @@ pub(crate) enum Todo {
     Say(Vec<u8>),
     /// These octets are said, and the session leaves.
     Leave(Vec<u8>),
-    /// CHECK: the id is offered.
-    Check(MsgId, Room),
-    /// IHAVE: the id is offered. It is there twice, for its open offer and for its block.
-    Ihave(MsgId, MsgId, Room),
+    /// CHECK: the id is offered at this moment.
+    Check(MsgId, Room, u64),
+    /// IHAVE: the id is offered at this moment. It is there twice, for its open offer and for its
+    /// block.
+    Ihave(MsgId, MsgId, Room, u64),
     /// The token of the id is looked up.
     Look(Part, MsgId, Room),
     /// XFETCH: the fetch begins with the first block.

@@ -19,6 +19,7 @@ ghost use Rattle.peer_session.specs.Session.{reads_command, session_view, withou
 ghost use Rattle.stream_cut.specs.Stream.{HasRoom};
 ghost use Rattle.peer_session.specs.declared.steps.Answer.TheVariants as answers;
 
+use crate::chains::Opened;
 use crate::fetches::reading_due;
 use crate::leaving::leaving_due;
 use crate::offers::OpenOffers;
@@ -159,8 +160,7 @@ impl Session {
         ensures due { IfOk result (λ step.
             DueGiven (terms_of config.now) self.old now step self.new) }
         ensures err { OnErr result (StandsAsBefore self.old self.new) }
-        ensures free { PlansFree self.old.phase self.old.cutter self.old.hand self.old.offers
-            → IsOk result }
+        ensures free { PlansFree (terms_of config.now).offers now self.old → IsOk result }
         ensures bounded { IsAwaitingBlock self.old.phase → IsBounded self.new.cutter }
     {
         let due = self.due(config, now)?;
@@ -176,7 +176,7 @@ impl Session {
         ensures { DueOf (terms_of config.now) now self.old result self.new }
     {
         match &mut self.phase {
-            Phase::Ready => self.line_due(config, now),
+            Phase::Ready => self.command_due(config, now),
             Phase::AwaitsBlock(_, _) => self.block_due(config, now),
             Phase::Holds(id, _, _) => held_due(self.alloc, id),
             Phase::Waits(_, _, _) => Ok(waiting_due(&self.hand)),
@@ -221,11 +221,11 @@ impl Session {
             Todo::Owe(id) => self.hear_owed(read, id, answer),
             Todo::Say(octets) => self.hear_said(read, octets, answer),
             Todo::Leave(octets) => self.hear_left(read, octets, answer),
-            Todo::Check(id, room) => {
-                self.hear_offer(read, Transfer::TakesThis, id, None, room, answer)
+            Todo::Check(id, room, since) => {
+                self.hear_offer(read, Transfer::TakesThis, Opened { id, since }, None, room, answer)
             }
-            Todo::Ihave(id, copy, room) => {
-                self.hear_offer(read, Transfer::Has, id, Some(copy), room, answer)
+            Todo::Ihave(id, copy, room, since) => {
+                self.hear_offer(read, Transfer::Has, Opened { id, since }, Some(copy), room, answer)
             }
             Todo::Look(part, id, room) => self.hear_look(read, part, id, room, answer),
             Todo::Fetch(reading) => self.hear_first(read, reading, answer),

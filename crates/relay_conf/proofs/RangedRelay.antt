@@ -18,7 +18,7 @@ use Rattle.relay_conf.specs.declared.relay.Peer.{Peer}
 use Rattle.relay_conf.specs.declared.relay.PeerConnections.{PeerConnections}
 use Rattle.relay_conf.specs.LineByLine.{SayEach}
 use Rattle.relay_conf.specs.RelayLines.{RelayLine, RawLine, SaidLine, Own, MaxArticle, Cutoff}
-use Rattle.relay_conf.specs.RelayLines.{Remember, Patience, Sync, PeerLine, ConnectionsLine}
+use Rattle.relay_conf.specs.RelayLines.{Remember, Patience, Sync, Offers, PeerLine, ConnectionsLine}
 use Rattle.relay_conf.specs.RelayLines.{FeedLine}
 use Rattle.relay_conf.specs.RelayLines.{RawSays, LineSays, own_line, number_line, number_or_fault}
 use Rattle.relay_conf.specs.RelayLines.{with_number, bind_line, peer_ported, peer_line}
@@ -27,7 +27,8 @@ use Rattle.relay_conf.specs.RelayLines.{AllowLine, address_of, feed_ringed, rang
 use Rattle.relay_conf.specs.RelayLines.{range_of, range_of_parts, ranged, ranges_of}
 use Rattle.relay_conf.specs.RelayLines.{feed_line, relay_words, relay_line}
 use Rattle.relay_conf.specs.Relay.{own_of, max_article_of, cutoff_of, remember_of, patience_of}
-use Rattle.relay_conf.specs.Relay.{sync_of, peer_of, connections_of, feed_of, allow_of, allows_of}
+use Rattle.relay_conf.specs.Relay.{sync_of, offers_of, peer_of, connections_of, feed_of, allow_of}
+use Rattle.relay_conf.specs.Relay.{allows_of}
 use Rattle.relay_conf.specs.Words.{words, is_name, is_identity}
 use Rattle.relay_conf.proofs.FaultlessLines.{all_given, all_listed, all_said, within_range}
 use Rattle.relay_conf.proofs.PathIdentities.{identity_is_agent}
@@ -40,6 +41,7 @@ IsRanged (Ok (Cutoff seconds)) = seconds ≤ 4000000000
 IsRanged (Ok (Remember seconds)) = seconds ≤ 4000000000
 IsRanged (Ok (Patience seconds)) = (1 ≤ seconds) × (seconds ≤ 86400)
 IsRanged (Ok (Sync seconds)) = (1 ≤ seconds) × (seconds ≤ 86400)
+IsRanged (Ok (Offers seconds)) = (1 ≤ seconds) × (seconds ≤ 86400)
 IsRanged (Ok (PeerLine name identity port)) = is_identity identity ≡ true
 IsRanged (Ok (ConnectionsLine name connections)) = (1 ≤ connections) × (connections ≤ 64)
 IsRanged (Ok (AllowLine name ranges)) = All (λ range. range.bits ≤ 32) ranges
@@ -148,13 +150,15 @@ of_words (word ∷ after) =
     (λ e. of_number Patience 1 86400 (one_of after) (λ n least most. (least, most)))
     (λ e. cond_both (bytes_eq word (codes "sync")) _ _ IsRanged
     (λ e. of_number Sync 1 86400 (one_of after) (λ n least most. (least, most)))
+    (λ e. cond_both (bytes_eq word (codes "offers")) _ _ IsRanged
+    (λ e. of_number Offers 1 86400 (one_of after) (λ n least most. (least, most)))
     (λ e. cond_both (bytes_eq word (codes "bind")) _ _ IsRanged (λ e. of_bind (one_of after))
     (λ e. cond_both (bytes_eq word (codes "peer")) _ _ IsRanged (λ e. of_peer (three_of after))
     (λ e. cond_both (bytes_eq word (codes "connections")) _ _ IsRanged
     (λ e. of_connections (two_of after))
     (λ e. cond_both (bytes_eq word (codes "allow")) _ _ IsRanged (λ e. of_allow after)
     (λ e. cond_both (bytes_eq word (codes "feed")) _ _ IsRanged (λ e. of_feed (three_of after))
-    (λ e. tt)))))))))))
+    (λ e. tt))))))))))))
 
 -- with a line,
 of_line : (line : List ℕ) → IsRanged (relay_line line)
@@ -177,6 +181,7 @@ pub record AreRanged (said : List SaidLine) : Type 0 where
   pub remembers : All (λ n. n ≤ 4000000000) (filter_map remember_of said)
   pub patiences : All (λ n. (1 ≤ n) × (n ≤ 86400)) (filter_map patience_of said)
   pub syncs : All (λ n. (1 ≤ n) × (n ≤ 86400)) (filter_map sync_of said)
+  pub offers : All (λ n. (1 ≤ n) × (n ≤ 86400)) (filter_map offers_of said)
   pub peers : All (λ (peer : Peer). IsTrue (is_agent peer.identity)) (filter_map peer_of said)
   pub connections : All (λ (one : PeerConnections). (1 ≤ one.connections) × (one.connections ≤ 64))
       (filter_map connections_of said)
@@ -204,6 +209,8 @@ are_ranged lines said h =
           (elim [ Ok (Patience n) ↦ λ is. is | one ↦ λ is. tt ]) said all;
       syncs = all_given IsRanged (λ n. (1 ≤ n) × (n ≤ 86400)) sync_of
           (elim [ Ok (Sync n) ↦ λ is. is | one ↦ λ is. tt ]) said all;
+      offers = all_given IsRanged (λ n. (1 ≤ n) × (n ≤ 86400)) offers_of
+          (elim [ Ok (Offers n) ↦ λ is. is | one ↦ λ is. tt ]) said all;
       peers = all_given IsRanged (λ (peer : Peer). IsTrue (is_agent peer.identity)) peer_of
           (elim [ Ok (PeerLine name own port) ↦ identity_is_agent own | one ↦ λ is. tt ]) said all;
       connections = all_given IsRanged

@@ -28,7 +28,7 @@ use Rattle.relay_conf.specs.Faults.{fault_or_later}
 use Rattle.relay_conf.specs.RelayLines.{RelayLine, RawLine, SaidLine, RawSays, LineSays, relay_line}
 use Rattle.relay_conf.specs.RelayLines.{AllowLine}
 use Rattle.relay_conf.specs.Relay.{name_in, Stand, stand_of, own_of, max_article_of, cutoff_of}
-use Rattle.relay_conf.specs.Relay.{remember_of, patience_of, sync_of, bind_of, peer_of}
+use Rattle.relay_conf.specs.Relay.{remember_of, patience_of, sync_of, offers_of, bind_of, peer_of}
 use Rattle.relay_conf.specs.Relay.{connections_of}
 use Rattle.relay_conf.specs.Relay.{feed_name_of, feed_of, allows_of, line_fault, early_fault, late_fault}
 use Rattle.relay_conf.specs.Relay.{unknown_fault, again_fault, no_own_fault, first_or, first_of}
@@ -55,6 +55,7 @@ join st line =
       remembers = st.remembers ++ option_to_list (remember_of line);
       patiences = st.patiences ++ option_to_list (patience_of line);
       syncs = st.syncs ++ option_to_list (sync_of line);
+      offers = st.offers ++ option_to_list (offers_of line);
       binds = st.binds ++ option_to_list (bind_of line);
       peers = st.peers ++ option_to_list (peer_of line);
       connections = st.connections ++ option_to_list (connections_of line);
@@ -259,6 +260,7 @@ settings_by st feeds allows =
       remember = first_of st.remembers;
       patience = first_or 3600 st.patiences;
       sync = first_of st.syncs;
+      offers = first_of st.offers;
       bind = first_or each_address st.binds;
       peers = map (connected st.connections) st.peers;
       feeds = feeds;
@@ -299,6 +301,7 @@ reading_says said r none reading =
       first_of_is r.remember,
       first_or_is r.patience 3600,
       first_of_is r.sync,
+      first_of_is r.offers,
       first_or_is r.bind each_address,
     ) refl)
 

@@ -212,4 +212,5 @@ relay_is_sound lines settings h =
       some_patience = patience.0;
       most_patience = patience.1;
       sync = first_known (λ n. (1 ≤ n) × (n ≤ 86400)) stand.syncs ranged.syncs;
+      offers = first_known (λ n. (1 ≤ n) × (n ≤ 86400)) stand.offers ranged.offers;
     })

@@ -46,6 +46,7 @@ k1_relay =
       remember = None;
       patience = 3600;
       sync = None;
+      offers = None;
       bind = each_address;
       peers =
           record { name = codes "p1"; identity = codes "one.example"; port = 0; connections = 1 }

@@ -21,6 +21,7 @@ reach_settings =
       remember = None;
       patience = 3600;
       sync = None;
+      offers = None;
       bind = each_address;
       peers = record { name = codes "p"; identity = codes "b"; port = 0; connections = 1 }
           ∷ record { name = codes "q"; identity = codes "c"; port = 0; connections = 1 }

@@ -13,7 +13,7 @@ use Rattle.relay_conf.specs.declared.reach.Allow.{Allow}
 use Rattle.relay_conf.specs.declared.reach.Range.{Range}
 use Rattle.relay_conf.specs.Faults.{first_fault, whole_fault, unless_fault}
 use Rattle.relay_conf.specs.RelayLines.{SaidLine, Skipped, Own, MaxArticle, Cutoff, Remember}
-use Rattle.relay_conf.specs.RelayLines.{Patience, Sync, Bind, PeerLine, ConnectionsLine, AllowLine}
+use Rattle.relay_conf.specs.RelayLines.{Patience, Sync, Offers, Bind, PeerLine, ConnectionsLine, AllowLine}
 use Rattle.relay_conf.specs.RelayLines.{FeedLine}
 
 -- the own identity that a line says
@@ -26,6 +26,7 @@ own_of (Ok (Cutoff seconds)) = None
 own_of (Ok (Remember seconds)) = None
 own_of (Ok (Patience seconds)) = None
 own_of (Ok (Sync seconds)) = None
+own_of (Ok (Offers seconds)) = None
 own_of (Ok (Bind address)) = None
 own_of (Ok (PeerLine name identity port)) = None
 own_of (Ok (ConnectionsLine name connections)) = None
@@ -42,6 +43,7 @@ max_article_of (Ok (Cutoff seconds)) = None
 max_article_of (Ok (Remember seconds)) = None
 max_article_of (Ok (Patience seconds)) = None
 max_article_of (Ok (Sync seconds)) = None
+max_article_of (Ok (Offers seconds)) = None
 max_article_of (Ok (Bind address)) = None
 max_article_of (Ok (PeerLine name identity port)) = None
 max_article_of (Ok (ConnectionsLine name connections)) = None
@@ -58,6 +60,7 @@ cutoff_of (Ok (Cutoff seconds)) = Some seconds
 cutoff_of (Ok (Remember seconds)) = None
 cutoff_of (Ok (Patience seconds)) = None
 cutoff_of (Ok (Sync seconds)) = None
+cutoff_of (Ok (Offers seconds)) = None
 cutoff_of (Ok (Bind address)) = None
 cutoff_of (Ok (PeerLine name identity port)) = None
 cutoff_of (Ok (ConnectionsLine name connections)) = None
@@ -74,6 +77,7 @@ remember_of (Ok (Cutoff seconds)) = None
 remember_of (Ok (Remember seconds)) = Some seconds
 remember_of (Ok (Patience seconds)) = None
 remember_of (Ok (Sync seconds)) = None
+remember_of (Ok (Offers seconds)) = None
 remember_of (Ok (Bind address)) = None
 remember_of (Ok (PeerLine name identity port)) = None
 remember_of (Ok (ConnectionsLine name connections)) = None
@@ -90,6 +94,7 @@ patience_of (Ok (Cutoff seconds)) = None
 patience_of (Ok (Remember seconds)) = None
 patience_of (Ok (Patience seconds)) = Some seconds
 patience_of (Ok (Sync seconds)) = None
+patience_of (Ok (Offers seconds)) = None
 patience_of (Ok (Bind address)) = None
 patience_of (Ok (PeerLine name identity port)) = None
 patience_of (Ok (ConnectionsLine name connections)) = None
@@ -106,11 +111,29 @@ sync_of (Ok (Cutoff seconds)) = None
 sync_of (Ok (Remember seconds)) = None
 sync_of (Ok (Patience seconds)) = None
 sync_of (Ok (Sync seconds)) = Some seconds
+sync_of (Ok (Offers seconds)) = None
 sync_of (Ok (Bind address)) = None
 sync_of (Ok (PeerLine name identity port)) = None
 sync_of (Ok (ConnectionsLine name connections)) = None
 sync_of (Ok (AllowLine name ranges)) = None
 sync_of (Ok (FeedLine name ring expression)) = None
+
+-- after how long a line says that an offer runs out
+abbrev pub offers_of : SaidLine → Option ℕ
+offers_of (Err fault) = None
+offers_of (Ok Skipped) = None
+offers_of (Ok (Own identity)) = None
+offers_of (Ok (MaxArticle octets)) = None
+offers_of (Ok (Cutoff seconds)) = None
+offers_of (Ok (Remember seconds)) = None
+offers_of (Ok (Patience seconds)) = None
+offers_of (Ok (Sync seconds)) = None
+offers_of (Ok (Offers seconds)) = Some seconds
+offers_of (Ok (Bind address)) = None
+offers_of (Ok (PeerLine name identity port)) = None
+offers_of (Ok (ConnectionsLine name connections)) = None
+offers_of (Ok (AllowLine name ranges)) = None
+offers_of (Ok (FeedLine name ring expression)) = None
 
 -- the address that a line says
 abbrev pub bind_of : SaidLine → Option (List ℕ)
@@ -122,6 +145,7 @@ bind_of (Ok (Cutoff seconds)) = None
 bind_of (Ok (Remember seconds)) = None
 bind_of (Ok (Patience seconds)) = None
 bind_of (Ok (Sync seconds)) = None
+bind_of (Ok (Offers seconds)) = None
 bind_of (Ok (Bind address)) = Some address
 bind_of (Ok (PeerLine name identity port)) = None
 bind_of (Ok (ConnectionsLine name connections)) = None
@@ -138,6 +162,7 @@ peer_of (Ok (Cutoff seconds)) = None
 peer_of (Ok (Remember seconds)) = None
 peer_of (Ok (Patience seconds)) = None
 peer_of (Ok (Sync seconds)) = None
+peer_of (Ok (Offers seconds)) = None
 peer_of (Ok (Bind address)) = None
 peer_of (Ok (PeerLine name identity port)) =
     Some (record { name = name; identity = identity; port = port; connections = 1 })
@@ -155,6 +180,7 @@ connections_of (Ok (Cutoff seconds)) = None
 connections_of (Ok (Remember seconds)) = None
 connections_of (Ok (Patience seconds)) = None
 connections_of (Ok (Sync seconds)) = None
+connections_of (Ok (Offers seconds)) = None
 connections_of (Ok (Bind address)) = None
 connections_of (Ok (PeerLine name identity port)) = None
 connections_of (Ok (ConnectionsLine name connections)) =
@@ -172,6 +198,7 @@ feed_name_of (Ok (Cutoff seconds)) = None
 feed_name_of (Ok (Remember seconds)) = None
 feed_name_of (Ok (Patience seconds)) = None
 feed_name_of (Ok (Sync seconds)) = None
+feed_name_of (Ok (Offers seconds)) = None
 feed_name_of (Ok (Bind address)) = None
 feed_name_of (Ok (PeerLine name identity port)) = None
 feed_name_of (Ok (ConnectionsLine name connections)) = None
@@ -188,6 +215,7 @@ name_in (Ok (Cutoff seconds)) = None
 name_in (Ok (Remember seconds)) = None
 name_in (Ok (Patience seconds)) = None
 name_in (Ok (Sync seconds)) = None
+name_in (Ok (Offers seconds)) = None
 name_in (Ok (Bind address)) = None
 name_in (Ok (PeerLine name identity port)) = None
 name_in (Ok (ConnectionsLine name connections)) = Some name
@@ -213,6 +241,7 @@ feed_of peers (Ok (Cutoff seconds)) = None
 feed_of peers (Ok (Remember seconds)) = None
 feed_of peers (Ok (Patience seconds)) = None
 feed_of peers (Ok (Sync seconds)) = None
+feed_of peers (Ok (Offers seconds)) = None
 feed_of peers (Ok (Bind address)) = None
 feed_of peers (Ok (PeerLine name identity port)) = None
 feed_of peers (Ok (ConnectionsLine name connections)) = None
@@ -234,6 +263,7 @@ allows_of peers (Ok (Cutoff seconds)) = []
 allows_of peers (Ok (Remember seconds)) = []
 allows_of peers (Ok (Patience seconds)) = []
 allows_of peers (Ok (Sync seconds)) = []
+allows_of peers (Ok (Offers seconds)) = []
 allows_of peers (Ok (Bind address)) = []
 allows_of peers (Ok (PeerLine name identity port)) = []
 allows_of peers (Ok (ConnectionsLine name connections)) = []
@@ -248,6 +278,7 @@ pub record Stand : Type 0 where
   pub remembers : List ℕ
   pub patiences : List ℕ
   pub syncs : List ℕ
+  pub offers : List ℕ
   pub binds : List (List ℕ)
   pub peers : List Peer
   pub connections : List PeerConnections
@@ -263,6 +294,7 @@ stand_of said =
       remembers = filter_map remember_of said;
       patiences = filter_map patience_of said;
       syncs = filter_map sync_of said;
+      offers = filter_map offers_of said;
       binds = filter_map bind_of said;
       peers = filter_map peer_of said;
       connections = filter_map connections_of said;
@@ -297,6 +329,7 @@ line_fault stand (Ok (Cutoff seconds)) = once stand.cutoffs
 line_fault stand (Ok (Remember seconds)) = once stand.remembers
 line_fault stand (Ok (Patience seconds)) = once stand.patiences
 line_fault stand (Ok (Sync seconds)) = once stand.syncs
+line_fault stand (Ok (Offers seconds)) = once stand.offers
 line_fault stand (Ok (Bind address)) = once stand.binds
 line_fault stand (Ok (PeerLine name identity port)) = peer_fault stand.peers name
 line_fault stand (Ok (ConnectionsLine name connections)) =
@@ -340,6 +373,7 @@ pub record RelaySettings : Type 0 where
   pub remember : Option ℕ
   pub patience : ℕ
   pub sync : Option ℕ
+  pub offers : Option ℕ
   pub bind : List ℕ
   pub peers : List Peer
   pub feeds : List Feed
@@ -376,6 +410,7 @@ settings_of said =
       remember = first_of (stand_of said).remembers;
       patience = first_or 3600 (stand_of said).patiences;
       sync = first_of (stand_of said).syncs;
+      offers = first_of (stand_of said).offers;
       bind = first_or each_address (stand_of said).binds;
       peers = map (connected (stand_of said).connections) (stand_of said).peers;
       feeds = filter_map (feed_of (stand_of said).peers) said;

@@ -22,7 +22,7 @@ use Rattle.relay_conf.specs.declared.relay.RelayDraft.{RelayDraft}
 use Rattle.relay_conf.specs.Faults.{whole_fault, unless_fault}
 use Rattle.relay_conf.specs.Drafts.{ReadingGives}
 use Rattle.relay_conf.specs.RelayLines.{RelayLine, RawLine, SaidLine, RawSays, Skipped, Own}
-use Rattle.relay_conf.specs.RelayLines.{MaxArticle, Cutoff, Remember, Patience, Sync, Bind}
+use Rattle.relay_conf.specs.RelayLines.{MaxArticle, Cutoff, Remember, Patience, Sync, Offers, Bind}
 use Rattle.relay_conf.specs.RelayLines.{PeerLine, ConnectionsLine, AllowLine, FeedLine}
 use Rattle.relay_conf.specs.Relay.{Stand, stand_of, connected, each_address, line_fault}
 use Rattle.relay_conf.specs.Relay.{peer_number, is_peer, allow_of, no_own_fault, RelaySettings}
@@ -35,6 +35,7 @@ pub record Reading : Type 0 where
   pub remember : Option ℕ
   pub patience : Option ℕ
   pub sync : Option ℕ
+  pub offers : Option ℕ
   pub bind : Option (List ℕ)
   pub peers : List Peer
   pub connections : List PeerConnections
@@ -52,6 +53,7 @@ draft_view d =
       remember = d.remember;
       patience = d.patience;
       sync = d.sync;
+      offers = d.offers;
       bind = d.bind;
       peers = d.peers.items;
       connections = d.connections.items;
@@ -70,6 +72,7 @@ nothing =
       remember = None;
       patience = None;
       sync = None;
+      offers = None;
       bind = None;
       peers = [];
       connections = [];
@@ -92,6 +95,7 @@ stand_view r =
       remembers = option_to_list r.remember;
       patiences = option_to_list r.patience;
       syncs = option_to_list r.sync;
+      offers = option_to_list r.offers;
       binds = option_to_list r.bind;
       peers = r.peers;
       connections = r.connections;
@@ -111,6 +115,7 @@ after_line number r (Cutoff seconds) = record r { cutoff = Some seconds }
 after_line number r (Remember seconds) = record r { remember = Some seconds }
 after_line number r (Patience seconds) = record r { patience = Some seconds }
 after_line number r (Sync seconds) = record r { sync = Some seconds }
+after_line number r (Offers seconds) = record r { offers = Some seconds }
 after_line number r (Bind address) = record r { bind = Some address }
 after_line number r (PeerLine name identity port) =
     record r {
@@ -197,6 +202,7 @@ named_feed_of (Ok (Cutoff seconds)) = None
 named_feed_of (Ok (Remember seconds)) = None
 named_feed_of (Ok (Patience seconds)) = None
 named_feed_of (Ok (Sync seconds)) = None
+named_feed_of (Ok (Offers seconds)) = None
 named_feed_of (Ok (Bind address)) = None
 named_feed_of (Ok (PeerLine name identity port)) = None
 named_feed_of (Ok (ConnectionsLine name connections)) = None
@@ -214,6 +220,7 @@ named_allows_of (Ok (Cutoff seconds)) = []
 named_allows_of (Ok (Remember seconds)) = []
 named_allows_of (Ok (Patience seconds)) = []
 named_allows_of (Ok (Sync seconds)) = []
+named_allows_of (Ok (Offers seconds)) = []
 named_allows_of (Ok (Bind address)) = []
 named_allows_of (Ok (PeerLine name identity port)) = []
 named_allows_of (Ok (ConnectionsLine name connections)) = []
@@ -230,6 +237,7 @@ named_of number (Ok (Cutoff seconds)) = None
 named_of number (Ok (Remember seconds)) = None
 named_of number (Ok (Patience seconds)) = None
 named_of number (Ok (Sync seconds)) = None
+named_of number (Ok (Offers seconds)) = None
 named_of number (Ok (Bind address)) = None
 named_of number (Ok (PeerLine name identity port)) = None
 named_of number (Ok (ConnectionsLine name connections)) =
@@ -287,6 +295,7 @@ reading_settings r =
       remember = r.remember;
       patience = unwrap_or r.patience 3600;
       sync = r.sync;
+      offers = r.offers;
       bind = unwrap_or r.bind each_address;
       peers = map (connected r.connections) r.peers;
       feeds = map (numbered_feed r.peers) r.feeds;

@@ -30,6 +30,8 @@ pub data RelayLine (E : Type 0) : Type 0 where
   Patience : (seconds : ℕ) → RelayLine E
   -- `sync N`
   Sync : (seconds : ℕ) → RelayLine E
+  -- `offers N`
+  Offers : (seconds : ℕ) → RelayLine E
   -- `bind ADDRESS`
   Bind : (address : List ℕ) → RelayLine E
   -- `peer NAME IDENTITY PORT`
@@ -205,6 +207,8 @@ relay_words (word ∷ after) =
     then with_number Patience (number_line 1 86400 (one_of after))
     else if bytes_eq word (codes "sync")
     then with_number Sync (number_line 1 86400 (one_of after))
+    else if bytes_eq word (codes "offers")
+    then with_number Offers (number_line 1 86400 (one_of after))
     else if bytes_eq word (codes "bind") then bind_line (one_of after)
     else if bytes_eq word (codes "peer") then peer_line (three_of after)
     else if bytes_eq word (codes "connections") then connections_line (two_of after)
@@ -240,6 +244,7 @@ RawSays (Ok (Cutoff seconds)) said = said ≡ Ok (Cutoff seconds)
 RawSays (Ok (Remember seconds)) said = said ≡ Ok (Remember seconds)
 RawSays (Ok (Patience seconds)) said = said ≡ Ok (Patience seconds)
 RawSays (Ok (Sync seconds)) said = said ≡ Ok (Sync seconds)
+RawSays (Ok (Offers seconds)) said = said ≡ Ok (Offers seconds)
 RawSays (Ok (Bind address)) said = said ≡ Ok (Bind address)
 RawSays (Ok (PeerLine name identity port)) said = said ≡ Ok (PeerLine name identity port)
 RawSays (Ok (ConnectionsLine name connections)) said = said ≡ Ok (ConnectionsLine name connections)

@@ -30,3 +30,4 @@ pub record IsSoundRelay (settings : RelaySettings) : Type 0 where
   pub some_patience : 1 ≤ settings.patience
   pub most_patience : settings.patience ≤ 86400
   pub sync : ForSome settings.sync (λ seconds. (1 ≤ seconds) × (seconds ≤ 86400))
+  pub offers : ForSome settings.offers (λ seconds. (1 ≤ seconds) × (seconds ≤ 86400))

@@ -28,6 +28,8 @@ pub(crate) enum Line<'a> {
     Patience(u32),
     /// The seconds between two flushes of the files.
     Sync(u64),
+    /// The seconds after which an offer runs out.
+    Offers(u64),
     /// The address on which ports listen.
     Bind([u8; 4]),
     /// A peer: its name, its identity and its port.
@@ -48,6 +50,7 @@ pub(crate) enum Limit {
     Remember,
     Patience,
     Sync,
+    Offers,
 }
 
 /// Reads a line alone, but for the expression of a feed.
@@ -80,6 +83,8 @@ fn line_of<'a>(word: &[u8], rest: &'a [u8]) -> Result<Line<'a>, Fault>
         limit_line(Limit::Patience, 1, 86_400, rest)
     } else if is(word, b"sync") {
         limit_line(Limit::Sync, 1, 86_400, rest)
+    } else if is(word, b"offers") {
+        limit_line(Limit::Offers, 1, 86_400, rest)
     } else if is(word, b"bind") {
         bind_line(rest)
     } else if is(word, b"peer") {
@@ -117,6 +122,7 @@ fn limit_line<'a>(limit: Limit, least: u64, most: u32, rest: &[u8]) -> Result<Li
         Limit::Remember => Ok(Line::Remember(number)),
         Limit::Patience => Ok(Line::Patience(number as u32)),
         Limit::Sync => Ok(Line::Sync(number)),
+        Limit::Offers => Ok(Line::Offers(number)),
     }
 }
 

@@ -78,6 +78,8 @@ pub struct Relay {
     /// The seconds between two flushes of the files of the buffers while the relay is served;
     /// without it there is none.
     pub sync: Option<u64>,
+    /// The seconds after which an offer runs out; without it none does.
+    pub offers: Option<u64>,
     /// The address of the machine on which ports listen; 0.0.0.0 stands for all.
     pub bind: Ipv4Addr,
     pub peers: Vec<Peer>,
@@ -91,6 +93,7 @@ pub struct Relay {
       remember = remember;
       patience = patience;
       sync = sync;
+      offers = offers;
       bind = ipv4_octets bind;
       peers = peers.items;
       feeds = feeds.items;
@@ -108,6 +111,7 @@ impl Drop for Relay {
             remember: _,
             patience: _,
             sync: _,
+            offers: _,
             bind: _,
             peers: _,
             feeds: _,

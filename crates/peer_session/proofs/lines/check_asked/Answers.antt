@@ -15,5 +15,5 @@ returns c =
     let id = c.args.id in
     let asked = c.in_ok-room.copy in
     IsOffered (sym c.is_full.ensures ∙ c.if-is_full.false)
-    (ap (λ room. (todos.Check id room, steps.Offer asked)) c.in_ok-room.ensures.room
-    ∙ ap (λ copy. (todos.Check id 0, steps.Offer copy)) c.in_ok-room.ensures.copy)
+    (ap (λ room. (todos.Check id room c.args.now, steps.Offer asked)) c.in_ok-room.ensures.room
+    ∙ ap (λ copy. (todos.Check id 0 c.args.now, steps.Offer copy)) c.in_ok-room.ensures.copy)

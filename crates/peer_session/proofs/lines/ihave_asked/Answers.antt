@@ -13,9 +13,10 @@ returns-then-is_full c =
 pub returns : goal.returns
 returns c =
     let id = c.args.id in
+    let now = c.args.now in
     let copy = c.in_ok-copy.copy in
     let asked = c.in_ok-room.asked in
     IsOffered (sym c.is_full.ensures ∙ c.if-is_full.false)
-    (ap (λ one. (todos.Ihave id one c.in_ok-room.room, steps.Offer asked)) c.in_ok-copy.ensures
-    ∙ ap (λ room. (todos.Ihave id id room, steps.Offer asked)) c.in_ok-room.ensures.room
-    ∙ ap (λ one. (todos.Ihave id id 0, steps.Offer one)) c.in_ok-room.ensures.copy)
+    (ap (λ one. (todos.Ihave id one c.in_ok-room.room now, steps.Offer asked)) c.in_ok-copy.ensures
+    ∙ ap (λ room. (todos.Ihave id id room now, steps.Offer asked)) c.in_ok-room.ensures.room
+    ∙ ap (λ one. (todos.Ihave id id 0 now, steps.Offer one)) c.in_ok-room.ensures.copy)

@@ -2,6 +2,7 @@ use Rattle.std.proofs.Common.{◌≡◌, ◌≢◌, ◌<◌, ◌+◌, ◌-◌, �
 use Rattle.std.proofs.Common.{None, Some}
 use Rattle.std.proofs.lemmas.Grind.{get_or_default_zero}
 use Rattle.peer_session.specs.Chains.{FromNewer}
+use Rattle.peer_session.specs.Places.{ids_of}
 use Rattle.peer_session.proofs.ChainLemmas.{older_place}
 use Rattle.peer_session.proofs.chains.Chains.find.Goals as goal
 
@@ -19,7 +20,8 @@ pub loop-link-preserved : goal.loop-link-preserved
 loop-link-preserved c =
     let place = c.loop-link.link - 1 in
     let here : c.loop-link.link ≡ place + 1 = omega arith in
-    let within : place < length c.args.ids.now = omega (arith, c.loop-link.invariant.within) in
+    let within : place < length (ids_of c.args.offers.now) =
+    omega (arith, c.loop-link.invariant.within) in
     let in_buckets : place < length c.args.self.now.buckets.items =
     omega (arith, c.requires.chains.bucket_each) in
     let in_older : place < length c.args.self.now.older.items =
@@ -28,7 +30,7 @@ loop-link-preserved c =
     c.loop-link.invariant.same place here in
     let next : c.index-link-in-loop-link.result.now ≡ get_or c.args.self.now.older.items place 0 =
     c.index-link-in-loop-link.ensures ∙ get_or_default_zero _ _ _ in_older in
-    let other : get_or c.args.ids.now place None ≢ Some c.args.id.now = search rules in
+    let other : get_or (ids_of c.args.offers.now) place None ≢ Some c.args.id.now = search rules in
     record {
       within = omega (arith, c.requires.chains.older_below place);
       leads = FromNewer place here in_buckets same (sym next);

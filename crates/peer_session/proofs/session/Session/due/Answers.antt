@@ -11,10 +11,12 @@ use Rattle.peer_session.proofs.session.Session.due.Goals as goal
 
 pub returns-in-Ready : goal.returns-in-Ready
 returns-in-Ready c = record {
-  due = c.line_due.ensures.due;
-  err = c.line_due.ensures.err;
-  free = λ free. c.line_due.ensures.free
-      (free_in c.args.self.now phases.Ready c.in-Ready.is free);
+  due = c.command_due.ensures.due;
+  err = c.command_due.ensures.err;
+  free = λ free.
+      let none = free_in (terms_of c.args.config.now).offers c.args.now c.args.self.now
+      phases.Ready c.in-Ready.is free in
+      c.command_due.ensures.free none.0 none.1;
   bounded = none_owed c.args.self.now.phase phases.Ready c.in-Ready.is refl;
 }
 
@@ -23,7 +25,7 @@ returns-in-AwaitsBlock c = record {
   due = c.block_due.ensures.due;
   err = c.block_due.ensures.err;
   free = λ free. c.block_due.ensures.free
-      (free_in c.args.self.now
+      (free_in (terms_of c.args.config.now).offers c.args.now c.args.self.now
       (phases.AwaitsBlock c.in-AwaitsBlock.field-0 c.in-AwaitsBlock.field-1) c.in-AwaitsBlock.is
       free);
   bounded = λ owed. c.block_due.ensures.bounded;
@@ -39,7 +41,7 @@ returns-in-Holds c =
           (plans_held w c.args.self.now c.args.now c.in-Holds.id c.in-Holds.field-1
           c.in-Holds.field-2 due c.in-Holds.is asked)) c.held_due.ensures;
       err = on_err c.held_due.result (stands_same c.args.self.now phase c.in-Holds.is);
-      free = λ free. absurd (free_in c.args.self.now phase c.in-Holds.is free);
+      free = λ free. absurd (free_in (terms_of c.args.config.now).offers c.args.now c.args.self.now phase c.in-Holds.is free);
       bounded = none_owed c.args.self.now.phase phase c.in-Holds.is refl;
     }
 
@@ -67,7 +69,7 @@ returns-in-Fetches c =
           (c.in-Fetches.is ∙ ap phases.Fetches (sym same)))
           c.reading_due.ensures.err;
       free = λ free. c.reading_due.ensures.free
-          (free_in c.args.self.now phase c.in-Fetches.is free);
+          (free_in (terms_of c.args.config.now).offers c.args.now c.args.self.now phase c.in-Fetches.is free);
       bounded = none_owed c.args.self.now.phase phase c.in-Fetches.is refl;
     }
 
@@ -78,7 +80,7 @@ returns-in-Leaving c = record {
       c.args.self.now.offers due c.in-Leaving.is refl refl asked) c.leaving_due.ensures.due;
   err = on_err c.leaving_due.result (λ w m gathered stands. stands);
   free = λ free. c.leaving_due.ensures.free
-      (free_in c.args.self.now phases.Leaving c.in-Leaving.is free);
+      (free_in (terms_of c.args.config.now).offers c.args.now c.args.self.now phases.Leaving c.in-Leaving.is free);
   bounded = none_owed c.args.self.now.phase phases.Leaving c.in-Leaving.is refl;
 }
 

@@ -11,7 +11,8 @@ returns c =
     c.kept.ensures
     ∙ ap (λ dropped. drop dropped c.args.self.now.cutter.unread) c.requires.shown.kept in
     plans_line (terms_of c.args.config.now) c.args.self.now c.args.now c.args.end
-    (c.in_ok-todo.todo, c.in_ok-todo.step) c.requires.ready c.requires.shown
+    (c.in_ok-todo.todo, c.in_ok-todo.step) c.requires.ready c.requires.lasting
+    c.requires.shown
     (subst (λ octets. IsAskedBy (terms_of c.args.config.now) c.args.now c.args.self.now
     (command_of (take c.args.end octets)) (c.in_ok-todo.todo, c.in_ok-todo.step)) kept
     c.in_ok-todo.ensures)

@@ -95,10 +95,11 @@ returns-in-Check c =
       heard = checks c.args.number had c.hear_offer.new.self c.args.answer
           c.hear_offer.result.items
           c.args.self.now.planned c.args.planned.read c.in-Check.id c.in-Check.room
+          c.in-Check.since
           (was_planned had c.args.planned _ refl c.in-Check.is)
           (λ told is free ready. c.hear_offer.ensures.heard told is not_ihave free ready);
       given = not_read had c.hear_offer.new.self c.args.answer c.hear_offer.result.items
-          (todos.Check c.in-Check.id c.in-Check.room) c.args.planned.read refl
+          (todos.Check c.in-Check.id c.in-Check.room c.in-Check.since) c.args.planned.read refl
           (was_planned had c.args.planned _ refl c.in-Check.is);
       other = λ other. c.hear_offer.ensures.other
           (subst (λ todo. IsOther todo c.args.answer) c.in-Check.is other);
@@ -111,13 +112,14 @@ returns-in-Ihave c =
       heard = offers c.args.number had c.hear_offer-in-Ihave.new.self c.args.answer
           c.hear_offer-in-Ihave.result.items
           c.args.self.now.planned c.args.planned.read c.in-Ihave.id c.in-Ihave.copy c.in-Ihave.room
+          c.in-Ihave.since
           (was_planned had c.args.planned _ refl c.in-Ihave.is)
           (λ told is same free ready.
           c.hear_offer-in-Ihave.ensures.heard told is (λ has. ap (λ (x : List ℕ). Some x) same) free
           ready);
       given = not_read had c.hear_offer-in-Ihave.new.self c.args.answer
           c.hear_offer-in-Ihave.result.items
-          (todos.Ihave c.in-Ihave.id c.in-Ihave.copy c.in-Ihave.room) c.args.planned.read refl
+          (todos.Ihave c.in-Ihave.id c.in-Ihave.copy c.in-Ihave.room c.in-Ihave.since) c.args.planned.read refl
           (was_planned had c.args.planned _ refl c.in-Ihave.is);
       other = λ other. c.hear_offer-in-Ihave.ensures.other
           (subst (λ todo. IsOther todo c.args.answer) c.in-Ihave.is other);

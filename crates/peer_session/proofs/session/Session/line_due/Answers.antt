@@ -28,6 +28,7 @@ returns-in_ok-todo-in-TooLong-clause-due c =
     (with_stream old stream)) (sym c.find_line.ensures.same)
     (plans_too_long (terms_of c.args.config.now) old c.args.now
     (c.in_ok-todo-in-TooLong.todo, c.in_ok-todo-in-TooLong.step) c.requires.ready
+    c.requires.lasting
     (not_passing old.cutter (sym c.is_passing.ensures ∙ c.if-is_passing.false)) found
     c.in_ok-todo-in-TooLong.ensures)
 
@@ -41,4 +42,5 @@ returns-in-Incomplete-clause-due c =
     (subst (λ stream. Plans (terms_of c.args.config.now) old c.args.now
     (record { todo = todos.Rest; read = 0; step = steps.Nothing })
     (with_stream old stream)) (sym c.find_line.ensures.same)
-    (rests_ready (terms_of c.args.config.now) old c.args.now c.requires.ready found))
+    (rests_ready (terms_of c.args.config.now) old c.args.now c.requires.ready c.requires.lasting
+    found))

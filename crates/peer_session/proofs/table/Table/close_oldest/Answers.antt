@@ -1,44 +1,50 @@
-use Rattle.std.proofs.Common.{◌≡◌, ◌<◌, ◌∙◌, [], arith, rules, length}
-use Rattle.peer_session.specs.Places.{open_ids}
-use Rattle.peer_session.proofs.PlaceLemmas.{one_fewer, still_once, first_of, none_of}
+use Rattle.std.proofs.Common.{◌≡◌, ◌<◌, ◌∙◌, [], arith, ap, rules, length, get_or, None, Some, subst, sym}
+use Rattle.std.specs.Prelude.{option_map}
+use Rattle.peer_session.specs.Chains.{AreChains}
+use Rattle.peer_session.specs.Places.{ids_of, open_offers}
+use Rattle.peer_session.specs.declared.chains.Opened.{Opened}
 use Rattle.peer_session.proofs.ChainLemmas.{linked_fewer}
-use Rattle.peer_session.proofs.TableLemmas.{first_place, matched}
+use Rattle.peer_session.proofs.OfferLemmas.{as_many_ids, fewer_open, first_offer, ids_set}
+use Rattle.peer_session.proofs.OfferLemmas.{none_open, oldest_of, once_ended}
+use Rattle.peer_session.proofs.TableLemmas.{matched}
 use Rattle.peer_session.proofs.table.Table.close_oldest.Goals as goal
 
 pub returns-then-self-len-clause-closed : goal.returns-then-self-len-clause-closed
 returns-then-self-len-clause-closed c =
-    let none : open_ids c.args.self.now.ids.items ≡ [] = none_of c.args.self.now.ids.items
+    let none : open_offers c.args.self.now.offers.items ≡ [] =
+    none_open c.args.self.now.offers.items
     (λ j lt. c.requires.first.before j (omega (arith, c.if-self-len.true, c.len.ensures))) in
     (none, none)
 
 pub overflow_sub-self : goal.overflow_sub-self
 overflow_sub-self c =
-    let lt : c.args.self.now.first < length c.args.self.now.ids.items =
-    omega (arith, c.requires.first.within) in
-    let had = c.requires.first.first_open lt in
+    let places = c.args.self.now.offers.items in
+    let had = c.requires.first.first_open
+    (omega (arith, c.requires.first.within, as_many_ids c.args.self.now.offers.items)) in
     omega (
       arith,
       c.requires.counted,
-      one_fewer c.args.self.now.ids.items c.args.self.now.first had.0 had.1,
+      fewer_open c.args.self.now.offers.items c.args.self.now.first had.0 had.1,
     )
 
 pub returns-clause-table : goal.returns-clause-table
 returns-clause-table c =
-    let places = c.args.self.now.ids.items in
-    let lt : c.args.self.now.first < length c.args.self.now.ids.items =
-    omega (arith, c.requires.first.within) in
-    let had = c.requires.first.first_open lt in
-    rw c.take-id.ensures.after (record {
-      chains = linked_fewer c.args.self.now.first c.requires.chains;
+    let places = c.args.self.now.offers.items in
+    let had = c.requires.first.first_open
+    (omega (arith, c.requires.first.within, as_many_ids c.args.self.now.offers.items)) in
+    rw c.take-one.ensures.after (record {
+      chains = subst (λ ids. AreChains ids c.args.self.now.chains)
+          (sym (ids_set places c.args.self.now.first))
+          (linked_fewer c.args.self.now.first c.requires.chains);
       chain_room = c.requires.chain_room;
-      once = still_once places c.args.self.now.first had.0 had.1 c.requires.once;
+      once = once_ended places c.args.self.now.first had.0 had.1 c.requires.once;
       counted = omega (
         arith,
         c.requires.counted,
-        one_fewer places c.args.self.now.first had.0 had.1,
+        fewer_open places c.args.self.now.first had.0 had.1,
       );
       few = omega (arith, c.requires.few);
-      first = rw (← c.take-id.ensures.after)
+      first = rw (← c.take-one.ensures.after)
           (rw c.deref.ensures.value at c.first_from-self.ensures);
       within = search rules;
       room = search rules;
@@ -46,11 +52,11 @@ returns-clause-table c =
 
 pub returns-clause-closed : goal.returns-clause-closed
 returns-clause-closed c =
-    let places = c.args.self.now.ids.items in
-    let lt : c.args.self.now.first < length c.args.self.now.ids.items =
-    omega (arith, c.requires.first.within) in
-    let taken = first_place places c.args.self.now.first c.index_mut.result.now c.requires.first lt
+    let places = c.args.self.now.offers.items in
+    let lt : c.args.self.now.first < length c.args.self.now.offers.items =
+    omega (arith, c.requires.first.within, as_many_ids c.args.self.now.offers.items) in
+    let taken = first_offer places c.args.self.now.first c.index_mut.result.now c.requires.first lt
     c.index_mut.ensures.value in
-    rw c.take-id.ensures.after (matched c.take-id.result taken.0 _ _
-    (c.take-id.ensures.value ∙ taken.1.0)
-    (first_of places c.args.self.now.first taken.0 c.requires.first.before taken.1.1))
+    rw c.take-one.ensures.after (matched c.take-one.result taken.0 _ _
+    (c.take-one.ensures.value ∙ taken.1.0)
+    (oldest_of places c.args.self.now.first taken.0 c.requires.first.before taken.1.1))

@@ -1,5 +1,6 @@
 use Rattle.std.proofs.Common.{refl, ap, Some, Ok, List, ℕ, Option}
 use Rattle.relay_conf.specs.RelayLines.{Skipped, Own, MaxArticle, Cutoff, Remember, Patience, Sync}
+use Rattle.relay_conf.specs.RelayLines.{Offers}
 use Rattle.relay_conf.specs.RelayLines.{PeerLine, Bind}
 use Rattle.relay_conf.specs.RelayDraft.{Reading, draft_view, after_line}
 use Rattle.relay_conf.proofs.LinesRead.{read_by}
@@ -79,6 +80,17 @@ returns-in-Sync c = λ listed.
       step = read_by _ _ (after_line c.args.number) _
           (λ (slot : Option ℕ). draft_view (record c.args.self.now { sync = slot })) _ _
           (Sync c.in-Sync.seconds) set.result refl set.ensures.fault set.ensures.set refl;
+      listed = still set.result listed;
+    })
+
+pub returns-in-Offers : goal.returns-in-Offers
+returns-in-Offers c = λ listed.
+    let set = c.set_once-in-Offers in
+    rw c.in-Offers.is
+    (record {
+      step = read_by _ _ (after_line c.args.number) _
+          (λ (slot : Option ℕ). draft_view (record c.args.self.now { offers = slot })) _ _
+          (Offers c.in-Offers.seconds) set.result refl set.ensures.fault set.ensures.set refl;
       listed = still set.result listed;
     })
 
