@@ -13,6 +13,7 @@ use Rattle.news_terms.specs.Lines.{NextLine, Cut, TooLong, Incomplete, next_line
 use Rattle.news_terms.specs.Token.{Token}
 use Rattle.peer_session.specs.Given.{ReadAny}
 use Rattle.relay_model.specs.Asks.{Ask, Rests, GoesOn, Says, Leaves, Offers, Looks, Reads}
+use Rattle.relay_model.specs.Asks.{IsDueAtCommand, run_out, with_offer}
 use Rattle.relay_model.specs.Asks.{TakesQueue, Refuses, Takes, Pushes, LooksInSlot, Releases, Ends}
 use Rattle.relay_model.specs.Asks.{Due, due_as, offer_asked, is_full, later, queue_asked, feed_of}
 use Rattle.relay_model.specs.Asks.{TokenAsked, IsRead, IsNone, IsDueIn, IsDueOfCommand}
@@ -28,7 +29,7 @@ use Rattle.relay_model.specs.Shares.{Answer}
 use Rattle.relay_model.specs.State.{Session, Phase, Ready, AwaitsBlock, Holds, Waits, Fetches}
 use Rattle.relay_model.specs.State.{Leaving}
 use Rattle.relay_model.specs.State.{Ended, Transfer, TakesThis, Has, Job, Asked, in_phase}
-use Rattle.relay_model.specs.State.{with_unread, with_offers}
+use Rattle.relay_model.specs.State.{OpenOffer, with_unread, with_offers}
 use Rattle.relay_model.specs.Terms.{Terms, Reason}
 use Rattle.relay_model.specs.World.{Outcome, IsKept, HasFailed}
 
@@ -74,11 +75,14 @@ due_is before ask after fits d e =
 
 module _ (before : Session) where
   -- CHECK and IHAVE
-  offer_fits : (one : Session) (transfer : Transfer) (id : List ℕ) → is_running one.phase ≡ true
-      → FitsDue before (offer_asked one transfer id) one
-  offer_fits one transfer id runs =
-      cond_both (is_full one.offers id) (Says (later transfer id)) (Offers transfer id)
-      (λ ask. FitsDue before ask one) (λ e. runs) (λ e. runs)
+  offer_fits : (one : Session) (now : ℕ) (transfer : Transfer) (id : List ℕ)
+      → is_running one.phase ≡ true
+      → FitsDue before (offer_asked one now transfer id).ask
+      (offer_asked one now transfer id).after
+  offer_fits one now transfer id runs =
+      cond_both (is_full one.offers id) (due_as (Says (later transfer id)) one)
+      (due_as (Offers transfer id) (with_offers one (with_offer one.offers id now)))
+      (λ due. FitsDue before due.ask due.after) (λ e. runs) (λ e. runs)
 
   -- XTAKE
   queue_fits : (one : Session) (most : ℕ) (feed : Option ℕ) → is_running one.phase ≡ true
@@ -99,9 +103,10 @@ module _ (before : Session) where
       → is_running one.phase ≡ true → IsDueOfCommand w one now command d
       → FitsDue before d.ask d.after
   command_fits w one now (Check id) d runs e =
-      due_is before (offer_asked one TakesThis id) one (offer_fits one TakesThis id runs) d e
+      subst (λ due. FitsDue before due.ask due.after) (sym e)
+      (offer_fits one now TakesThis id runs)
   command_fits w one now (Ihave id) d runs e =
-      due_is before (offer_asked one Has id) one (offer_fits one Has id runs) d e
+      subst (λ due. FitsDue before due.ask due.after) (sym e) (offer_fits one now Has id runs)
   command_fits w one now (TakeThis id) d runs e =
       due_is before GoesOn (in_phase one (AwaitsBlock TakesThis id)) refl d e
   command_fits w one now (Fetch part id) d runs e = due_is before (Looks part id) one runs d e
@@ -168,19 +173,28 @@ waiting_fits one transfer id None runs = runs
 waiting_fits one transfer id (Some job) runs = runs
 
 -- where it leaves
-leaving_fits : (one : Session) (hand : Option Job) (offers : List (List ℕ)) → one.hand ≡ hand
+leaving_fits : (one : Session) (hand : Option Job) (offers : List OpenOffer) → one.hand ≡ hand
     → one.offers ≡ offers → is_running one.phase ≡ true → (d : Due)
     → d ≡ leaving_due one hand offers → FitsDue one d.ask d.after
 leaving_fits one (Some job) offers holds is runs d e = due_is one (Pushes job) one runs d e
 leaving_fits one None [] holds is runs d e = due_is one Ends one (holds, is) d e
-leaving_fits one None (id ∷ offers) holds is runs d e =
-    due_is one (Releases id) (with_offers one offers) runs d e
+leaving_fits one None (offer ∷ offers) holds is runs d e =
+    due_is one (Releases offer.id) (with_offers one offers) runs d e
+
+-- where a command is due
+at_command_fits : (w : Terms) (one : Session) (now : ℕ)
+    (ended : Option (OpenOffer × List OpenOffer)) (d : Due) → is_running one.phase ≡ true
+    → IsDueAtCommand w one now ended d → FitsDue one d.ask d.after
+at_command_fits w one now None d runs e =
+    ready_fits w one now (next_line one.unread) d runs e
+at_command_fits w one now (Some ended) d runs e =
+    due_is one (Releases ended.0.id) (with_offers one ended.1) runs d e
 
 -- by the phase
 phase_fits : (w : Terms) (one : Session) (now : ℕ) (phase : Phase) (d : Due) → one.phase ≡ phase
     → IsDueIn w one now phase d → FitsDue one d.ask d.after
 phase_fits w one now Ready d at e =
-    ready_fits w one now (next_line one.unread) d (ap is_running at) e
+    at_command_fits w one now (run_out w.offers now one.offers) d (ap is_running at) e
 phase_fits w one now (AwaitsBlock transfer id) d at e =
     owing_fits w one transfer id now (next_block w.max_article one.unread) d e
 phase_fits w one now (Holds id article) d at e =

@@ -28,6 +28,8 @@ pub(crate) struct StepContext<'a, S> {
     pub(crate) register: &'a ArticleLog,
     pub(crate) channels: &'a [JobChannel],
     pub(crate) moment: u64,
+    /// The seconds after which an offer runs out, if ever.
+    pub(crate) lasting: Option<u64>,
 }
 
 /// A connection that is to be served, as a session of this number.

@@ -25,14 +25,29 @@ use std::alloc::{AllocError, Global};
 /// What sessions share with each other and with the writers: each call is one step under one lock
 /// (docs/PROTOCOL.md, Threads).
 pub trait Shares<J: StorePremises, R> {
-    /// The id is offered to the session (`Shards::offer` of its shard).
-    fn offer(&self, rt: &R, id: &MsgId, session: u64) -> Result<Offer, AllocError>;
+    /// The id is offered to the session at this moment, where offers last so many seconds
+    /// (`Shards::offer` of its shard).
+    fn offer(
+        &self,
+        rt: &R,
+        id: &MsgId,
+        session: u64,
+        now: u64,
+        lasting: Option<u64>,
+    ) -> Result<Offer, AllocError>;
 
     /// The token of the article of the id, where it is stored.
     fn look(&self, rt: &R, id: &MsgId) -> Option<Token>;
 
-    /// The session's article of the id is refused at this moment.
-    fn refuse(&self, rt: &R, id: &MsgId, session: u64, now: u64) -> Result<(), AllocError>;
+    /// The session's article of the id is refused at this moment, where offers last so many seconds.
+    fn refuse(
+        &self,
+        rt: &R,
+        id: &MsgId,
+        session: u64,
+        now: u64,
+        lasting: Option<u64>,
+    ) -> Result<(), AllocError>;
 
     /// The session has an accepted article of the id.
     fn take(&self, rt: &R, id: &MsgId, session: u64) -> Result<Take, AllocError>;

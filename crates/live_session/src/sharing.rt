@@ -42,7 +42,7 @@ pub(crate) fn share<'a, S: Shares<J, R>, J: StorePremises, R: Wait>(
     let session = live.number;
     match step {
         Step::Nothing => Answer::Nothing,
-        Step::Offer(id) => match shares.offer(rt, id, session) {
+        Step::Offer(id) => match shares.offer(rt, id, session, context.moment, context.lasting) {
             Ok(offer) => Answer::Offer(offer),
             Err(_) => Answer::Memory,
         },
@@ -52,7 +52,7 @@ pub(crate) fn share<'a, S: Shares<J, R>, J: StorePremises, R: Wait>(
             Ok(taken) => Answer::Queue(taken),
             Err(_) => Answer::Memory,
         },
-        Step::Refuse(id) => match shares.refuse(rt, id, session, context.moment) {
+        Step::Refuse(id) => match shares.refuse(rt, id, session, context.moment, context.lasting) {
             Ok(()) => Answer::Nothing,
             Err(_) => Answer::Memory,
         },

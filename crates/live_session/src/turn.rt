@@ -56,6 +56,7 @@ pub(crate) fn turn<S: Shares<J, R>, C: Clock, G: Gate<R>, J: StorePremises, R: W
         register: context.register,
         channels: context.channels,
         moment: now,
+        lasting: context.config.relay.offers,
     };
     take_planned(rt, &context, live, step)
 }

@@ -33,6 +33,7 @@ use Rattle.relay_model.specs.Asks.{Ask}
 use Rattle.relay_model.specs.Claims as claims
 use Rattle.relay_model.specs.Claims.{Accepted, Claim}
 use Rattle.relay_model.specs.Shares as shares
+use Rattle.relay_model.specs.Shares.{known_at}
 use Rattle.relay_model.specs.Shares.{Shares, after_take_of, ring_of}
 use Rattle.relay_model.specs.State.{Feed, put_at, put_id}
 use Rattle.relay_model.specs.Terms.{FeedTerms, Terms}
@@ -134,8 +135,9 @@ module _ {S : Type 0} {g : Ghosts S} (n now : ℕ) (old : System S g) (peer : Pe
   -- an id is offered
   pub offer_shared : (id : List ℕ) (answer : Offer) (new : Shards)
       → OfClaim (KeepsAll old.shards) id
-      (λ claim. offer_view answer ≡ claims.offer_answer n claim)
-      → ChangesClaim (KeepsAll old.shards) (KeepsAll new) id (claims.after_offer n)
+      (λ claim. offer_view answer ≡ claims.offer_answer n (claims.standing w.offers now claim))
+      → ChangesClaim (KeepsAll old.shards) (KeepsAll new) id
+      (λ claim. claims.after_offer n now (claims.standing w.offers now claim))
       → (step : Step) → step ≡ steps.Offer id
       → SharesStep n now step old peer (answers.Offer answer) (record old { shards = new }) peer
   offer_shared id answer new is changes step e =
@@ -145,7 +147,7 @@ module _ {S : Type 0} {g : Ghosts S} (n now : ℕ) (old : System S g) (peer : Pe
       (record old { shards = new }) peer.slot in (
         subst P (sym one.1) (record {
           told = shares.ToOffer (offer_view answer);
-          between = with_claim x id (claims.after_offer n (x.state.claim id));
+          between = with_claim x id (claims.after_offer n now (known_at w x now id));
           shares = (ap shares.ToOffer (is x.state.claim but.core.claims), refl);
           answers = (answer, refl, refl);
           agrees = claim_but x new id _ but (changes x.state.claim but.core.claims);
@@ -177,7 +179,8 @@ module _ {S : Type 0} {g : Ghosts S} (n now : ℕ) (old : System S g) (peer : Pe
 
   -- an id's article was refused
   pub refuse_shared : (id : List ℕ) (new : Shards)
-      → ChangesClaim (KeepsAll old.shards) (KeepsAll new) id (claims.after_refuse n now)
+      → ChangesClaim (KeepsAll old.shards) (KeepsAll new) id
+      (λ claim. claims.after_refuse n now (claims.standing w.offers now claim))
       → (step : Step) → step ≡ steps.Refuse id
       → SharesStep n now step old peer answers.Nothing (record old { shards = new }) peer
   refuse_shared id new changes step e = λ leaving x m d gathered but slot fits planned asked some.
@@ -186,7 +189,7 @@ module _ {S : Type 0} {g : Ghosts S} (n now : ℕ) (old : System S g) (peer : Pe
       (record old { shards = new }) peer.slot in (
         subst P (sym one.1) (record {
           told = shares.Nothing;
-          between = with_claim x id (claims.after_refuse n now (x.state.claim id));
+          between = with_claim x id (claims.after_refuse n now (known_at w x now id));
           shares = (refl, refl);
           answers = refl;
           agrees = claim_but x new id _ but (changes x.state.claim but.core.claims);

@@ -33,16 +33,17 @@ impl<S: BlockStore> System<S> {
         ensures frame { KeepsFrame self.old self.new }
         ensures peers { self.new.peers ≡ self.old.peers }
     {
+        let lasting = self.config.relay.offers;
         match step {
             Step::Nothing => Answer::Nothing,
-            Step::Offer(id) => match self.shards.offer(id, number) {
+            Step::Offer(id) => match self.shards.offer(id, number, now, lasting) {
                 Ok(answer) => Answer::Offer(answer),
                 Err(_) => Answer::Memory,
             },
             Step::Look(id) => Answer::Look(self.shards.look(id)),
             Step::Read(_, _) => unreachable!(),
             Step::TakeQueue(feed, most) => queue_answer(self.desk.take(self.alloc, *feed, *most)),
-            Step::Refuse(id) => match self.shards.refuse(id, number, now) {
+            Step::Refuse(id) => match self.shards.refuse(id, number, now, lasting) {
                 Ok(()) => Answer::Nothing,
                 Err(_) => Answer::Memory,
             },

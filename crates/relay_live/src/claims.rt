@@ -54,8 +54,9 @@ impl Claims {
         id: &MsgId,
         session: u64,
         now: u64,
+        lasting: Option<u64>,
     ) -> Result<bool, AllocError> {
-        refuse(&mut self.shard.lock(rt), id, session, now)
+        refuse(&mut self.shard.lock(rt), id, session, now, lasting)
     }
 
     /// As `take`, but where another session stores an article of the id it waits until that has

@@ -43,16 +43,31 @@ impl<'a, S: BlockStore + Drop, J: StorePremises, L: Ledger, N> JournaledShares<'
 
 impl<'a, S: BlockStore + Drop, J: StorePremises, L: Ledger, N: WriterTurns<R>, R: Wait> Shares<J, R>
     for JournaledShares<'a, S, J, L, N> {
-    fn offer(&self, rt: &R, id: &MsgId, session: u64) -> Result<Offer, AllocError> {
-        self.shared.offer(rt, id, session)
+    fn offer(
+        &self,
+        rt: &R,
+        id: &MsgId,
+        session: u64,
+        now: u64,
+        lasting: Option<u64>,
+    ) -> Result<Offer, AllocError> {
+        self.shared.offer(rt, id, session, now, lasting)
     }
 
     fn look(&self, rt: &R, id: &MsgId) -> Option<Token> {
         self.shared.look(rt, id)
     }
 
-    fn refuse(&self, rt: &R, id: &MsgId, session: u64, now: u64) -> Result<(), AllocError> {
-        let marked = self.shared.claims(id).refuse(rt, id, session, now)?;
+    fn refuse(
+        &self,
+        rt: &R,
+        id: &MsgId,
+        session: u64,
+        now: u64,
+        lasting: Option<u64>,
+    ) -> Result<(), AllocError> {
+        let claims = self.shared.claims(id);
+        let marked = claims.refuse(rt, id, session, now, lasting)?;
         if marked {
             // A session's moment is its clock's, which is never past the last.
             let _said = self.journal.refused(rt, id, now.min(LAST_MOMENT));

@@ -4,29 +4,30 @@ ghost use Rattle.id_history.specs.Answers.{offer_view};
 ghost use Rattle.id_history.specs.Changes.{ChangesClaim, KeepsClaims, OfClaim};
 ghost use Rattle.id_history.specs.Shard.{Keeps};
 ghost use Rattle.relay_live.specs.Journaling.{is_marked_by, is_wanted};
-ghost use Rattle.relay_model.specs.Claims.{after_refuse};
+ghost use Rattle.relay_model.specs.Claims.{after_refuse, standing};
 
 use id_history::{Offer, Shard};
 use nntp_text::MsgId;
 use std::alloc::AllocError;
 
-/// The session's article of the id is refused at this moment (`Shard::refuse`). Whether that is
-/// what is known of the id from now on: not where it was stored or refused before, nor where
-/// another session has to do with it.
+/// The session's article of the id is refused at this moment, where offers last so many seconds
+/// (`Shard::refuse`). Whether that is what is known of the id from now on: not where it was stored
+/// or refused before, nor where another session has to do with it.
 pub(crate) fn refuse(
     shard: &mut Shard,
     id: &MsgId,
     session: u64,
     now: u64,
+    lasting: Option<u64>,
 ) -> Result<bool, AllocError>
     ensures marked { IfOk result (λ marked. OfClaim (Keeps shard.old) id.now
-        (λ claim. marked ≡ is_marked_by session claim)) }
+        (λ claim. marked ≡ is_marked_by session (standing lasting now claim))) }
     ensures claims { OnOk result (ChangesClaim (Keeps shard.old) (Keeps shard.new) id.now
-        (after_refuse session now)) }
+        (λ claim. after_refuse session now (standing lasting now claim))) }
     ensures err { OnErr result (KeepsClaims (Keeps shard.old) (Keeps shard.new)) }
 {
-    let offer = shard.offer(id, session)?;
-    shard.refuse(id, session, now)?;
+    let offer = shard.offer(id, session, now, lasting)?;
+    shard.refuse(id, session, now, lasting)?;
     Ok(is_wanted(offer))
 }
 

@@ -16,16 +16,36 @@ use std::sync::Wait;
 use std::sync::ledger::Ledger;
 
 impl<S: BlockStore + Drop, J: StorePremises, L: Ledger, R: Wait> Shares<J, R> for Shared<S, J, L> {
-    fn offer(&self, rt: &R, id: &MsgId, session: u64) -> Result<Offer, AllocError> {
-        self.claims(id).shard.lock(rt).offer(id, session)
+    fn offer(
+        &self,
+        rt: &R,
+        id: &MsgId,
+        session: u64,
+        now: u64,
+        lasting: Option<u64>,
+    ) -> Result<Offer, AllocError> {
+        self.claims(id)
+            .shard
+            .lock(rt)
+            .offer(id, session, now, lasting)
     }
 
     fn look(&self, rt: &R, id: &MsgId) -> Option<Token> {
         self.claims(id).shard.lock(rt).look(id)
     }
 
-    fn refuse(&self, rt: &R, id: &MsgId, session: u64, now: u64) -> Result<(), AllocError> {
-        self.claims(id).shard.lock(rt).refuse(id, session, now)
+    fn refuse(
+        &self,
+        rt: &R,
+        id: &MsgId,
+        session: u64,
+        now: u64,
+        lasting: Option<u64>,
+    ) -> Result<(), AllocError> {
+        self.claims(id)
+            .shard
+            .lock(rt)
+            .refuse(id, session, now, lasting)
     }
 
     fn take(&self, rt: &R, id: &MsgId, session: u64) -> Result<Take, AllocError> {

@@ -130,7 +130,10 @@ fn refuse<J: StorePremises, L: Ledger, R: Wait>(
     let shares = JournaledShares::new(shared, journal, &turns);
     match id_of(number, sheet) {
         Some(id) => {
-            if shares.refuse(rt, &id, SESSION, Standing.now()).is_err() {
+            if shares
+                .refuse(rt, &id, SESSION, Standing.now(), None)
+                .is_err()
+            {
                 sheet.lack();
             }
             drop(id);
@@ -148,7 +151,10 @@ fn offer<J: StorePremises, L: Ledger, R: Wait>(
 ) {
     match id_of(number, sheet) {
         Some(id) => {
-            if shared.offer(rt, &id, OTHER_SESSION).is_err() {
+            if shared
+                .offer(rt, &id, OTHER_SESSION, Standing.now(), None)
+                .is_err()
+            {
                 sheet.lack();
             }
             drop(id);
