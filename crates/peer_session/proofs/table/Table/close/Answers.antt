@@ -45,7 +45,8 @@ returns-in_default-clause-closed c =
     let places = c.args.self.now.offers.items in
     sym (kept_open (open_offers places) c.args.id.now
     (open_alike places c.args.id.now
-    ∙ closed_nowhere (ids_of places) c.args.id.now (search rules)))
+    ∙ closed_nowhere (ids_of places) c.args.id.now
+    (rw c.deref.ensures.value at c.in_default.ensures.found)))
 
 pub first_from-self-requires-clause-before : goal.first_from-self-requires-clause-before
 first_from-self-requires-clause-before c = λ j lt.

@@ -1,4 +1,5 @@
-use Rattle.std.proofs.Common.{◌≡◌, ◌<◌, ◌∙◌, [], arith, ap, rules, length, get_or, None, Some, subst, sym}
+use Rattle.std.proofs.Common.{◌≡◌, ◌<◌, ◌∙◌, [], arith, ap, rules, length, get_or, set, None}
+use Rattle.std.proofs.Common.{subst, sym}
 use Rattle.std.specs.Prelude.{option_map}
 use Rattle.peer_session.specs.Chains.{AreChains}
 use Rattle.peer_session.specs.Places.{ids_of, open_offers}
@@ -6,6 +7,7 @@ use Rattle.peer_session.specs.declared.chains.Opened.{Opened}
 use Rattle.peer_session.proofs.ChainLemmas.{linked_fewer}
 use Rattle.peer_session.proofs.OfferLemmas.{as_many_ids, fewer_open, first_offer, ids_set}
 use Rattle.peer_session.proofs.OfferLemmas.{none_open, oldest_of, once_ended}
+use Rattle.peer_session.proofs.PlaceLemmas.{none_still}
 use Rattle.peer_session.proofs.TableLemmas.{matched}
 use Rattle.peer_session.proofs.table.Table.close_oldest.Goals as goal
 
@@ -60,3 +62,12 @@ returns-clause-closed c =
     rw c.take-one.ensures.after (matched c.take-one.result taken.0 _ _
     (c.take-one.ensures.value ∙ taken.1.0)
     (oldest_of places c.args.self.now.first taken.0 c.requires.first.before taken.1.1))
+
+pub first_from-self-requires-clause-before : goal.first_from-self-requires-clause-before
+first_from-self-requires-clause-before c = λ j lt.
+    let places = c.args.self.now.offers.items in
+    subst (λ places. get_or (ids_of places) j None ≡ None)
+    (sym (c.deref.ensures.value
+    ∙ ap (set c.args.self.now.offers.items c.args.self.now.first) c.take-one.ensures.after))
+    (ap (λ ids. get_or ids j None) (ids_set places c.args.self.now.first)
+    ∙ none_still (ids_of places) c.args.self.now.first j (c.requires.first.before j lt))

@@ -16,13 +16,13 @@ returns-clause-table c =
     ≡ open_ids (ids_of c.args.self.now.offers.items) =
     ap (λ all. open_ids (ids_of all)) kept ∙ ap open_ids (ids_kept places)
     ∙ closed_up (ids_of places) in
-    let open : open_offers c.retain.new.self.items ≡ open_offers c.args.self.now.offers.items =
+    let offers : open_offers c.retain.new.self.items ≡ open_offers c.args.self.now.offers.items =
     ap open_offers kept ∙ still_open places in
     record {
       chains = rw c.deref.ensures.value at c.chain_all.ensures.chains;
       chain_room = c.chain_all.ensures.room;
       once = rw same c.requires.once;
-      counted = rw open c.requires.counted;
+      counted = rw offers c.requires.counted;
       few = c.requires.few;
       first = rw (kept, ids_kept places) (first_zero (ids_of places));
       within = search rules;
