@@ -64,8 +64,8 @@ impl<'a> Door<'a> {
 
     /// Looks at the door in this second. Where some wait there, a connection of the port makes room
     /// that was silent for a minute. Where some have waited at each look for two seconds, the first
-    /// of them is told that there are too many, and let go; one from an address that may not connect
-    /// is closed without a word.
+    /// of them is told that there are too many, and let go; one from an address that may not
+    /// connect is closed without a word.
     pub fn look<C: Clock + Eprint>(&self, rt: &C, second: u64) {
         let waits = self.has_waiting();
         self.stop.wait_at(self.place, waits);

@@ -1,6 +1,6 @@
 //! A connection of a peer, which waits in parts.
-ghost use Rattle.std.specs.Prelude.{◌≡◌, ◌<◌, ◌↔◌, ℕ, IfErr, IfOk, IfSome, IsErrAnd, IsTrue, Err, Ok};
-ghost use Rattle.std.specs.Prelude.{None, Some};
+ghost use Rattle.std.specs.Prelude.{◌≡◌, ◌<◌, ◌↔◌, ℕ, IfErr, IfOk, IfSome, IsErrAnd, IsTrue};
+ghost use Rattle.std.specs.Prelude.{Err, None, Ok, Some};
 ghost use Rattle.std.specs.Io.{WritesAtMost};
 ghost use Rattle.std.specs.IoError.{error_kind};
 ghost use Rattle.live_wire.specs.Waits.{IsLate, IsWait};

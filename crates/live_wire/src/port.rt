@@ -66,8 +66,8 @@ impl Drop for Port<'_> {
 }
 
 impl<'a> Port<'a> {
-    /// Listens on a port of this address, for so many connections of these callers, until it is told
-    /// to stop. The error is the system's.
+    /// Listens on a port of this address, for so many connections of these callers, until it is
+    /// told to stop. The error is the system's.
     pub fn listen<N: Net<Listener = TcpListener, Stream = TcpStream>>(
         net: &N,
         address: Ipv4Addr,
