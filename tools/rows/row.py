@@ -151,7 +151,8 @@ class Row:
                 return words[: 2 if words[0] in ("peer", "feed", "connections") else 1]
 
             at = [key(it) for it in self.conf[name]]
-            if key(line) in at:
+            # Lines of one peer that say who may connect add up.
+            if key(line) in at and key(line) != ["allow"]:
                 self.conf[name][at.index(key(line))] = line
                 return
         elif name not in self.set_before:
@@ -458,9 +459,10 @@ class Row:
 
     # What lines of clients say.
 
-    def connected(self, port, address="127.0.0.1"):
+    def connected(self, port, address="127.0.0.1", source=None):
+        own = (source, 0) if source else None
         try:
-            return socket.create_connection((address, port), self.given.patience)
+            return socket.create_connection((address, port), self.given.patience, own)
         except OSError as error:
             raise Wrong(f"no connection: {error}") from None
 
@@ -471,9 +473,10 @@ class Row:
             connected.settimeout(self.given.patience)
             connected.connect(str(self.dir / where))
         else:
+            where, _, source = where.partition(" from ")
             named, _, address = where.partition("@")
             port = self.port(named)
-            connected = self.connected(port, address or "127.0.0.1")
+            connected = self.connected(port, address or "127.0.0.1", source)
             self.calls[port] = self.calls.get(port, 0) + 1
         if name in self.clients:
             self.clients[name].closes()

@@ -21,6 +21,7 @@ use live_store::{ArticleLog, OneRead, OneRecord, StorePremises};
 use live_wire::Tally;
 use nntp_text::MsgId;
 use std::alloc::{AllocError, Global};
+use std::net::Ipv4Addr;
 
 /// What sessions share with each other and with the writers: each call is one step under one lock
 /// (docs/PROTOCOL.md, Threads).
@@ -141,12 +142,14 @@ pub trait Gate<R> {
     /// for its peer, and once it has ended.
     fn counted(&self, _rt: &R, _peer: usize, _more: &Tally) {}
 
-    /// A session of a peer has ended so, after so many seconds; it said and read this in all.
+    /// A session of a peer, connected from this address, has ended so, after so many seconds; it
+    /// said and read this in all.
     fn closed(
         &self,
         _rt: &R,
         _peer: usize,
         _session: u64,
+        _from: Ipv4Addr,
         _finish: Finish,
         _tally: &Tally,
         _seconds: u64,

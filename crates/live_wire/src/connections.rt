@@ -2,6 +2,7 @@
 ghost use Rattle.std.specs.Prelude.{◌≡◌, [], IfSome};
 
 use crate::wire::{Hears, Says};
+use std::net::Ipv4Addr;
 
 /// The connections of an end, one after the other.
 pub trait Connections<R> {
@@ -14,6 +15,9 @@ pub trait Connections<R> {
     fn next_one(&mut self, rt: &R) -> Option<(Self::Reader, Self::Writer)>
         ensures { IfSome result (λ pair. (Self.Reader.heard pair.0 ≡ [])
             × (Self.Writer.said pair.1 ≡ [])) };
+
+    /// The address that a connection comes from.
+    fn caller(&self, reader: &Self::Reader) -> Ipv4Addr;
 
     /// Lets go of a connection whose session has ended, in an order in which its last reply
     /// arrives.

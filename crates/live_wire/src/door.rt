@@ -1,4 +1,5 @@
 //! Whoever waits at a port all of whose connections are taken.
+use crate::callers::{Callers, ipv4_of};
 use crate::stop::{Stop, have_passed};
 use libc::net::{POLLIN, poll};
 use libc::types::pollfd;
@@ -21,6 +22,8 @@ const NEVER: u64 = u64::MAX;
 /// The door of a port, at which connections wait until one of the port's ends takes them.
 pub struct Door<'a> {
     listener: TcpListener,
+    /// Who may connect.
+    callers: &'a Callers,
     /// By what the port is told to end.
     stop: &'a Stop,
     /// The place of the port there.
@@ -34,6 +37,7 @@ impl Drop for Door<'_> {
     fn drop(self) {
         let Door {
             listener: _,
+            callers: _,
             stop: _,
             place: _,
             since: _,
@@ -43,9 +47,15 @@ impl Drop for Door<'_> {
 
 impl<'a> Door<'a> {
     /// The door of the port that listens so.
-    pub(crate) fn of(listener: TcpListener, stop: &'a Stop, place: u64) -> Door<'a> {
+    pub(crate) fn of(
+        listener: TcpListener,
+        callers: &'a Callers,
+        stop: &'a Stop,
+        place: u64,
+    ) -> Door<'a> {
         Door {
             listener,
+            callers,
             stop,
             place,
             since: AtomicU64::new(NEVER),
@@ -54,7 +64,8 @@ impl<'a> Door<'a> {
 
     /// Looks at the door in this second. Where some wait there, a connection of the port makes room
     /// that was silent for a minute. Where some have waited at each look for two seconds, the first
-    /// of them is told that there are too many, and let go.
+    /// of them is told that there are too many, and let go; one from an address that may not
+    /// connect is closed without a word.
     pub fn look<C: Clock + Eprint>(&self, rt: &C, second: u64) {
         let waits = self.has_waiting();
         self.stop.wait_at(self.place, waits);
@@ -85,7 +96,14 @@ impl<'a> Door<'a> {
     /// Tells the first who waits that there are too many, where an end of the port hasn't taken him
     /// meanwhile; that this was so is told in one line a minute at most.
     fn refuse<R: Eprint>(&self, rt: &R, second: u64) {
-        let Ok((stream, _address)) = self.listener.accept() else {
+        let Ok((stream, address)) = self.listener.accept() else {
+            return;
+        };
+        let Ok(from) = ipv4_of(address) else {
+            return;
+        };
+        let Some(stream) = self.callers.let_in(stream, from) else {
+            let _unseen = self.callers.refuse(rt, &self.listener, from, second);
             return;
         };
         let _lost = dismiss(&stream);

@@ -9,6 +9,7 @@
 //! connections are served one after the other, until all are told to stop.
 #![tactic(auto)]
 
+mod callers;
 mod connections;
 mod door;
 mod line;
@@ -17,6 +18,7 @@ mod stop;
 mod tally;
 mod wire;
 
+pub use callers::{Callers, Range};
 pub use connections::Connections;
 pub use door::Door;
 pub use line::Line;

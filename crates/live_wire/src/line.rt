@@ -1,6 +1,6 @@
 //! A connection of a peer, which waits in parts.
-ghost use Rattle.std.specs.Prelude.{◌≡◌, ◌<◌, ◌↔◌, ℕ, IfErr, IfSome, IsErrAnd, IsTrue, Err, Ok};
-ghost use Rattle.std.specs.Prelude.{None, Some};
+ghost use Rattle.std.specs.Prelude.{◌≡◌, ◌<◌, ◌↔◌, ℕ, IfErr, IfOk, IfSome, IsErrAnd, IsTrue};
+ghost use Rattle.std.specs.Prelude.{Err, None, Ok, Some};
 ghost use Rattle.std.specs.Io.{WritesAtMost};
 ghost use Rattle.std.specs.IoError.{error_kind};
 ghost use Rattle.live_wire.specs.Waits.{IsLate, IsWait};
@@ -8,7 +8,7 @@ ghost use Rattle.live_wire.specs.Waits.{IsLate, IsWait};
 use crate::stop::Stop;
 use std::io;
 use std::io::{ErrorKind, Read, Write};
-use std::net::{Shutdown, TcpStream};
+use std::net::{Ipv4Addr, Shutdown, TcpStream};
 use std::time::{Clock, Duration, Instant};
 
 /// How many milliseconds a wait for a peer takes at once. Between two waits a line looks whether it
@@ -48,6 +48,8 @@ const DROPPED_AT_ONCE: usize = 4_096;
 #[derive(Drop)]
 pub struct Line<'a> {
     stream: TcpStream,
+    /// The address that it comes from.
+    from: Ipv4Addr,
     stop: &'a Stop,
     /// The place of its port.
     place: u64,
@@ -56,14 +58,17 @@ pub struct Line<'a> {
 }
 
 impl<'a> Line<'a> {
-    /// Both sides of a connection, each of which waits for so many seconds. Small writes are sent
-    /// at once.
+    /// Both sides of a connection from this address, each of which waits for so many seconds. Small
+    /// writes are sent at once.
     pub(crate) fn both(
         stream: TcpStream,
+        from: Ipv4Addr,
         stop: &'a Stop,
         place: u64,
         patience: u32,
-    ) -> io::Result<(Line<'a>, Line<'a>)> {
+    ) -> io::Result<(Line<'a>, Line<'a>)>
+        ensures { IfOk result (λ pair. pair.0.from ≡ from) }
+    {
         stream.set_nodelay(true)?;
         stream.set_read_timeout(Some(Duration::from_millis(PART)))?;
         stream.set_write_timeout(Some(Duration::from_millis(PART)))?;
@@ -71,17 +76,26 @@ impl<'a> Line<'a> {
         let parts = patience.saturating_mul(PARTS_A_SECOND);
         let reader = Line {
             stream,
+            from,
             stop,
             place,
             parts,
         };
         let writer = Line {
             stream: other,
+            from,
             stop,
             place,
             parts,
         };
         Ok((reader, writer))
+    }
+
+    /// The address that it comes from.
+    pub(crate) fn from(&self) -> Ipv4Addr
+        ensures { result ≡ self.now.from }
+    {
+        self.from
     }
 
     /// Whether it makes room for another connection that waits at its port: the peer was silent for

@@ -1,7 +1,10 @@
 //! A port of a peer.
-ghost use Rattle.std.specs.Prelude.{◌≡◌, IfOk};
-ghost use Rattle.live_wire.specs.Ports.{left_of};
+ghost use Rattle.std.specs.Prelude.{◌≡◌, true, IfOk, IfSome};
+ghost use Rattle.std.specs.Net.Addr.{ipv4_bits};
+ghost use Rattle.live_wire.specs.Callers.{may_call, ranges_of};
+ghost use Rattle.live_wire.specs.Ports.{callers_of, left_of};
 
+use crate::callers::{Callers, ipv4_of};
 use crate::connections::Connections;
 use crate::door::Door;
 use crate::line::{Line, is_wait};
@@ -35,6 +38,8 @@ pub struct Port<'a> {
     listener: TcpListener,
     /// How many connections it still takes; without a number it never ends by itself.
     left: Option<u32>,
+    /// Who may connect.
+    callers: &'a Callers,
     /// By what it is told to end.
     stop: &'a Stop,
     /// Its place there.
@@ -51,6 +56,7 @@ impl Drop for Port<'_> {
         let Port {
             listener: _,
             left: _,
+            callers: _,
             stop: _,
             place: _,
             patience: _,
@@ -60,17 +66,19 @@ impl Drop for Port<'_> {
 }
 
 impl<'a> Port<'a> {
-    /// Listens on a port of this address, for so many connections, until it is told to stop. The
-    /// error is the system's.
+    /// Listens on a port of this address, for so many connections of these callers, until it is
+    /// told to stop. The error is the system's.
     pub fn listen<N: Net<Listener = TcpListener, Stream = TcpStream>>(
         net: &N,
         address: Ipv4Addr,
         port: u16,
         connections: Option<u32>,
+        callers: &'a Callers,
         stop: &'a Stop,
         patience: u32,
     ) -> io::Result<Port<'a>>
-        ensures { IfOk result (λ port. left_of port ≡ connections) }
+        ensures left { IfOk result (λ port. left_of port ≡ connections) }
+        ensures callers { IfOk result (λ port. callers_of port ≡ ranges_of callers.now) }
     {
         let listener = TcpListener::bind(net, SocketAddr::from((address, port)))?;
         // Of several ends behind it that find the same connection one gets it.
@@ -79,6 +87,7 @@ impl<'a> Port<'a> {
         Ok(Port {
             listener,
             left: connections,
+            callers,
             stop,
             place: stop.place(),
             patience,
@@ -86,16 +95,18 @@ impl<'a> Port<'a> {
         })
     }
 
-    /// The same port for a further end, which takes as many connections as this one still does.
-    /// Each connection is given by one of them. The error is the system's.
+    /// The same port for a further end, which takes as many connections as this one still does, of
+    /// the same callers. Each connection is given by one of them. The error is the system's.
     pub fn another(&self) -> io::Result<Port<'a>>
-        ensures { IfOk result (λ port. left_of port ≡ left_of self.now) }
+        ensures left { IfOk result (λ port. left_of port ≡ left_of self.now) }
+        ensures callers { IfOk result (λ port. callers_of port ≡ callers_of self.now) }
     {
         let listener = self.listener.try_clone()?;
         self.stop.count_made();
         Ok(Port {
             listener,
             left: self.left,
+            callers: self.callers,
             stop: self.stop,
             place: self.place,
             patience: self.patience,
@@ -106,7 +117,12 @@ impl<'a> Port<'a> {
     /// Its door, at which connections wait that none of its ends has taken. The error is the
     /// system's.
     pub fn door(&self) -> io::Result<Door<'a>> {
-        Ok(Door::of(self.listener.try_clone()?, self.stop, self.place))
+        Ok(Door::of(
+            self.listener.try_clone()?,
+            self.callers,
+            self.stop,
+            self.place,
+        ))
     }
 
     /// Its number, where the system chose it.
@@ -121,10 +137,25 @@ impl<'a> Port<'a> {
         }
     }
 
-    /// Takes one connection, where one has come that no other end behind this port has taken.
-    fn accept(&self) -> io::Result<(Line<'a>, Line<'a>)> {
-        let (stream, _peer) = self.listener.accept()?;
-        Line::both(stream, self.stop, self.place, self.patience)
+    /// Takes one connection, where one has come that no other end behind this port has taken. One
+    /// from an address that may not connect is closed, and there is none.
+    fn accept<R: Clock + Eprint>(&self, rt: &R) -> io::Result<Option<(Line<'a>, Line<'a>)>>
+        ensures { IfOk result (λ taken. IfSome taken
+            (λ pair. may_call (callers_of self.now) (ipv4_bits pair.0.from) ≡ true)) }
+    {
+        let (stream, address) = self.listener.accept()?;
+        let from = ipv4_of(address)?;
+        let Some(stream) = self.callers.let_in(stream, from) else {
+            let _unseen = self.refuse(rt, from);
+            return Ok(None);
+        };
+        Ok(Some(Line::both(stream, from, self.stop, self.place, self.patience)?))
+    }
+
+    /// Counts a connection from an address that may not connect, and tells of such.
+    fn refuse<R: Clock + Eprint>(&self, rt: &R, from: Ipv4Addr) -> io::Result<()> {
+        let second = rt.monotonic()?.as_secs();
+        self.callers.refuse(rt, &self.listener, from, second)
     }
 
     /// Waits until a connection has come, or a part of the wait has passed: whether one has come.
@@ -145,7 +176,10 @@ impl<'a> Port<'a> {
 
     /// Waits until all ports are served, then for a connection, both in parts; none comes once it
     /// is to stop.
-    fn wait<R: Wait + Clock + Eprint>(&self, rt: &R) -> Option<(Line<'a>, Line<'a>)> {
+    fn wait<R: Wait + Clock + Eprint>(&self, rt: &R) -> Option<(Line<'a>, Line<'a>)>
+        ensures { IfSome result
+            (λ pair. may_call (callers_of self.now) (ipv4_bits pair.0.from) ≡ true) }
+    {
         for _ in rt.forever() {
             if self.stop.is_asked() {
                 return None;
@@ -157,8 +191,9 @@ impl<'a> Port<'a> {
             if !self.has_one(rt) {
                 continue;
             }
-            match self.accept() {
-                Ok(pair) => return Some(pair),
+            match self.accept(rt) {
+                Ok(Some(pair)) => return Some(pair),
+                Ok(None) => {}
                 Err(error) if is_wait(&error) => {}
                 Err(error) => self.pause(rt, &error),
             }
@@ -197,7 +232,9 @@ fn is_want_of_descriptors(error: &io::Error) -> bool {
 impl<'a, R: Wait + Clock + Eprint> Connections<R> for Port<'a> {
     ghost use Rattle.std.specs.Prelude.{◌≡◌, [], Some, None, IfSome, IsSome};
     ghost use Rattle.live_wire.specs.Wire.{heard_by, said_by};
-    ghost use Rattle.live_wire.specs.Ports.{left_of, OneLess};
+    ghost use Rattle.std.specs.Prelude.{true};
+    ghost use Rattle.live_wire.specs.Callers.{may_call};
+    ghost use Rattle.live_wire.specs.Ports.{callers_of, comes_from, left_of, OneLess};
 
     type Reader = RecordingReader<Line<'a>>;
 
@@ -211,6 +248,9 @@ impl<'a, R: Wait + Clock + Eprint> Connections<R> for Port<'a> {
         ensures none { left_of self.old ≡ Some 0 → (result ≡ None) × (self.new ≡ self.old) }
         ensures same { result ≡ None → self.new ≡ self.old }
         ensures one { IsSome result → OneLess (left_of self.old) (left_of self.new) }
+        ensures callers { callers_of self.new ≡ callers_of self.old }
+        ensures allowed { IfSome result
+            (λ pair. may_call (callers_of self.old) (comes_from pair.0) ≡ true) }
     {
         self.begin();
         let later = match self.left {
@@ -221,6 +261,12 @@ impl<'a, R: Wait + Clock + Eprint> Connections<R> for Port<'a> {
         let (reader, writer) = self.wait(rt)?;
         self.left = later;
         Some((RecordingReader::new(reader), RecordingWriter::new(writer)))
+    }
+
+    fn caller(&self, reader: &RecordingReader<Line<'a>>) -> Ipv4Addr
+        ensures { ipv4_bits result ≡ comes_from reader.now }
+    {
+        reader.reader().from()
     }
 
     /// The peer is let to read what was written, at most for some seconds, then it is closed.

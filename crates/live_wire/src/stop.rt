@@ -173,7 +173,7 @@ fn bit_of(place: u64) -> u64 {
 
 /// Whether something may be told of in this second that was told of last in the one before this
 /// number, not yet at 0: once a minute, by whoever asks first.
-fn may_tell(last: &AtomicU64, second: u64) -> bool {
+pub(crate) fn may_tell(last: &AtomicU64, second: u64) -> bool {
     let told = last.load(Ordering::SeqCst);
     let now = second.saturating_add(1);
     if told != 0 && !have_passed(told, BETWEEN_LINES, now) {

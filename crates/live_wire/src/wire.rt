@@ -69,6 +69,13 @@ impl<R: Read> RecordingReader<R> {
         }
     }
 
+    /// The reader below, which stays there.
+    pub(crate) fn reader(&self) -> &R
+        ensures { result.now ≡ self.now.reader }
+    {
+        &self.reader
+    }
+
     /// The reader below.
     pub fn into_reader(self) -> R
         ensures { result ≡ self.reader }

@@ -22,7 +22,8 @@ use Rattle.relay_conf.specs.RelayLines.{Remember, Patience, Sync, Offers, PeerLi
 use Rattle.relay_conf.specs.RelayLines.{FeedLine}
 use Rattle.relay_conf.specs.RelayLines.{RawSays, LineSays, own_line, number_line, number_or_fault}
 use Rattle.relay_conf.specs.RelayLines.{with_number, bind_line, peer_ported, peer_line}
-use Rattle.relay_conf.specs.RelayLines.{connections_numbered, connections_line, allow_line, allow_ranged}
+use Rattle.relay_conf.specs.RelayLines.{connections_numbered, connections_line, allow_line}
+use Rattle.relay_conf.specs.RelayLines.{allow_ranged}
 use Rattle.relay_conf.specs.RelayLines.{AllowLine, address_of, feed_ringed, range_and_more}
 use Rattle.relay_conf.specs.RelayLines.{range_of, range_of_parts, ranged, ranges_of}
 use Rattle.relay_conf.specs.RelayLines.{feed_line, relay_words, relay_line}

@@ -30,7 +30,8 @@ use Rattle.relay_conf.specs.RelayLines.{AllowLine}
 use Rattle.relay_conf.specs.Relay.{name_in, Stand, stand_of, own_of, max_article_of, cutoff_of}
 use Rattle.relay_conf.specs.Relay.{remember_of, patience_of, sync_of, offers_of, bind_of, peer_of}
 use Rattle.relay_conf.specs.Relay.{connections_of}
-use Rattle.relay_conf.specs.Relay.{feed_name_of, feed_of, allows_of, line_fault, early_fault, late_fault}
+use Rattle.relay_conf.specs.Relay.{feed_name_of, feed_of, allows_of, line_fault, early_fault}
+use Rattle.relay_conf.specs.Relay.{late_fault}
 use Rattle.relay_conf.specs.Relay.{unknown_fault, again_fault, no_own_fault, first_or, first_of}
 use Rattle.relay_conf.specs.Relay.{connected, each_address, relay_said, RelaySettings}
 use Rattle.relay_conf.specs.RelayDraft.{AddsLine, IsDraftOf, Lists, draft_view, Reading, with_peers}

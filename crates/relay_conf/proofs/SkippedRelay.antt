@@ -6,7 +6,8 @@ use Rattle.std.proofs.lemmas.Grind.{flat_map-append}
 use Rattle.news_terms.specs.Article.{without_outer_white}
 use Rattle.line_words.specs.Comments.{is_skipped}
 use Rattle.relay_conf.specs.RelayLines.{SaidLine, Skipped, LineSays, relay_line}
-use Rattle.relay_conf.specs.Relay.{Stand, stand_of, feed_of, allows_of, line_fault, early_fault, late_fault}
+use Rattle.relay_conf.specs.Relay.{Stand, stand_of, feed_of, allows_of, line_fault}
+use Rattle.relay_conf.specs.Relay.{early_fault, late_fault}
 use Rattle.relay_conf.specs.Relay.{no_own_fault, settings_of, RelaySettings}
 use Rattle.relay_conf.specs.RelayViews.{HasSettings}
 use Rattle.relay_conf.proofs.OneRelay.{line_one}

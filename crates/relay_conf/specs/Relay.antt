@@ -1,5 +1,6 @@
 -- relay.conf: what its lines say together.
-use Rattle.std.specs.Prelude.{ℕ, nat_le, nat_lt, Bool, List, [], ◌∷◌, length, map, filter_map, flat_map}
+use Rattle.std.specs.Prelude.{ℕ, nat_le, nat_lt, Bool, List, [], ◌∷◌, length, map, filter_map}
+use Rattle.std.specs.Prelude.{flat_map}
 use Rattle.std.specs.Prelude.{bytes_eq, Option, None, Some, Result, Ok, Err, if◌then◌else◌}
 use Rattle.std.specs.List.{list_any, position_or_len}
 use Rattle.relay_conf.specs.declared.faults.Fault.{Fault}
@@ -341,7 +342,8 @@ line_fault stand (Ok (FeedLine name ring expression)) = again_fault stand.feed_n
 abbrev pub early_fault : (before : List SaidLine) → SaidLine → Option Fault
 early_fault before line = line_fault (stand_of before) line
 
--- a feed, a number of connections, or ranges of addresses, of no peer (docs/FORMATS.md, Configuration)
+-- a feed, a number of connections, or ranges of addresses, of no peer (docs/FORMATS.md,
+-- Configuration)
 abbrev pub unknown_fault : List Peer → Option (List ℕ) → Option Fault
 unknown_fault peers None = None
 unknown_fault peers (Some name) = if is_peer peers name then None else Some UnknownName

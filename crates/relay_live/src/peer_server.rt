@@ -22,6 +22,7 @@ use relay_conf::Config;
 use std::alloc::Global;
 use std::hash::RandomState;
 use std::mem;
+use std::net::Ipv4Addr;
 use std::sync::Wait;
 use std::sync::ledger::Ledger;
 
@@ -104,7 +105,7 @@ impl<
         self.kept.as_slice()
     }
 
-    /// Serves a connection as the session of this number, which is spent.
+    /// Serves a connection from this address as the session of this number, which is spent.
     fn converse<N: WriterTurns<R>, H: Hears, W: Says, R: Wait>(
         &mut self,
         rt: &R,
@@ -112,6 +113,7 @@ impl<
         turns: &N,
         seat: SessionSeat,
         number: Number<L>,
+        from: Ipv4Addr,
         reader: H,
         writer: W,
     ) -> Conversed<H, W>
@@ -158,7 +160,9 @@ impl<
         );
         self.kept = served.kept;
         let seconds = self.clock.now().saturating_sub(began);
-        self.gate.closed(rt, self.peer, number, served.finish, &served.tally, seconds);
+        let (finish, tally) = (served.finish, &served.tally);
+        self.gate
+            .closed(rt, self.peer, number, from, finish, tally, seconds);
         Conversed {
             seat: served.seat,
             reader: served.reader,
@@ -193,7 +197,8 @@ impl<
             return seat;
         };
         let (reader, writer) = connection;
-        let over = self.converse(rt, channels, turns, seat, number, reader, writer);
+        let from = self.connections.caller(&reader);
+        let over = self.converse(rt, channels, turns, seat, number, from, reader, writer);
         self.connections.let_go(rt, over.reader, over.writer);
         over.seat
     }

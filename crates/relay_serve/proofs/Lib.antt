@@ -1,5 +1,6 @@
 mod Kept
 mod PeerSources
+mod Reached
 mod Repairs
 mod Rounds
 mod ServeFaults

@@ -1,3 +1,4 @@
+pub mod Callers
 pub mod Figures
 pub mod Gates
 pub mod Lives

@@ -7,6 +7,7 @@ use live_wire::Tally;
 use relay_conf::Peer;
 use std::alloc::{AllocError, Global};
 use std::fmt::{Display, Formatter};
+use std::net::Ipv4Addr;
 use std::sync::atomic::{AtomicU64, Ordering};
 use std::{fmt, str};
 
@@ -166,6 +167,7 @@ impl<R: Eprint> Gate<R> for CountingGate<'_> {
         rt: &R,
         peer: usize,
         session: u64,
+        from: Ipv4Addr,
         finish: Finish,
         tally: &Tally,
         seconds: u64,
@@ -175,7 +177,7 @@ impl<R: Eprint> Gate<R> for CountingGate<'_> {
         };
         counts.open.fetch_sub(1, Ordering::SeqCst);
         let _lost = eprintln!(rt;
-            "closed peer={} session={session} finish={} seconds={seconds} {}",
+            "closed peer={} session={session} from={from} finish={} seconds={seconds} {}",
             counts.name,
             word_of(finish),
             Told(*tally),

@@ -1,12 +1,14 @@
 //! The ports of the peers (docs/FORMATS.md, relay.conf).
 ghost use Rattle.std.specs.Prelude.{◌≡◌, ◌≢◌, ◌+◌, ◌*◌, ◌≤◌, ◌∷◌, ◌++◌, [], ℕ, Option, List, All};
 ghost use Rattle.std.specs.Prelude.{Any, IfErr, IfOk, OnOk, length, map, replicate};
-ghost use Rattle.live_wire.specs.Ports.{left_of};
+ghost use Rattle.live_wire.specs.Ports.{callers_of, left_of};
+ghost use Rattle.relay_conf.specs.declared.reach.Allow.{Allow};
 ghost use Rattle.relay_conf.specs.declared.relay.Peer.{Peer};
+ghost use Rattle.relay_serve.specs.Callers.{AreCallers, HasCallers, LetsIn};
 ghost use Rattle.relay_serve.specs.Ports.{IsPortFault, ends_from, lost_port};
 ghost use Rattle.relay_serve.specs.Ports as terms;
 
-use live_wire::{Door, Port, Stop};
+use live_wire::{Callers, Door, Port, Stop};
 use relay_conf::{Peer, Relay};
 use relay_live::PeerSource;
 use relay_report::{LostPort, Reason, ServeError};
@@ -16,25 +18,29 @@ use std::net::{Net, TcpListener, TcpStream};
 
 /// The peer sources of each peer that has a port, in the order of the peers: so many for each as
 /// its connections are served at once, all of them behind its one port. Each takes so many
-/// connections, without a number as many as come, until it is told to stop. The error is want of
-/// memory, or the first port that can't be had.
+/// connections of those that may reach its peer, without a number as many as come, until it is told
+/// to stop. The error is want of memory, or the first port that can't be had.
 pub(crate) fn open_ports<'a, N: Net<Listener = TcpListener, Stream = TcpStream>>(
     net: &N,
     alloc: Global,
     relay: &Relay,
     sessions: Option<u32>,
+    callers: &'a [Callers],
     stop: &'a Stop,
 ) -> Result<Vec<PeerSource<Port<'a>>>, ServeError>
+    requires { AreCallers relay.now callers.now }
     ensures peers { IfOk result (λ peer_sources.
         map (λ peer_source. peer_source.peer) peer_sources.items
         ≡ ends_from 0 relay.now.peers.items) }
     ensures left { IfOk result (λ peer_sources.
         All (λ peer_source. left_of peer_source.connections ≡ sessions) peer_sources.items) }
+    ensures callers { IfOk result (λ peer_sources.
+        All (HasCallers relay.now.allows.items) peer_sources.items) }
     ensures few { IfOk result (λ peer_sources. length peer_sources.items ≤ 64 * 1024) }
     ensures fault { IfErr result (IsPortFault relay.now.peers.items) }
 {
     let mut peer_sources = Vec::new(alloc);
-    match listen_all(net, relay, sessions, stop, &mut peer_sources) {
+    match listen_all(net, relay, sessions, callers, stop, &mut peer_sources) {
         Ok(()) => Ok(peer_sources),
         Err(error) => {
             drop(peer_sources);
@@ -48,14 +54,17 @@ fn listen_all<'a, N: Net<Listener = TcpListener, Stream = TcpStream>>(
     net: &N,
     relay: &Relay,
     sessions: Option<u32>,
+    callers: &'a [Callers],
     stop: &'a Stop,
     peer_sources: &mut Vec<PeerSource<Port<'a>>>,
 ) -> Result<(), ServeError>
-    requires { peer_sources.old.items ≡ [] }
+    requires callers { AreCallers relay.now callers.now }
+    requires none { peer_sources.old.items ≡ [] }
     ensures peers { OnOk result (map (λ peer_source. peer_source.peer) peer_sources.new.items
         ≡ ends_from 0 relay.now.peers.items) }
     ensures left { OnOk result
         (All (λ peer_source. left_of peer_source.connections ≡ sessions) peer_sources.new.items) }
+    ensures callers { OnOk result (All (HasCallers relay.now.allows.items) peer_sources.new.items) }
     ensures few { OnOk result (length peer_sources.new.items ≤ 64 * 1024) }
     ensures fault { IfErr result (IsPortFault relay.now.peers.items) }
 {
@@ -63,7 +72,8 @@ fn listen_all<'a, N: Net<Listener = TcpListener, Stream = TcpStream>>(
         if peer.port == 0 {
             continue;
         }
-        match Port::listen(net, relay.bind, peer.port, sessions, stop, relay.patience) {
+        let (own, patience) = (&callers[number], relay.patience);
+        match Port::listen(net, relay.bind, peer.port, sessions, own, stop, patience) {
             Ok(first) => add_peer_sources(peer_sources, number, peer, first)?,
             Err(error) => return Err(lost(peer, error.kind())),
         }
@@ -89,6 +99,9 @@ fn add_peer_sources<'a>(
         → All (λ peer_source. left_of peer_source.connections ≡ left) peer_sources.old.items
         → OnOk result
         (All (λ peer_source. left_of peer_source.connections ≡ left) peer_sources.new.items) }
+    ensures callers { (allows : List Allow) → LetsIn allows number (callers_of first.entry)
+        → All (HasCallers allows) peer_sources.old.items
+        → OnOk result (All (HasCallers allows) peer_sources.new.items) }
     ensures fault { (peers : List Peer) → Any (λ one. one.port ≡ peer.now.port) peers
         → IfErr result (IsPortFault peers) }
 {
@@ -122,6 +135,9 @@ fn add_further<'a>(
         → All (λ peer_source. left_of peer_source.connections ≡ left) peer_sources.old.items
         → OnOk result
         (All (λ peer_source. left_of peer_source.connections ≡ left) peer_sources.new.items) }
+    ensures callers { (allows : List Allow) → LetsIn allows number (callers_of last.now)
+        → All (HasCallers allows) peer_sources.old.items
+        → OnOk result (All (HasCallers allows) peer_sources.new.items) }
     ensures fault { (peers : List Peer) → Any (λ one. one.port ≡ peer.now.port) peers
         → IfErr result (IsPortFault peers) }
 {

@@ -1,6 +1,7 @@
 //! A relay is served on the ports of the machine, over its files.
-ghost use Rattle.std.specs.Prelude.{◌≡◌, ◌<◌, ◌^◌, ◌⊎◌, IfErr, IfOk, Ok, length, map};
+ghost use Rattle.std.specs.Prelude.{◌≡◌, ◌<◌, ◌^◌, ◌⊎◌, All, IfErr, IfOk, Ok, length, map};
 ghost use Rattle.relay_startup.specs.Files.{IsFileFault};
+ghost use Rattle.relay_serve.specs.Callers.{AreCallers, HasCallers};
 ghost use Rattle.relay_serve.specs.Ports.{IsPortFault};
 ghost use Rattle.relay_serve.specs.RunTotals.{totals_in};
 ghost use Rattle.relay_startup.specs.Faults.{IsServeFault};
@@ -8,6 +9,7 @@ ghost use Rattle.relay_report.specs.Serve.{AreOf, ServeGives};
 ghost use Rattle.file_blocks.specs.Store.{count_of};
 ghost use Rattle.relay_serve.specs.Watched.{store_in};
 
+use crate::callers::callers_of;
 use crate::clock::MachineClock;
 use crate::desk::Desk;
 use crate::gate::CountingGate;
@@ -20,7 +22,7 @@ use crate::watched::{Watched, watch};
 use file_blocks::FileBlocks;
 use live_journal::PendingJournal;
 use live_store::ArticleLog;
-use live_wire::{Port, Stop};
+use live_wire::{Callers, Port, Stop};
 use relay_conf::Config;
 use relay_folder::{
     Control, HistoryPlace, HostHistory, HostJournal, JournalFile, JournalPlace, Origin,
@@ -80,11 +82,13 @@ where
         lines: PrintedLines::new(rt),
     };
     let gate = CountingGate::new(alloc, &config.relay.peers)?;
+    let callers = callers_of(alloc, &config.relay)?;
     let stop = Stop::new();
     let asked = Asked {
         folder,
         sessions,
         fresh,
+        callers: &callers,
     };
     let answer = open_and_run(
         rt,
@@ -100,6 +104,7 @@ where
     drop(journal);
     drop(history);
     drop(gate);
+    drop(callers);
     drop(stop);
     if answer.is_ok() {
         tell_stopped(rt);
@@ -121,6 +126,8 @@ struct Asked<'a> {
     sessions: Option<u32>,
     /// Whether it is to begin from nothing.
     fresh: bool,
+    /// Who may connect to the port of each peer.
+    callers: &'a [Callers],
 }
 
 /// Opens what a relay is served over, last the socket by which it is asked, runs the relay, and
@@ -145,6 +152,7 @@ where
         + Eprint
         + RandomSource
         + Sync,
+    requires { AreCallers config.now.relay asked.now.callers.now }
     ensures { ServeGives config.now result (W.contents writer.old) (W.contents writer.new) }
 {
     let (unbegun, peer_sources, syncing) = open_all(rt, alloc, config, asked, stop)?;
@@ -186,11 +194,14 @@ fn open_all<'a, R>(
     rt: &R,
     alloc: Global,
     config: &'a Config,
-    asked: &Asked<'_>,
+    asked: &Asked<'a>,
     stop: &'a Stop,
 ) -> Result<(Unbegun, Vec<PeerSource<Port<'a>>>, Option<Syncing<'a>>), ServeError>
 where
     R: Net<Listener = TcpListener, Stream = TcpStream> + Files<File = File>,
+    requires { AreCallers config.now.relay asked.now.callers.now }
+    ensures callers { IfOk result (λ opened.
+        All (HasCallers config.now.relay.allows.items) opened.1.items) }
     ensures stores { IfOk result (λ opened. map count_of opened.0.stores.items
         ≡ map (λ buffer. buffer.blocks) config.now.buffers.buffers.items) }
     ensures few { IfOk result (λ opened. length opened.1.items < 2 ^ 62) }
@@ -199,7 +210,8 @@ where
 {
     let files = hold_files(rt, alloc, &config.buffers, asked.folder)?;
     let syncing = open_syncing(rt, alloc, config, asked.folder, &files)?;
-    let peer_sources = open_ports(rt, alloc, &config.relay, asked.sessions, stop)?;
+    let (relay, sessions) = (&config.relay, asked.sessions);
+    let peer_sources = open_ports(rt, alloc, relay, sessions, asked.callers, stop)?;
     let stores = fit_files(alloc, &config.buffers, files)?;
     let unbegun = Unbegun {
         stores,

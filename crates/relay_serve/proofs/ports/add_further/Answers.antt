@@ -5,6 +5,7 @@ use Rattle.std.proofs.lemmas.List.Elements.{All-push}
 use Rattle.live_wire.specs.Ports.{left_of}
 use Rattle.live_wire.specs.declared.port.Port.{Port}
 use Rattle.relay_live.specs.declared.running.PeerSource.{PeerSource}
+use Rattle.relay_serve.specs.Callers.{HasCallers, LetsIn}
 use Rattle.relay_serve.proofs.PeerSources.{one_more}
 use Rattle.relay_serve.proofs.ports.add_further.Goals as goal
 
@@ -33,5 +34,9 @@ loop-preserved c =
       left = λ left is all. subst (All (λ (one : PeerSource Port). left_of one.connections ≡ left))
           (sym added) (All-push (λ (one : PeerSource Port). left_of one.connections ≡ left)
           before peer_source
-          (c.loop.invariant.left left is all) (c.in-Ok.ensures ∙ is));
+          (c.loop.invariant.left left is all) (c.in-Ok.ensures.left ∙ is));
+      callers = λ allows lets all. subst (All (HasCallers allows)) (sym added)
+          (All-push (HasCallers allows) before peer_source
+          (c.loop.invariant.callers allows lets all)
+          (subst (LetsIn allows number) (sym c.in-Ok.ensures.callers) lets));
     }

@@ -5,6 +5,7 @@ use Rattle.live_wire.specs.Ports.{left_of}
 use Rattle.live_wire.specs.declared.port.Port.{Port}
 use Rattle.relay_live.specs.declared.running.PeerSource.{PeerSource}
 use Rattle.relay_startup.proofs.Rows.{longer}
+use Rattle.relay_serve.specs.Callers.{HasCallers}
 use Rattle.relay_serve.proofs.ports.add_peer_sources.Goals as goal
 
 -- The last peer source of a peer stands behind its further ones: it is one more,
@@ -27,7 +28,7 @@ returns-in_ok-add_peer_source-in-Ok-clause-peers c =
     (record { peer = c.args.number; connections = c.args.first })
     ∙ c.in-Ok.ensures.peers
 
--- and takes as many connections
+-- takes as many connections,
 pub returns-in_ok-add_peer_source-in-Ok-clause-left
     : goal.returns-in_ok-add_peer_source-in-Ok-clause-left
 returns-in_ok-add_peer_source-in-Ok-clause-left c =
@@ -37,3 +38,13 @@ returns-in_ok-add_peer_source-in-Ok-clause-left c =
     c.add_further.new.peer_sources.items
     (record { peer = c.args.number; connections = c.args.first })
     (c.in-Ok.ensures.left left is all) is)
+
+-- and those of the same callers
+pub returns-in_ok-add_peer_source-in-Ok-clause-callers
+    : goal.returns-in_ok-add_peer_source-in-Ok-clause-callers
+returns-in_ok-add_peer_source-in-Ok-clause-callers c =
+    λ allows lets all. subst (All (HasCallers allows))
+    (sym c.in_ok-add_peer_source-in-Ok.ensures)
+    (All-push (HasCallers allows) c.add_further.new.peer_sources.items
+    (record { peer = c.args.number; connections = c.args.first })
+    (c.in-Ok.ensures.callers allows lets all) lets)

@@ -2,9 +2,12 @@ use Rattle.std.proofs.Common.{◌≡◌, ◌∙◌, ◌++◌, ◌≤◌, ◌+◌
 use Rattle.std.proofs.Common.{drop, get_or, refl, ap, sym, subst, arith}
 use Rattle.std.proofs.lemmas.Bool.{eq-eqb, ne_eqb}
 use Rattle.std.proofs.lemmas.Result.{err_from_is_err_and}
+use Rattle.live_wire.specs.Callers.{ranges_of}
+use Rattle.live_wire.specs.Ports.{callers_of}
 use Rattle.live_wire.specs.declared.port.Port.{Port}
 use Rattle.relay_conf.specs.declared.relay.Peer.{Peer}
 use Rattle.relay_live.specs.declared.running.PeerSource.{PeerSource}
+use Rattle.relay_serve.specs.Callers.{LetsIn}
 use Rattle.relay_serve.specs.Ports.{IsPortFault, ends_from}
 use Rattle.relay_serve.proofs.PeerSources.{after_peer, drop_peer, of_all, without_port}
 use Rattle.relay_live.proofs.Rooms.{below_as, no_more}
@@ -59,6 +62,7 @@ loop-number-preserved-then-peer-eq0 g c =
           (sym (drop_peer peers k peer within same))
           ∙ c.loop-number.invariant.peers;
       left = c.loop-number.invariant.left;
+      callers = c.loop-number.invariant.callers;
     }
 
 pub loop-number-preserved : goal.loop-number-preserved
@@ -76,6 +80,12 @@ loop-number-preserved g c =
     subst (λ (one : Peer). one.connections ≤ 64) (sym same)
     (c.args.relay.now.sound.connections k peer within).1 in
     let added = c.in_ok-add_peer_sources-in-Ok.ensures in
+    let allows = c.args.relay.now.allows.items in
+    let own : LetsIn allows k (callers_of c.in-Ok.first) =
+    subst (LetsIn allows k)
+    (sym (c.in-Ok.ensures.callers ∙ ap ranges_of c.index-callers-number.is))
+    (c.requires.callers.each k c.index-callers-number.result
+    (omega (arith, within, c.requires.callers.count))) in
     record {
       few = omega (arith, added.count, c.loop-number.invariant.few, most);
       peers = after_peer (map peer_of c.add_peer_sources.new.peer_sources.items)
@@ -85,7 +95,8 @@ loop-number-preserved g c =
           ++ ends_from k rest)
           (sym (drop_peer peers k peer within same))
           ∙ c.loop-number.invariant.peers;
-      left = added.left c.args.sessions c.in-Ok.ensures c.loop-number.invariant.left;
+      left = added.left c.args.sessions c.in-Ok.ensures.left c.loop-number.invariant.left;
+      callers = added.callers allows own c.loop-number.invariant.callers;
     }
 
 -- there is no further peer

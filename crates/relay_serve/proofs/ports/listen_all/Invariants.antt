@@ -1,5 +1,6 @@
 use Rattle.std.proofs.Common.{◌≡◌, ◌++◌, ◌*◌, ◌≤◌, All, drop, length, map}
 use Rattle.live_wire.specs.Ports.{left_of}
+use Rattle.relay_serve.specs.Callers.{HasCallers}
 use Rattle.relay_serve.specs.Ports.{ends_from}
 use Rattle.relay_serve.proofs.ports.listen_all.Given as goal
 
@@ -11,4 +12,5 @@ invariant-loop-number g l = record {
       ++ ends_from l.number (drop l.number l.relay.peers.items)
       ≡ ends_from 0 l.relay.peers.items;
   left : All (λ peer_source. left_of peer_source.connections ≡ l.sessions) l.peer_sources.items;
+  callers : All (HasCallers l.relay.allows.items) l.peer_sources.items;
 }
