@@ -19,7 +19,8 @@ use Rattle.relay_metrics.specs.declared.lines.Subject.{Subject}
 use Rattle.relay_metrics.specs.declared.lines.Subject.TheVariants.{Buffer, Feed, Ids, Peer, Size}
 
 -- A part of a part is a part.
-within : (text middle part : List ℕ) → HasPart text middle → HasPart middle part → HasPart text part
+pub within : (text middle part : List ℕ) → HasPart text middle → HasPart middle part
+    → HasPart text part
 within text middle part one two = record {
   before = one.before ++ two.before;
   after = two.after ++ one.after;
@@ -28,7 +29,7 @@ within text middle part one two = record {
 }
 
 -- What is made of one of a list is a part of what is made of all.
-one_of_all : {A : Type 0} (f : A → List ℕ) (front back : List A) (x : A)
+pub one_of_all : {A : Type 0} (f : A → List ℕ) (front back : List A) (x : A)
     → HasPart (flat_map f (front ++ x ∷ back)) (f x)
 one_of_all f front back x = record {
   before = flat_map f front;
