@@ -24,10 +24,8 @@ impl<S: BlockStore + Drop, J: StorePremises, L: Ledger, R: Wait> Shares<J, R> fo
         now: u64,
         lasting: Option<u64>,
     ) -> Result<Offer, AllocError> {
-        self.claims(id)
-            .shard
-            .lock(rt)
-            .offer(id, session, now, lasting)
+        let claims = self.claims(id);
+        claims.shard.lock(rt).offer(id, session, now, lasting)
     }
 
     fn look(&self, rt: &R, id: &MsgId) -> Option<Token> {
@@ -42,10 +40,8 @@ impl<S: BlockStore + Drop, J: StorePremises, L: Ledger, R: Wait> Shares<J, R> fo
         now: u64,
         lasting: Option<u64>,
     ) -> Result<(), AllocError> {
-        self.claims(id)
-            .shard
-            .lock(rt)
-            .refuse(id, session, now, lasting)
+        let claims = self.claims(id);
+        claims.shard.lock(rt).refuse(id, session, now, lasting)
     }
 
     fn take(&self, rt: &R, id: &MsgId, session: u64) -> Result<Take, AllocError> {
