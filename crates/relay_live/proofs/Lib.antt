@@ -8,6 +8,7 @@ mod Lists
 mod Orders
 mod OpenedBuffers
 mod Parts
+mod Refusals
 mod Rest
 pub mod Rooms
 mod Shuts
