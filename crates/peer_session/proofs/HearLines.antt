@@ -1,14 +1,16 @@
 -- What a session makes of the answer to what a line asked.
-use Rattle.std.proofs.Common.{◌≡◌, ℕ, false, List, Option, refl, Vec}
+use Rattle.std.proofs.Common.{◌≡◌, ◌≢◌, ℕ, false, List, Option, ap, refl, Vec}
 use Rattle.std.specs.declared.alloc.Global.{Global}
 use Rattle.id_history.specs.Answers.{offer_view}
 use Rattle.id_history.specs.declared.claims.Offer.{Offer}
+use Rattle.id_history.specs.declared.claims.Offer.TheVariants as offer_answers
 use Rattle.news_terms.specs.Reply.{Reply}
 use Rattle.relay_model.specs.Asks as asks
-use Rattle.relay_model.specs.Asks.{Due, due_as, is_full}
-use Rattle.relay_model.specs.Hears.{offer_heard, parts, says, silent}
+use Rattle.relay_model.specs.Asks.{Due, due_as, is_full, later}
+use Rattle.relay_model.specs.Claims.{OfferAnswer, Wanted, Later, Seen}
+use Rattle.relay_model.specs.Hears.{not_wanted, offer_heard, parts, says, silent}
 use Rattle.relay_model.specs.State as model
-use Rattle.relay_model.specs.State.{in_phase}
+use Rattle.relay_model.specs.State.{in_phase, with_offers}
 use Rattle.peer_session.specs.Hearing.{HeardIs, Heeds}
 use Rattle.peer_session.specs.Planning.{offering}
 use Rattle.peer_session.specs.Said.{IsReply}
@@ -20,6 +22,7 @@ use Rattle.peer_session.specs.declared.phase.Transfer.TheVariants as transfers
 use Rattle.peer_session.specs.declared.session.Session.{Session}
 use Rattle.peer_session.specs.declared.steps.Answer.{Answer}
 use Rattle.peer_session.specs.declared.steps.Answer.TheVariants as answers
+use Rattle.peer_session.proofs.OfferLemmas.{opened_ended}
 use Rattle.peer_session.proofs.HearCommon.{by_due, has_other, heard_of, IsPlanned, with_planned}
 
 -- a block follows
@@ -104,3 +107,22 @@ offers s old new answer said planned read id copy room since todo arm = λ w m d
     (λ is. heard_of w s due told said (with_planned old planned) new
     (offer_heard due.after model.Has id (offer_view is.0)) (offer_view is.0, is.2, refl)
     (arm is.0 is.1 had.due_is.1 had.due_is.0 had.fits) had.stands.limit)
+
+-- an offer that isn't wanted leaves the others as if it hadn't been opened
+pub heard_without : (read : ℕ) (old : Session) (id : List ℕ) (since : ℕ)
+    (transfer : model.Transfer) (told : OfferAnswer) → told ≢ Wanted
+    → offer_heard (offering read old id since) transfer id told
+    ≡ offer_heard (passed read old) transfer id told
+heard_without read old id since transfer Wanted other = absurd (other refl)
+heard_without read old id since transfer Later other =
+    ap (λ offers. says (with_offers (passed read old) offers) (later transfer id))
+    (opened_ended old.offers id since)
+heard_without read old id since transfer Seen other =
+    ap (λ offers. says (with_offers (passed read old) offers) (not_wanted transfer id))
+    (opened_ended old.offers id since)
+
+-- what is answered Wanted is so
+pub is_wanted : (told : Offer) → offer_view told ≡ Wanted → told ≡ offer_answers.Wanted
+is_wanted offer_answers.Wanted e = refl
+is_wanted offer_answers.Later e = absurd cc
+is_wanted offer_answers.Seen e = absurd cc

@@ -13,7 +13,7 @@ returns-then-has_run_out c =
     let oldest = c.in_ok-one.ensures in
     let ended : OpenOffer × List OpenOffer = (offer_view one, oldest.0) in (
       ended,
-      ap (run_out c.args.lasting c.args.now) oldest.1
+      ap (run_out c.args.lasting c.args.now) (sym c.self.view_is ∙ oldest.1)
           ∙ cond-true (has_run_out c.args.lasting one.since c.args.now) (Some ended) None
           (sym c.has_run_out.ensures ∙ c.if-has_run_out.true),
       refl,
