@@ -27,7 +27,7 @@ lasts claims id = is_known (after_restart (claims id))
 known_before : (claim : Claim)
     → (is_known (after_restart claim) && is_known claim) ≡ is_known (after_restart claim)
 known_before Unknown = refl
-known_before (Offered session) = refl
+known_before (Offered session since) = refl
 known_before (Storing session article stage) = refl
 known_before (Stored token moment) = refl
 known_before (Refused moment) = refl
@@ -35,7 +35,7 @@ known_before (Refused moment) = refl
 -- nothing is offered
 none_offered : (claim : Claim) → is_offered (after_restart claim) ≡ false
 none_offered Unknown = refl
-none_offered (Offered session) = refl
+none_offered (Offered session since) = refl
 none_offered (Storing session article stage) = refl
 none_offered (Stored token moment) = refl
 none_offered (Refused moment) = refl
@@ -44,16 +44,17 @@ none_offered (Refused moment) = refl
 known_by : (test : Claim → Bool) → test Unknown ≡ false → (claim : Claim) → test claim ≡ true
     → is_known claim ≡ true
 known_by test none Unknown passes = absurd (true≢false (sym passes ∙ none))
-known_by test none (Offered session) passes = refl
+known_by test none (Offered session since) passes = refl
 known_by test none (Storing session article stage) passes = refl
 known_by test none (Stored token moment) passes = refl
 known_by test none (Refused moment) passes = refl
 
 -- a test to which what is offered is as what is unknown gives the same as before
-same_test : (test : Claim → Bool) → ((session : ℕ) → test (Offered session) ≡ test Unknown)
+same_test : (test : Claim → Bool)
+    → ((session since : ℕ) → test (Offered session since) ≡ test Unknown)
     → (claim : Claim) → test claim ≡ test (after_restart claim)
 same_test test alike Unknown = refl
-same_test test alike (Offered session) = alike session
+same_test test alike (Offered session since) = alike session since
 same_test test alike (Storing session article stage) = refl
 same_test test alike (Stored token moment) = refl
 same_test test alike (Refused moment) = refl
@@ -100,14 +101,14 @@ counts_again claims ids counted = record {
   numbers = record {
     offered = sym (count_none (λ id. is_offered (after_restart (claims id)))
         (λ id. none_offered (claims id)) (filter (lasts claims) counted.ids));
-    storing = counted.numbers.storing ∙ again is_storing refl (λ session. refl);
-    stored = counted.numbers.stored ∙ again is_stored refl (λ session. refl);
-    refused = counted.numbers.refused ∙ again is_refused refl (λ session. refl);
+    storing = counted.numbers.storing ∙ again is_storing refl (λ session since. refl);
+    stored = counted.numbers.stored ∙ again is_stored refl (λ session since. refl);
+    refused = counted.numbers.refused ∙ again is_refused refl (λ session since. refl);
   };
 }
   where
     again : (test : Claim → Bool) → test Unknown ≡ false
-        → ((session : ℕ) → test (Offered session) ≡ test Unknown)
+        → ((session since : ℕ) → test (Offered session since) ≡ test Unknown)
         → count_by (λ id. test (claims id)) counted.ids ≡ count_by
         (λ id. test (after_restart (claims id))) (filter (lasts claims) counted.ids)
     again test none alike =
