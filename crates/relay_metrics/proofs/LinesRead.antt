@@ -92,7 +92,8 @@ ids_by a b c d one two third last =
 feed_by : (name a b c : List ℕ) → is_numeral a ≡ true → is_numeral b ≡ true → is_numeral c ≡ true
     → said_by report_forms (codes "feed" ∷ name ∷ a ∷ b ∷ c ∷ [])
     ≡ record { subject = Feed; name = name; numbers = a ∷ b ∷ c ∷ [] }
-feed_by name a b c one two third = rw (plain a one, plain b two, plain c third) refl
+feed_by name a b c one two third =
+    rw (leb-zero (length name), plain a one, plain b two, plain c third) refl
 
 -- and behind `buffer`.
 buffer_by : (name a b c d : List ℕ) → is_numeral a ≡ true → is_numeral b ≡ true
@@ -100,7 +101,7 @@ buffer_by : (name a b c d : List ℕ) → is_numeral a ≡ true → is_numeral b
     → said_by report_forms (codes "buffer" ∷ name ∷ a ∷ b ∷ c ∷ d ∷ [])
     ≡ record { subject = Buffer; name = name; numbers = a ∷ b ∷ c ∷ d ∷ [] }
 buffer_by name a b c d one two third last =
-    rw (plain a one, plain b two, plain c third, plain d last) refl
+    rw (leb-zero (length name), plain a one, plain b two, plain c third, plain d last) refl
 
 -- The line of the message-ids is read as what it says,
 pub ids_read : (ids : Counts) (line : List ℕ) → ids.offered < 10 ^ 10 → ids.storing < 10 ^ 10

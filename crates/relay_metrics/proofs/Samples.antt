@@ -14,11 +14,13 @@ use Rattle.relay_metrics.specs.Laws.{HasPart, tells}
 use Rattle.relay_metrics.specs.Lines.{Line, report_lines}
 use Rattle.relay_metrics.specs.declared.families.Value.{Value}
 use Rattle.relay_metrics.specs.declared.families.Value.TheVariants.{OfBuffer, OfFeed, OfIds, OfPeer}
+use Rattle.relay_metrics.specs.declared.families.Value.TheVariants.{OfSize}
 use Rattle.relay_metrics.specs.declared.lines.Subject.{Subject}
-use Rattle.relay_metrics.specs.declared.lines.Subject.TheVariants.{Buffer, Feed, Ids, Peer}
+use Rattle.relay_metrics.specs.declared.lines.Subject.TheVariants.{Buffer, Feed, Ids, Peer, Size}
 
 -- A part of a part is a part.
-within : (text middle part : List ℕ) → HasPart text middle → HasPart middle part → HasPart text part
+pub within : (text middle part : List ℕ) → HasPart text middle → HasPart middle part
+    → HasPart text part
 within text middle part one two = record {
   before = one.before ++ two.before;
   after = two.after ++ one.after;
@@ -27,7 +29,7 @@ within text middle part one two = record {
 }
 
 -- What is made of one of a list is a part of what is made of all.
-one_of_all : {A : Type 0} (f : A → List ℕ) (front back : List A) (x : A)
+pub one_of_all : {A : Type 0} (f : A → List ℕ) (front back : List A) (x : A)
     → HasPart (flat_map f (front ++ x ∷ back)) (f x)
 one_of_all f front back x = record {
   before = flat_map f front;
@@ -96,4 +98,5 @@ told_value (OfBuffer other) Buffer place numbers is =
 told_value (OfFeed other) Feed place numbers is = ap (slice_get numbers) (eqb-true other place is)
 told_value (OfIds other) Ids place numbers is = ap (slice_get numbers) (eqb-true other place is)
 told_value (OfPeer other) Peer place numbers is = ap (slice_get numbers) (eqb-true other place is)
+told_value (OfSize other) Size place numbers is = ap (slice_get numbers) (eqb-true other place is)
 told_value value subject place numbers is = cc

@@ -24,7 +24,7 @@ recovering_metrics =
     ++ codes "# EOF\n"
 
 -- the report after *ring*, with a peer of whom as many octets were read as are ever counted in 128
--- bits
+-- bits, and the size of the buffer
 abbrev pub ring : List ℕ
 ring =
     codes "buffer A                         0                   3          3          3\n"
@@ -32,6 +32,7 @@ ring =
     ++ codes "ids              0          0          3          0\n"
     ++ codes "peer p2 open=1 accepted=0 known=2 refused=0 later=0"
     ++ codes " octets=340282366920938463463374607431768211455\n"
+    ++ codes "size buffer=A blocks=8 filled=3\n"
 
 -- and its exposition
 abbrev pub ring_metrics : List ℕ
@@ -56,6 +57,14 @@ ring_metrics =
     ++ codes " or were.\n"
     ++ codes "# TYPE cnrelay_buffer_articles_stored_total counter\n"
     ++ codes "cnrelay_buffer_articles_stored_total{buffer=\"A\"} 3\n"
+    ++ codes "# HELP cnrelay_buffer_size_blocks Blocks of 512 octets that the buffer has.\n"
+    ++ codes "# TYPE cnrelay_buffer_size_blocks gauge\n"
+    ++ codes "# UNIT cnrelay_buffer_size_blocks blocks\n"
+    ++ codes "cnrelay_buffer_size_blocks{buffer=\"A\"} 8\n"
+    ++ codes "# HELP cnrelay_buffer_filled_blocks Blocks of the buffer that hold something.\n"
+    ++ codes "# TYPE cnrelay_buffer_filled_blocks gauge\n"
+    ++ codes "# UNIT cnrelay_buffer_filled_blocks blocks\n"
+    ++ codes "cnrelay_buffer_filled_blocks{buffer=\"A\"} 3\n"
     ++ codes "# HELP cnrelay_feed_tokens_waiting Tokens that wait in the ring of the feed of the"
     ++ codes " peer.\n"
     ++ codes "# TYPE cnrelay_feed_tokens_waiting gauge\n"
@@ -118,6 +127,7 @@ odd =
     ++ codes "feed b 1 2 3 4\n"
     ++ codes "feed c 1 2 x\n"
     ++ codes "memory 5\n"
+    ++ codes "size d blocks=8 filled=3\n"
     ++ codes "\n"
     ++ codes "ids 1 2"
 
@@ -139,5 +149,5 @@ odd_metrics =
     ++ codes "# HELP cnrelay_report_lines_unread Lines of the report that are not in this"
     ++ codes " exposition.\n"
     ++ codes "# TYPE cnrelay_report_lines_unread gauge\n"
-    ++ codes "cnrelay_report_lines_unread 5\n"
+    ++ codes "cnrelay_report_lines_unread 6\n"
     ++ codes "# EOF\n"

@@ -8,10 +8,10 @@ use Rattle.relay_metrics.specs.declared.families.Kind.TheVariants.{Counter, Gaug
 use Rattle.relay_metrics.specs.declared.families.Value.{Value}
 use Rattle.relay_metrics.specs.declared.families.Value.TheVariants.{IsRecovering, IsRepaired}
 use Rattle.relay_metrics.specs.declared.families.Value.TheVariants.{OfBuffer, OfFeed, OfIds, OfPeer}
-use Rattle.relay_metrics.specs.declared.families.Value.TheVariants.{Uncounted}
+use Rattle.relay_metrics.specs.declared.families.Value.TheVariants.{OfSize, Uncounted}
 use Rattle.relay_metrics.specs.declared.lines.Subject.{Subject}
 use Rattle.relay_metrics.specs.declared.lines.Subject.TheVariants.{Buffer, Feed, Ids, Peer}
-use Rattle.relay_metrics.specs.declared.lines.Subject.TheVariants.{Recovering, Repaired}
+use Rattle.relay_metrics.specs.declared.lines.Subject.TheVariants.{Recovering, Repaired, Size}
 
 -- A metric family: its name but for what its type adds, what is told of it, its type, its unit,
 -- empty where it has none, the label that a line's name is the value of, empty where it has none,
@@ -54,6 +54,7 @@ value_of (OfBuffer place) Buffer numbers = slice_get numbers place
 value_of (OfFeed place) Feed numbers = slice_get numbers place
 value_of (OfIds place) Ids numbers = slice_get numbers place
 value_of (OfPeer place) Peer numbers = slice_get numbers place
+value_of (OfSize place) Size numbers = slice_get numbers place
 value_of IsRecovering Recovering numbers = Some (codes "1")
 value_of IsRecovering Ids numbers = Some (codes "0")
 value_of IsRepaired Repaired numbers = Some (codes "1")
@@ -87,6 +88,11 @@ gauge base help label value =
       value = value;
     }
 
+-- a family of blocks of a buffer that grow and shrink
+abbrev pub blocks_gauge : (base help : List ℕ) → Value → Family
+blocks_gauge base help value =
+    record (gauge base help (codes "buffer") value) { unit = codes "blocks" }
+
 -- whether the relay is being repaired
 abbrev pub recovering_families : List Family
 recovering_families =
@@ -109,6 +115,15 @@ buffer_families =
     (codes "Articles that were begun in the buffer.") [] (codes "buffer") (OfBuffer 2)
     ∷ counter (codes "cnrelay_buffer_articles_stored")
     (codes "Articles that are whole in the buffer, or were.") [] (codes "buffer") (OfBuffer 3)
+    ∷ []
+
+-- of the buffers' sizes: blocks, and those of them that hold something
+abbrev pub size_families : List Family
+size_families =
+    blocks_gauge (codes "cnrelay_buffer_size_blocks")
+    (codes "Blocks of 512 octets that the buffer has.") (OfSize 0)
+    ∷ blocks_gauge (codes "cnrelay_buffer_filled_blocks")
+    (codes "Blocks of the buffer that hold something.") (OfSize 1)
     ∷ []
 
 -- of the feeds: tokens waiting, gained, overwritten
@@ -157,7 +172,8 @@ peer_families =
 -- the families of which lines have samples, in their order
 abbrev pub report_families : List Family
 report_families =
-    recovering_families ++ buffer_families ++ feed_families ++ ids_families ++ peer_families
+    recovering_families ++ buffer_families ++ size_families ++ feed_families ++ ids_families
+    ++ peer_families
 
 -- the family of how many lines aren't known: no line is a sample of it
 abbrev pub unread_family : Family

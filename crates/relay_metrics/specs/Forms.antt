@@ -3,14 +3,15 @@ use Rattle.std.specs.Prelude.{ℕ, Bool, true, false, List, [], ◌∷◌, codes
 use Rattle.relay_metrics.specs.declared.forms.Form as code
 use Rattle.relay_metrics.specs.declared.lines.Subject.{Subject}
 use Rattle.relay_metrics.specs.declared.lines.Subject.TheVariants.{Buffer, Feed, Ids, Peer}
-use Rattle.relay_metrics.specs.declared.lines.Subject.TheVariants.{Recovering, Repaired}
+use Rattle.relay_metrics.specs.declared.lines.Subject.TheVariants.{Recovering, Repaired, Size}
 
--- A form of lines: what such a line is about, its first word, whether a name follows that, and what
--- stands before each of its numbers.
+-- A form of lines: what such a line is about, its first word, whether a name follows that, what
+-- stands before the name, and before each of its numbers.
 pub record Form : Type 0 where
   pub subject : Subject
   pub word : List ℕ
   pub is_named : Bool
+  pub name_key : List ℕ
   pub keys : List (List ℕ)
 
 -- a form of the code as the definitions have it
@@ -20,6 +21,7 @@ form_view form =
       subject = form.subject;
       word = form.word.now;
       is_named = form.is_named;
+      name_key = form.name_key.now;
       keys = map (λ key. key.now) form.keys.now;
     }
 
@@ -30,6 +32,7 @@ buffer_form =
       subject = Buffer;
       word = codes "buffer";
       is_named = true;
+      name_key = [];
       keys = [] ∷ [] ∷ [] ∷ [] ∷ [];
     }
 
@@ -40,6 +43,7 @@ feed_form =
       subject = Feed;
       word = codes "feed";
       is_named = true;
+      name_key = [];
       keys = [] ∷ [] ∷ [] ∷ [];
     }
 
@@ -50,6 +54,7 @@ ids_form =
       subject = Ids;
       word = codes "ids";
       is_named = false;
+      name_key = [];
       keys = [] ∷ [] ∷ [] ∷ [] ∷ [];
     }
 
@@ -60,21 +65,46 @@ peer_form =
       subject = Peer;
       word = codes "peer";
       is_named = true;
+      name_key = [];
       keys = codes "open=" ∷ codes "accepted=" ∷ codes "known=" ∷ codes "refused="
           ∷ codes "later=" ∷ codes "octets=" ∷ [];
+    }
+
+-- `size buffer=A blocks=1000 filled=371`
+abbrev pub size_form : Form
+size_form =
+    record {
+      subject = Size;
+      word = codes "size";
+      is_named = true;
+      name_key = codes "buffer=";
+      keys = codes "blocks=" ∷ codes "filled=" ∷ [];
     }
 
 -- `recovering`
 abbrev pub recovering_form : Form
 recovering_form =
-    record { subject = Recovering; word = codes "recovering"; is_named = false; keys = [] }
+    record {
+      subject = Recovering;
+      word = codes "recovering";
+      is_named = false;
+      name_key = [];
+      keys = [];
+    }
 
 -- `buffer A`, while the relay is repaired
 abbrev pub repaired_form : Form
 repaired_form =
-    record { subject = Repaired; word = codes "buffer"; is_named = true; keys = [] }
+    record {
+      subject = Repaired;
+      word = codes "buffer";
+      is_named = true;
+      name_key = [];
+      keys = [];
+    }
 
 -- the forms that there are
 abbrev pub report_forms : List Form
 report_forms =
-    buffer_form ∷ feed_form ∷ ids_form ∷ peer_form ∷ recovering_form ∷ repaired_form ∷ []
+    buffer_form ∷ feed_form ∷ ids_form ∷ peer_form ∷ size_form ∷ recovering_form ∷ repaired_form
+    ∷ []

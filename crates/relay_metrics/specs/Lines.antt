@@ -1,6 +1,6 @@
 -- What the lines of a report say (docs/FORMATS.md, Report; cnrelay(1), Asking).
 use Rattle.std.specs.Prelude.{ℕ, ◌&&◌, Bool, List, [], ◌∷◌, ◌++◌, bytes_eq, drop}
-use Rattle.std.specs.Prelude.{length, map, nat_le, option_map, take, unwrap_or, Option, None, Some}
+use Rattle.std.specs.Prelude.{length, map, nat_le, option_and_then, option_map, take, unwrap_or, Option, None, Some}
 use Rattle.std.specs.Prelude.{false, true, if◌then◌else◌}
 use Rattle.std.specs.Borrow.{Bor}
 use Rattle.line_words.specs.Numbers.{is_numeral}
@@ -34,13 +34,20 @@ line_view line =
 abbrev pub unread_line : Line
 unread_line = record { subject = Unread; name = []; numbers = [] }
 
--- the number that a word is behind this key: the key, and then decimal digits, one or more
-abbrev pub number_behind : (key word : List ℕ) → Option (List ℕ)
-number_behind key word =
+-- what stands in a word behind this key, where the key stands before it
+abbrev pub behind_key : (key word : List ℕ) → Option (List ℕ)
+behind_key key word =
     if nat_le (length key) (length word) && bytes_eq (take (length key) word) key
-    && is_numeral (drop (length key) word)
     then Some (drop (length key) word)
     else None
+
+-- the number that the octets are: decimal digits, one or more
+abbrev pub number_in : List ℕ → Option (List ℕ)
+number_in octets = if is_numeral octets then Some octets else None
+
+-- the number that a word is behind this key
+abbrev pub number_behind : (key word : List ℕ) → Option (List ℕ)
+number_behind key word = option_and_then number_in (behind_key key word)
 
 -- a number in front of others, where it and they are there
 abbrev pub number_and : Option (List ℕ) → Option (List (List ℕ)) → Option (List (List ℕ))
@@ -62,10 +69,11 @@ with_numbers form name words =
     (λ numbers. record { subject = form.subject; name = name; numbers = numbers })
     (numbers_by form.keys words)
 
--- a line of this form, the first of whose words behind the form's is its name
+-- a line of this form, the first of whose words behind the form's is its name behind its key
 abbrev pub behind_name : Form → (words : List (List ℕ)) → Option Line
 behind_name form [] = None
-behind_name form (name ∷ words) = with_numbers form name words
+behind_name form (word ∷ words) =
+    option_and_then (λ name. with_numbers form name words) (behind_key form.name_key word)
 
 -- a line of this form, by its words behind the form's
 abbrev pub behind_word : Form → (words : List (List ℕ)) → Option Line

@@ -27,6 +27,8 @@ pub(crate) enum Value {
     OfIds(usize),
     /// The number of this place of a line about a peer.
     OfPeer(usize),
+    /// The number of this place of a line about a buffer's size.
+    OfSize(usize),
     /// 1 of the line that the relay is being repaired, 0 of the line about the message-ids, which
     /// only a relay that is served tells.
     IsRecovering,
@@ -101,6 +103,22 @@ pub(crate) const FAMILIES: &[Family] = &[
         unit: b"",
         label: b"buffer",
         value: Value::OfBuffer(3),
+    },
+    Family {
+        base: b"cnrelay_buffer_size_blocks",
+        help: b"Blocks of 512 octets that the buffer has.",
+        kind: Kind::Gauge,
+        unit: b"blocks",
+        label: b"buffer",
+        value: Value::OfSize(0),
+    },
+    Family {
+        base: b"cnrelay_buffer_filled_blocks",
+        help: b"Blocks of the buffer that hold something.",
+        kind: Kind::Gauge,
+        unit: b"blocks",
+        label: b"buffer",
+        value: Value::OfSize(1),
     },
     Family {
         base: b"cnrelay_feed_tokens_waiting",
@@ -247,7 +265,8 @@ pub(crate) fn value_in<'a>(family: &Family, line: &'a Line<'_>) -> Option<&'a [u
         (Value::OfBuffer(place), Subject::Buffer)
         | (Value::OfFeed(place), Subject::Feed)
         | (Value::OfIds(place), Subject::Ids)
-        | (Value::OfPeer(place), Subject::Peer) => number_at(line, place),
+        | (Value::OfPeer(place), Subject::Peer)
+        | (Value::OfSize(place), Subject::Size) => number_at(line, place),
         (Value::IsRecovering, Subject::Recovering) | (Value::IsRepaired, Subject::Repaired) => {
             Some(b"1")
         }

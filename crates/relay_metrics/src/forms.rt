@@ -9,6 +9,8 @@ pub(crate) struct Form {
     pub word: &'static [u8],
     /// Whether a name follows that.
     pub is_named: bool,
+    /// What stands before the name.
+    pub name_key: &'static [u8],
     /// What stands before each of its numbers.
     pub keys: &'static [&'static [u8]],
 }
@@ -19,24 +21,28 @@ pub(crate) const FORMS: &[Form] = &[
         subject: Subject::Buffer,
         word: b"buffer",
         is_named: true,
+        name_key: b"",
         keys: &[b"", b"", b"", b""],
     },
     Form {
         subject: Subject::Feed,
         word: b"feed",
         is_named: true,
+        name_key: b"",
         keys: &[b"", b"", b""],
     },
     Form {
         subject: Subject::Ids,
         word: b"ids",
         is_named: false,
+        name_key: b"",
         keys: &[b"", b"", b"", b""],
     },
     Form {
         subject: Subject::Peer,
         word: b"peer",
         is_named: true,
+        name_key: b"",
         keys: &[
             b"open=",
             b"accepted=",
@@ -47,15 +53,24 @@ pub(crate) const FORMS: &[Form] = &[
         ],
     },
     Form {
+        subject: Subject::Size,
+        word: b"size",
+        is_named: true,
+        name_key: b"buffer=",
+        keys: &[b"blocks=", b"filled="],
+    },
+    Form {
         subject: Subject::Recovering,
         word: b"recovering",
         is_named: false,
+        name_key: b"",
         keys: &[],
     },
     Form {
         subject: Subject::Repaired,
         word: b"buffer",
         is_named: true,
+        name_key: b"",
         keys: &[],
     },
 ];

@@ -17,4 +17,6 @@ mod sample;
 mod whole;
 mod written;
 
-pub use whole::exposition;
+pub use lines::{Line, Subject, lines_of};
+pub use whole::{exposition, unread_in};
+pub use written::put;

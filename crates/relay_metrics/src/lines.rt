@@ -1,5 +1,5 @@
 //! What the lines of a report say (docs/FORMATS.md, Report).
-ghost use Rattle.std.specs.Prelude.{◌≡◌, ◌++◌, IfOk, OnOk, map, option_map};
+ghost use Rattle.std.specs.Prelude.{◌≡◌, ◌∷◌, ◌++◌, IfOk, OnOk, map, option_map};
 ghost use Rattle.line_words.specs.Words.{words};
 ghost use Rattle.line_words.specs.declared.words.Between.TheVariants.{Spaces};
 ghost use Rattle.relay_metrics.specs.Forms.{form_view};
@@ -8,13 +8,13 @@ ghost use Rattle.relay_metrics.specs.Lines.{unread_line};
 ghost use Rattle.relay_metrics.specs.Lines as terms;
 
 use crate::forms::{FORMS, Form};
-use crate::numbers::numbers_by;
+use crate::numbers::{behind_key, numbers_by};
 use line_words::{Between, cut, first_word, is};
 use std::alloc::{AllocError, Global};
 
 /// What a line of a report is about.
 #[derive(Clone, Copy)]
-pub(crate) enum Subject {
+pub enum Subject {
     /// A buffer of a relay that is served.
     Buffer,
     /// A feed.
@@ -23,6 +23,8 @@ pub(crate) enum Subject {
     Ids,
     /// A peer.
     Peer,
+    /// How large a buffer is, and how much of it is filled.
+    Size,
     /// That the relay is being repaired.
     Recovering,
     /// A buffer of a relay that is being repaired.
@@ -33,7 +35,7 @@ pub(crate) enum Subject {
 
 /// What a line of a report says.
 #[derive(Drop)]
-pub(crate) struct Line<'a> {
+pub struct Line<'a> {
     /// What it is about.
     pub subject: Subject,
     /// The name that it has, empty where it has none.
@@ -43,7 +45,7 @@ pub(crate) struct Line<'a> {
 }
 
 /// What the lines of a report say.
-pub(crate) fn lines_of<'a>(alloc: Global, report: &'a [u8]) -> Result<Vec<Line<'a>>, AllocError>
+pub fn lines_of<'a>(alloc: Global, report: &'a [u8]) -> Result<Vec<Line<'a>>, AllocError>
     ensures { IfOk result (λ lines. map line_view lines.items ≡ report_lines report.now) }
 {
     let mut lines = Vec::new(alloc);
@@ -129,7 +131,23 @@ fn behind_word<'a>(
         return with_numbers(alloc, form, b"", rest);
     }
     match first_word(rest, Between::Spaces) {
-        Some((name, rest)) => with_numbers(alloc, form, name, rest),
+        Some((word, rest)) => named(alloc, form, word, rest),
+        None => Ok(None),
+    }
+}
+
+/// What a line of this form says whose name is in this word, by what follows that.
+fn named<'a>(
+    alloc: Global,
+    form: &Form,
+    word: &'a [u8],
+    rest: &'a [u8],
+) -> Result<Option<Line<'a>>, AllocError>
+    ensures { IfOk result (λ said. option_map line_view said
+        ≡ terms.behind_name (form_view form.now) (word.now ∷ words Spaces rest.now)) }
+{
+    match behind_key(form.name_key, word) {
+        Some(name) => with_numbers(alloc, form, name, rest),
         None => Ok(None),
     }
 }

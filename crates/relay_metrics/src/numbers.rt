@@ -52,15 +52,23 @@ fn next_number<'a>(key: &[u8], left: &'a [u8]) -> Option<(&'a [u8], &'a [u8])>
 fn number_behind<'a>(key: &[u8], word: &'a [u8]) -> Option<&'a [u8]>
     ensures { option_copied result ≡ terms.number_behind key.now word.now }
 {
-    if word.len() < key.len() {
-        return None;
-    }
-    let (front, number) = word.split_at(key.len());
-    if is(front, key) && is_numeral(number) {
+    let number = behind_key(key, word)?;
+    if is_numeral(number) {
         Some(number)
     } else {
         None
     }
+}
+
+/// What stands in a word behind this key, where the key stands before it.
+pub(crate) fn behind_key<'a>(key: &[u8], word: &'a [u8]) -> Option<&'a [u8]>
+    ensures { option_copied result ≡ terms.behind_key key.now word.now }
+{
+    if word.len() < key.len() {
+        return None;
+    }
+    let (front, rest) = word.split_at(key.len());
+    if is(front, key) { Some(rest) } else { None }
 }
 
 /// Whether the word is a number as it is written.

@@ -59,7 +59,7 @@ fn put_count(text: &mut Vec<u8>, family: &Family, count: usize) -> Result<(), Al
 }
 
 /// How many of these lines aren't known.
-fn unread_in(lines: &[Line<'_>]) -> usize
+pub fn unread_in(lines: &[Line<'_>]) -> usize
     ensures { result ≡ count_by is_unread (map line_view lines.now) }
 {
     lines

@@ -5,7 +5,7 @@ ghost use Rattle.relay_metrics.specs.Exposition.{joined};
 use std::alloc::AllocError;
 
 /// Puts these texts behind what is there, in their order.
-pub(crate) fn put(text: &mut Vec<u8>, parts: &[&[u8]]) -> Result<(), AllocError>
+pub fn put(text: &mut Vec<u8>, parts: &[&[u8]]) -> Result<(), AllocError>
     ensures { OnOk result (text.new.items
         ≡ text.old.items ++ joined (map (λ part. part.now) parts.now)) }
 {

@@ -1,0 +1,6 @@
+mod Escapes
+mod Hundredths
+mod Kept
+mod Parts
+mod Places
+mod Together

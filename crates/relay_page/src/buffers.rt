@@ -1,0 +1,81 @@
+//! The buffers on the page, each with its size.
+ghost use Rattle.std.specs.Prelude.{◌≡◌, ◌++◌, OnOk, map};
+ghost use Rattle.relay_metrics.specs.Lines.{line_view};
+ghost use Rattle.relay_page.specs.Rows.{buffer_row, buffer_rows, filled_share, size_at, size_text};
+ghost use Rattle.relay_page.specs.Rows as terms;
+
+use crate::bar::{hundredths, number_at, put_bar};
+use crate::figures::{BUFFER, SIZE, put_figures};
+use crate::rows::put_heading;
+use line_words::is;
+use relay_metrics::Line;
+use std::alloc::AllocError;
+
+/// Puts the buffers, each with its size, which stands at the same place among the sizes.
+pub(crate) fn put_buffers(
+    text: &mut Vec<u8>,
+    buffers: &[Line<'_>],
+    sizes: &[Line<'_>],
+) -> Result<(), AllocError>
+    ensures { OnOk result (text.new.items ≡ text.old.items
+        ++ buffer_rows (map line_view sizes.now) 0 (map line_view buffers.now)) }
+{
+    for (place, buffer) in buffers.iter().enumerate() {
+        put_buffer(text, buffer, sizes, place)?;
+    }
+    Ok(())
+}
+
+/// Puts a buffer: its name, a bar of what is filled, and its numbers, those of its size too.
+fn put_buffer(
+    text: &mut Vec<u8>,
+    line: &Line<'_>,
+    sizes: &[Line<'_>],
+    place: usize,
+) -> Result<(), AllocError>
+    ensures { OnOk result (text.new.items ≡ text.old.items
+        ++ buffer_row (size_at (map line_view sizes.now) place (line_view line.now).name)
+        (line_view line.now)) }
+{
+    put_heading(text, line.name)?;
+    put_bar(text, filled_share(sizes, place, line.name))?;
+    text.extend_from_slice(b"<p>\n")?;
+    put_figures(text, BUFFER, line)?;
+    put_size(text, sizes, place, line.name)?;
+    text.extend_from_slice(b"</p>\n")
+}
+
+/// How many hundredths of the blocks of the buffer of this name are filled, by the size at this
+/// place, where that is of that name.
+fn filled_share(sizes: &[Line<'_>], place: usize, name: &[u8]) -> Option<u64>
+    ensures { result ≡ filled_share (size_at (map line_view sizes.now) place name.now) }
+{
+    match sizes.get(place) {
+        Some(size) if is(size.name, name) => share_of(size),
+        _ => None,
+    }
+}
+
+/// How many hundredths of its blocks are filled, by the line of a buffer's size.
+fn share_of(size: &Line<'_>) -> Option<u64>
+    ensures { result ≡ terms.share_by (line_view size.now) }
+{
+    let blocks = number_at(size, 0)?;
+    hundredths(number_at(size, 1)?, blocks)
+}
+
+/// Puts the numbers of the size at this place, where it is of the buffer of this name.
+fn put_size(
+    text: &mut Vec<u8>,
+    sizes: &[Line<'_>],
+    place: usize,
+    name: &[u8],
+) -> Result<(), AllocError>
+    ensures { OnOk result (text.new.items ≡ text.old.items
+        ++ size_text (size_at (map line_view sizes.now) place name.now)) }
+{
+    match sizes.get(place) {
+        Some(size) if is(size.name, name) => put_figures(text, SIZE, size),
+        _ => Ok(()),
+    }
+}

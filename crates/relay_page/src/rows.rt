@@ -1,0 +1,116 @@
+//! What the page has of each line of a report.
+ghost use Rattle.std.specs.Prelude.{◌≡◌, ◌++◌, OnOk, flat_map, map};
+ghost use Rattle.relay_metrics.specs.Lines.{line_view};
+ghost use Rattle.relay_page.specs.Rows.{feed_row, heading, ids_row, peer_row, row_of};
+ghost use Rattle.relay_page.specs.Rows as terms;
+
+use crate::bar::{hundredths, number_at, put_bar};
+use crate::escaped::put_escaped;
+use crate::figures::{FEED, IDS, PEER, put_figures};
+use relay_metrics::{Line, Subject};
+use std::alloc::AllocError;
+
+/// A part of the page, by what its lines are about.
+#[derive(Clone, Copy)]
+pub(crate) enum Part {
+    /// That the relay is being repaired.
+    Notice,
+    /// The buffers of a relay that is being repaired.
+    Repaired,
+    /// The feeds.
+    Feeds,
+    /// The message-ids.
+    Ids,
+    /// The peers.
+    Peers,
+}
+
+/// What is told of a relay that is being repaired.
+const NOTICE: &[u8] = b"<p>The relay is being repaired and serves nobody yet.</p>\n";
+
+/// Puts what a part of the page has of these lines. In no feed wait more tokens than `most`.
+pub(crate) fn put_rows(
+    text: &mut Vec<u8>,
+    part: Part,
+    most: u64,
+    lines: &[Line<'_>],
+) -> Result<(), AllocError>
+    ensures { OnOk result (text.new.items
+        ≡ text.old.items ++ flat_map (row_of part most) (map line_view lines.now)) }
+{
+    for line in lines {
+        put_row(text, part, most, line)?;
+    }
+    Ok(())
+}
+
+/// Puts what a part of the page has of a line.
+fn put_row(
+    text: &mut Vec<u8>,
+    part: Part,
+    most: u64,
+    line: &Line<'_>,
+) -> Result<(), AllocError>
+    ensures { OnOk result (text.new.items
+        ≡ text.old.items ++ row_of part most (line_view line.now)) }
+{
+    match (part, line.subject) {
+        (Part::Notice, Subject::Recovering) => text.extend_from_slice(NOTICE),
+        (Part::Repaired, Subject::Repaired) => put_heading(text, line.name),
+        (Part::Feeds, Subject::Feed) => put_feed(text, most, line),
+        (Part::Ids, Subject::Ids) => put_ids(text, line),
+        (Part::Peers, Subject::Peer) => put_peer(text, line),
+        _ => Ok(()),
+    }
+}
+
+/// Puts a name as a heading.
+pub(crate) fn put_heading(text: &mut Vec<u8>, name: &[u8]) -> Result<(), AllocError>
+    ensures { OnOk result (text.new.items ≡ text.old.items ++ heading name.now) }
+{
+    text.extend_from_slice(b"<h3>")?;
+    put_escaped(text, name)?;
+    text.extend_from_slice(b"</h3>\n")
+}
+
+/// Puts a feed: its name, a bar of the tokens that wait, and its numbers.
+fn put_feed(text: &mut Vec<u8>, most: u64, line: &Line<'_>) -> Result<(), AllocError>
+    ensures { OnOk result (text.new.items
+        ≡ text.old.items ++ feed_row most (line_view line.now)) }
+{
+    put_heading(text, line.name)?;
+    put_bar(text, waiting_share(most, line))?;
+    text.extend_from_slice(b"<p>\n")?;
+    put_figures(text, FEED, line)?;
+    text.extend_from_slice(b"</p>\n")
+}
+
+/// How many hundredths of the most the tokens are that wait by a line.
+fn waiting_share(most: u64, line: &Line<'_>) -> Option<u64>
+    ensures { result ≡ terms.waiting_share most (line_view line.now) }
+{
+    match number_at(line, 0) {
+        Some(waiting) => hundredths(waiting, most),
+        None => None,
+    }
+}
+
+/// Puts the numbers of the message-ids.
+fn put_ids(text: &mut Vec<u8>, line: &Line<'_>) -> Result<(), AllocError>
+    ensures { OnOk result (text.new.items ≡ text.old.items ++ ids_row (line_view line.now)) }
+{
+    text.extend_from_slice(b"<p>\n")?;
+    put_figures(text, IDS, line)?;
+    text.extend_from_slice(b"</p>\n")
+}
+
+/// Puts a peer as a row of a table.
+fn put_peer(text: &mut Vec<u8>, line: &Line<'_>) -> Result<(), AllocError>
+    ensures { OnOk result (text.new.items ≡ text.old.items ++ peer_row (line_view line.now)) }
+{
+    text.extend_from_slice(b"<tr><th>")?;
+    put_escaped(text, line.name)?;
+    text.extend_from_slice(b"</th>")?;
+    put_figures(text, PEER, line)?;
+    text.extend_from_slice(b"</tr>\n")
+}
