@@ -1,4 +1,5 @@
 pub mod Figures
+pub mod Filled
 pub mod Gates
 pub mod Lives
 pub mod Moments

@@ -10,6 +10,7 @@
 mod clock;
 mod desk;
 mod figures;
+mod filled;
 mod gate;
 mod keeping;
 mod lives;
