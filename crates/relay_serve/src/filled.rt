@@ -29,11 +29,7 @@ pub(crate) fn put_sizes(
 }
 
 /// Puts the line of a buffer.
-fn put_size(
-    text: &mut Vec<u8>,
-    buffer: &BufferConf,
-    named: &NamedBuffer,
-) -> Result<(), AllocError>
+fn put_size(text: &mut Vec<u8>, buffer: &BufferConf, named: &NamedBuffer) -> Result<(), AllocError>
     ensures { OnOk result (text.new.items
         ≡ text.old.items ++ size_line buffer.now named.now) }
 {

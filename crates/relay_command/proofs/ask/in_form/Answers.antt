@@ -6,4 +6,4 @@ returns-in-Metrics-clause-text c =
 
 pub returns-in-Page-clause-text : goal.returns-in-Page-clause-text
 returns-in-Page-clause-text c =
-    rw c.in-Page.is (rw c.deref.ensures.value at c.page-text.ensures)
+    rw c.in-Page.is (rw c.deref-in-Page.ensures.value at c.page-text.ensures)
