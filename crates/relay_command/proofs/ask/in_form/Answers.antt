@@ -1,3 +1,7 @@
+use Rattle.std.proofs.Common.{◌≡◌, subst, sym}
+use Rattle.std.specs.Prelude.{IfOk}
+use Rattle.relay_command.specs.Ask.{formed}
+use Rattle.relay_page.specs.Page.{page_of}
 use Rattle.relay_command.proofs.ask.in_form.Goals as goal
 
 pub returns-in-Metrics-clause-text : goal.returns-in-Metrics-clause-text
@@ -6,4 +10,7 @@ returns-in-Metrics-clause-text c =
 
 pub returns-in-Page-clause-text : goal.returns-in-Page-clause-text
 returns-in-Page-clause-text c =
-    rw c.in-Page.is (rw c.deref-in-Page.ensures.value at c.page-text.ensures)
+    let told = subst (λ octets. IfOk c.page-text.result (λ text. text.items ≡ page_of octets))
+    c.deref-in-Page.ensures.value c.page-text.ensures in
+    subst (λ form. IfOk c.page-text.result (λ text. text.items ≡ formed form c.args.told.items))
+    (sym c.in-Page.is) told
