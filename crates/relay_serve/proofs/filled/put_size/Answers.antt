@@ -1,4 +1,4 @@
-use Rattle.relay_report.proofs.Lines.{behind, ends}
+use Rattle.relay_serve.proofs.Behind.{behind, ends}
 use Rattle.relay_serve.proofs.filled.put_size.Goals as goal
 
 -- the parts of the line stand behind one another
