@@ -41,7 +41,7 @@ def read_report(text):
         words = line.split()
         if words[0] == "ids":
             found["ids"] = [int(word) for word in words[1:]]
-        else:
+        elif words[0] in ("buffer", "feed"):
             found[words[0], words[1]] = [int(word) for word in words[2:]]
     return found
 

@@ -1,17 +1,16 @@
 -- What a call that asks was handed, and what is told where it isn't heard.
-use Rattle.std.proofs.Common.{◌≡◌, ℕ, List, Option, Result, Ok, Err, refl, subst}
+use Rattle.std.proofs.Common.{◌≡◌, ℕ, List, Option, Result, Ok, Err, refl, subst, true}
 use denote.Ref.{Bor}
 use Rattle.std.specs.Global.{Vec}
 use Rattle.std.specs.IoError.{error_kind}
 use Rattle.std.specs.declared.io.Error.{Error}
 use Rattle.std.specs.declared.io.ErrorKind.{ErrorKind}
 use Rattle.std.specs.declared.io.ErrorKind.TheVariants.{ConnectionRefused, NotFound, OutOfMemory}
-use Rattle.relay_command.specs.Ask.{Answered, Asking, AsksIn, IsUnheard}
+use Rattle.relay_command.specs.Ask.{Answered, Asking, AsksIn, IsUnheard, is_made}
 use Rattle.relay_command.specs.Ask.{not_asked, not_formed}
 use Rattle.relay_command.specs.declared.ask.AskError.{AskError}
 use Rattle.relay_command.specs.declared.ask.AskError.TheVariants.{Memory, Unwritten}
 use Rattle.relay_command.specs.declared.ask.Form.{Form}
-use Rattle.relay_command.specs.declared.ask.Form.TheVariants.{Metrics}
 use Rattle.relay_command.specs.declared.ask.Request.{Request}
 use Rattle.relay_command.proofs.Checks.{keeps_same}
 
@@ -44,9 +43,10 @@ unheard asking folder request form failure kind error held asked same is = (
   keeps_same held,
 )
 
--- Where there is no memory for the metrics, that is told and nothing is written.
+-- Where there is no memory for what is made of it, that is told and nothing is written.
 pub unformed : (asking : Asking) (folder : List ℕ) (request : Request) (form : Form) (told : Vec ℕ)
-    (held : Option (List ℕ)) → asking folder request (Ok told) → form ≡ Metrics
+    (held : Option (List ℕ)) → asking folder request (Ok told)
+    → is_made form ≡ true
     → AsksIn asking folder request form (Err Memory) held held
 unformed asking folder request form told held asked is =
     (not_formed told asked is refl, keeps_same held)

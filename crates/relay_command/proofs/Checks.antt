@@ -73,6 +73,7 @@ told_in standing config folder (Err (failures.Check (Faulty file line code name)
     absurd told
 told_in standing config folder (Err (failures.Unbegun unbegun)) before after is told = absurd told
 told_in standing config folder (Err (failures.Words error)) before after is told = absurd told
+told_in standing config folder (Err failures.Clash) before after is told = absurd told
 told_in standing config folder (Err (failures.Explain unexplained)) before after is told =
     absurd told
 told_in standing config folder (Err (failures.Drill error)) before after is told = absurd told

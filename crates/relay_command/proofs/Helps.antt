@@ -38,6 +38,7 @@ text_given words (Err failures.Unwritten) before after asked gives =
 text_given words (Err (failures.Words error)) before after asked gives =
     (wants_memory words error gives.0, gives.1)
 text_given words (Err (failures.Unbegun unbegun)) before after asked gives = absurd gives
+text_given words (Err failures.Clash) before after asked gives = absurd gives
 text_given words (Err (failures.Check error)) before after asked gives = absurd gives
 text_given words (Err (failures.Explain unexplained)) before after asked gives = absurd gives
 text_given words (Err (failures.Drill error)) before after asked gives = absurd gives

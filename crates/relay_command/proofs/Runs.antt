@@ -10,7 +10,7 @@ use Rattle.relay_command.specs.Ask.{Asking}
 use Rattle.clap.specs.Words.{Text}
 use Rattle.clap.specs.declared.error.Error.{Error}
 use Rattle.relay_command.specs.CommandLine.{Adds, Asked, Checks, Drills, Explains, Reports, Serves}
-use Rattle.relay_command.specs.CommandLine.{IsAskedBy, Stops, Tells}
+use Rattle.relay_command.specs.CommandLine.{Clashes, IsAskedBy, Stops, Tells}
 use Rattle.relay_command.specs.Help.{HelpGives}
 use Rattle.relay_command.specs.Run.{Performs, RunGives}
 use Rattle.relay_command.specs.Serving.{Handed, Serving}
@@ -41,6 +41,7 @@ module _ {W : Type 0} (contents : W → Option (List ℕ))
   never_words (Serves folder sessions fresh) error input before after does = does
   never_words (Stops folder) error input before after does = does
   never_words (Reports folder form) error input before after does = does
+  never_words Clashes error input before after does = does
   never_words (Adds folder) error input before after does = does
 
   -- Nor does it fail as help does that can't be written.
@@ -53,6 +54,7 @@ module _ {W : Type 0} (contents : W → Option (List ℕ))
   never_unwritten (Serves folder sessions fresh) input before after does = does
   never_unwritten (Stops folder) input before after does = does
   never_unwritten (Reports folder form) input before after does = does
+  never_unwritten Clashes input before after does = does
   never_unwritten (Adds folder) input before after does = does
 
   -- What the words ask for was done, or failed.
@@ -64,6 +66,7 @@ module _ {W : Type 0} (contents : W → Option (List ℕ))
   ran words a (Err (failures.Words error)) input before after is does =
       absurd (never_words a error input before after does)
   ran words a (Err (failures.Unbegun unbegun)) input before after is does = (a, is, does)
+  ran words a (Err failures.Clash) input before after is does = (a, is, does)
   ran words a (Err (failures.Check error)) input before after is does = (a, is, does)
   ran words a (Err (failures.Explain unexplained)) input before after is does = (a, is, does)
   ran words a (Err (failures.Drill error)) input before after is does = (a, is, does)
@@ -81,6 +84,7 @@ module _ {W : Type 0} (contents : W → Option (List ℕ))
   helped words (Err failures.Unwritten) input before after gives = gives
   helped words (Err (failures.Words error)) input before after gives = gives
   helped words (Err (failures.Unbegun unbegun)) input before after gives = absurd gives
+  helped words (Err failures.Clash) input before after gives = absurd gives
   helped words (Err (failures.Check error)) input before after gives = absurd gives
   helped words (Err (failures.Explain unexplained)) input before after gives = absurd gives
   helped words (Err (failures.Drill error)) input before after gives = absurd gives

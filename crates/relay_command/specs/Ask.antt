@@ -1,6 +1,7 @@
 -- What a relay that is served is asked for, and how it answers (docs/PROTOCOL.md, `stop` and
 -- `report`).
-use Rattle.std.specs.Prelude.{◌≡◌, ℕ, List, ◌++◌, codes, string_bytes, Option, Result, Ok, Err}
+use Rattle.std.specs.Prelude.{◌≡◌, ℕ, Bool, true, false, List, ◌++◌, codes, string_bytes, Option}
+use Rattle.std.specs.Prelude.{Result, Ok, Err}
 use denote.Ref.{Bor}
 use Rattle.std.specs.Global.{Vec}
 use Rattle.std.specs.IoError.{error_kind}
@@ -13,9 +14,10 @@ use Rattle.relay_command.specs.declared.ask.AskError.{AskError}
 use Rattle.relay_command.specs.declared.ask.AskError.TheVariants.{Memory, Unserved, Unusable}
 use Rattle.relay_command.specs.declared.ask.AskError.TheVariants.{Unwritten}
 use Rattle.relay_command.specs.declared.ask.Form.{Form}
-use Rattle.relay_command.specs.declared.ask.Form.TheVariants.{Metrics, Told}
+use Rattle.relay_command.specs.declared.ask.Form.TheVariants.{Metrics, Page, Told}
 use Rattle.relay_command.specs.declared.ask.Request.{Request}
 use Rattle.relay_metrics.specs.Exposition.{exposition_of}
+use Rattle.relay_page.specs.Page.{page_of}
 
 -- what asking may come to: of the folder in which a relay is served, and of what it is asked for,
 -- what it tells, or the system's error
@@ -52,10 +54,17 @@ IsUnheard folder NotFound error = IsUnserved folder error
 IsUnheard folder ConnectionRefused error = IsUnserved folder error
 IsUnheard folder kind error = error ≡ Unusable
 
--- what was told, as it is printed in this form (docs/FORMATS.md, Metrics)
+-- what was told, as it is printed in this form (docs/FORMATS.md, Metrics, Page)
 abbrev pub formed : Form → (told : List ℕ) → List ℕ
 formed Told told = told
 formed Metrics told = exposition_of told
+formed Page told = page_of told
+
+-- what is printed in this form is made of what was told
+abbrev pub is_made : Form → Bool
+is_made Told = false
+is_made Metrics = true
+is_made Page = true
 
 -- why nothing is told of what a relay was asked for, to be printed in this form
 pub data IsUntold (asking : Asking) (folder : List ℕ) (request : Request) (form : Form)
@@ -63,9 +72,9 @@ pub data IsUntold (asking : Asking) (folder : List ℕ) (request : Request) (for
   -- it could not be asked
   not_asked : (failure : io.Error) → asking folder request (Err failure)
       → IsUnheard folder (error_kind failure) error → IsUntold asking folder request form error
-  -- it told something, and there was no memory for its metrics
-  not_formed : (told : Vec ℕ) → asking folder request (Ok told) → form ≡ Metrics → error ≡ Memory
-      → IsUntold asking folder request form error
+  -- it told something, and there was no memory for what is made of that
+  not_formed : (told : Vec ℕ) → asking folder request (Ok told) → is_made form ≡ true
+      → error ≡ Memory → IsUntold asking folder request form error
 
 -- What asking a relay that is served in a folder answers: what it told was written in this form, or
 -- the writer failed, with a front of it; or there is nothing to tell, and nothing was written.

@@ -1,5 +1,5 @@
 -- What the program's words ask for (docs/PROTOCOL.md, Commands), by what clap states of them.
-use Rattle.std.specs.Prelude.{◌≡◌, ◌⊎◌, ℕ, Bool, true, false, List, [], Option, Some, None}
+use Rattle.std.specs.Prelude.{◌≡◌, ◌⊎◌, ◌&&◌, ℕ, Bool, true, false, List, [], Option, Some, None}
 use Rattle.std.specs.Prelude.{Result, Ok, Err, unwrap_or, codes, string_bytes, if◌then◌else◌}
 use Rattle.std.specs.Prelude.{option_and_then, pos}
 use Rattle.std.specs.Str.{bytes_eq}
@@ -17,7 +17,7 @@ use Rattle.relay_command.specs.Numbers.{number_of}
 use Rattle.relay_command.specs.Questions.{Asking, question_given, question_of}
 use Rattle.relay_command.specs.Questions as questions
 use Rattle.relay_command.specs.declared.ask.Form.{Form}
-use Rattle.relay_command.specs.declared.ask.Form.TheVariants.{Metrics, Told}
+use Rattle.relay_command.specs.declared.ask.Form.TheVariants.{Metrics, Page, Told}
 use Rattle.relay_command.specs.declared.command_line.Job.{Job}
 use Rattle.relay_command.specs.declared.command_line.Job.TheVariants as jobs
 
@@ -38,6 +38,8 @@ pub data Asked : Type 0 where
   Stops : (folder : List ℕ) → Asked
   -- to print the report of the relay that is served in a folder, in this form
   Reports : (folder : List ℕ) (form : Form) → Asked
+  -- to print a report in two forms, which isn't done
+  Clashes : Asked
   -- to make the files of the buffers that the configuration in a folder has behind those of the
   -- relay that was stopped there
   Adds : (folder : List ℕ) → Asked
@@ -51,6 +53,7 @@ asked (jobs.Token text) = Tells (string_bytes text)
 asked (jobs.Serve folder sessions fresh) = Serves (string_bytes folder) sessions fresh
 asked (jobs.Stop folder) = Stops (string_bytes folder)
 asked (jobs.Report folder form) = Reports (string_bytes folder) form
+asked jobs.Clash = Clashes
 asked (jobs.Add folder) = Adds (string_bytes folder)
 
 -- a word that has to be there
@@ -78,11 +81,11 @@ explain_words = questions.explain_words (needed (codes "DIR"))
 abbrev pub flag_rule : Text → Rule
 flag_rule name = record (new_rule name) { long = Some name; action = Some SetTrue }
 
--- `report DIR [--openmetrics]`
+-- `report DIR [--openmetrics] [--html]`
 abbrev pub report_words : App
 report_words =
-    with_rule (with_rule (new_app (codes "report")) (needed (codes "DIR")))
-    (flag_rule (codes "openmetrics"))
+    with_rule (with_rule (with_rule (new_app (codes "report")) (needed (codes "DIR")))
+    (flag_rule (codes "openmetrics"))) (flag_rule (codes "html"))
 
 -- `--sessions N`, a number of 1 to 1,000,000 that may be left out
 abbrev pub sessions_rule : Rule
@@ -149,14 +152,26 @@ flag_given name rows = bytes_eq (word_given name rows) (codes "true")
 abbrev pub fresh_given : List Row → Bool
 fresh_given rows = flag_given (codes "fresh") rows
 
--- the form in which the report is printed: as metrics where `--openmetrics` is given, else as it is
--- told
+-- the form in which the report is printed: as metrics where `--openmetrics` is given, as a page
+-- where `--html` is, else as it is told
 abbrev pub form_given : List Row → Form
-form_given rows = if flag_given (codes "openmetrics") rows then Metrics else Told
+form_given rows =
+    if flag_given (codes "openmetrics") rows then Metrics
+    else if flag_given (codes "html") rows then Page
+    else Told
+
+-- whether two forms are given
+abbrev pub two_given : List Row → Bool
+two_given rows = flag_given (codes "openmetrics") rows && flag_given (codes "html") rows
+
+-- what `report` asks of a folder, with what is given for its other names
+abbrev pub reports_in : (folder : List ℕ) → List Row → Asked
+reports_in folder rows =
+    if two_given rows then Clashes else Reports folder (form_given rows)
 
 -- what `report` asks, with what is given for its names
 abbrev pub reports_by : List Row → Asked
-reports_by rows = Reports (word_given (codes "DIR") rows) (form_given rows)
+reports_by rows = reports_in (word_given (codes "DIR") rows) rows
 
 -- what `serve` asks, with what is given for its names
 abbrev pub serves_by : List Row → Asked

@@ -17,7 +17,7 @@ use Rattle.relay_command.specs.declared.ask.AskError.TheVariants as ask
 use Rattle.relay_command.specs.declared.load.CheckError as load
 use Rattle.relay_command.specs.declared.load.CheckError.TheVariants as check
 use Rattle.relay_command.specs.declared.failure.Failure.{Failure}
-use Rattle.relay_command.specs.declared.failure.Failure.TheVariants.{Unbegun, Words, Check}
+use Rattle.relay_command.specs.declared.failure.Failure.TheVariants.{Unbegun, Words, Clash, Check}
 use Rattle.relay_command.specs.declared.failure.Failure.TheVariants.{Explain}
 use Rattle.relay_command.specs.declared.failure.Failure.TheVariants.{Drill, Serve, Token, Ask}
 use Rattle.relay_command.specs.declared.failure.Failure.TheVariants.{Unwritten}
@@ -50,6 +50,7 @@ abbrev pub status_of : Failure → ℕ
 status_of (Unbegun unbegun.Memory) = 5
 status_of (Unbegun unbegun.NoText) = 1
 status_of (Words error) = words_status (kind_of error)
+status_of Clash = 1
 status_of (Check error) = check_status error
 status_of (Explain unexplained) = check_status unexplained.error
 status_of (Drill drill.Memory) = 5
@@ -89,6 +90,10 @@ abbrev pub unbegun_text : begin.Unbegun → List ℕ
 unbegun_text unbegun.Memory = codes "out of memory"
 unbegun_text unbegun.NoText = codes "a word is no UTF-8"
 
+-- what is told of a report in two forms, as clap tells it of words that clash
+abbrev pub clash_text : List ℕ
+clash_text = codes "error: the argument '--openmetrics' cannot be used with '--html'"
+
 -- a text and the line's end
 abbrev pub ended : List ℕ → List ℕ
 ended text = text ++ codes "\n"
@@ -97,6 +102,7 @@ ended text = text ++ codes "\n"
 abbrev pub failure_text : Failure → Option (List ℕ)
 failure_text (Unbegun unbegun) = Some (unbegun_text unbegun)
 failure_text (Words error) = None
+failure_text Clash = Some clash_text
 failure_text (Check error) = Some (check_text error)
 failure_text (Explain unexplained) = Some (explain_text unexplained.error)
 failure_text (Drill error) = Some (text_of error)

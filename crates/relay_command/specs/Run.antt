@@ -9,7 +9,7 @@ use Rattle.relay_command.specs.Adding.{Adding, Standing}
 use Rattle.relay_command.specs.Ask.{Asking, AsksIn}
 use Rattle.relay_command.specs.Check.{HasError, IsIn, IsUnchecked, counted}
 use Rattle.relay_command.specs.CommandLine.{Asked, Drills, Checks, Explains, Tells, Serves}
-use Rattle.relay_command.specs.CommandLine.{Adds, Stops, Reports}
+use Rattle.relay_command.specs.CommandLine.{Adds, Stops, Reports, Clashes}
 use Rattle.relay_command.specs.CommandLine.{IsAskedBy}
 use Rattle.relay_command.specs.Explain.{ExplainsFolder}
 use Rattle.relay_command.specs.Files.{CannotBeRead}
@@ -22,7 +22,7 @@ use Rattle.relay_command.specs.declared.ask.Request.{Request}
 use Rattle.relay_command.specs.declared.ask.Request.TheVariants.{Stop, Report}
 use Rattle.relay_command.specs.declared.failure.Failure.{Failure}
 use Rattle.relay_command.specs.declared.failure.Failure.TheVariants.{Words, Check, Drill, Serve}
-use Rattle.relay_command.specs.declared.failure.Failure.TheVariants.{Token, Ask, Unwritten}
+use Rattle.relay_command.specs.declared.failure.Failure.TheVariants.{Token, Ask, Clash, Unwritten}
 use Rattle.relay_command.specs.declared.load.CheckError.TheVariants as check
 use Rattle.relay_adding.specs.Telling.{AddGives}
 use Rattle.relay_report.specs.Serve.{ServeGives}
@@ -148,6 +148,12 @@ AsksFolder asking folder request form (Err (Ask error)) before after =
     AsksIn asking folder request form (Err error) before after
 AsksFolder asking folder request form (Err failure) before after = ⊥
 
+-- that two forms were asked for was told, and nothing was asked or written
+abbrev pub RefusesClash : Result (Unit {0}) Failure → (before after : Option (List ℕ)) → Type 0
+RefusesClash (Ok done) before after = ⊥
+RefusesClash (Err Clash) before after = Keeps before after
+RefusesClash (Err failure) before after = ⊥
+
 -- what was asked for is done, or failed with a failure of its own; only a drill reads standard
 -- input
 abbrev pub Performs : Serving → Adding → Standing → Asking → Asked → Result (Unit {0}) Failure
@@ -166,6 +172,8 @@ Performs serving adding standing asking (Stops folder) result input before after
     AsksFolder asking folder Stop Told result before after
 Performs serving adding standing asking (Reports folder form) result input before after =
     AsksFolder asking folder Report form result before after
+Performs serving adding standing asking Clashes result input before after =
+    RefusesClash result before after
 Performs serving adding standing asking (Adds folder) result input before after =
     AddsFolder adding folder result before after
 

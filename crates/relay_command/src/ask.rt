@@ -1,11 +1,12 @@
 //! Asking the relay that is served in a folder (docs/PROTOCOL.md, `stop` and `report`).
-ghost use Rattle.std.specs.Prelude.{◌≡◌, IfErr, IfOk, Some};
-ghost use Rattle.relay_command.specs.Ask.{Answered, IsUnheard, IsUnserved, ask_text, formed};
-ghost use Rattle.relay_command.specs.declared.ask.Form.TheVariants.{Metrics};
+ghost use Rattle.std.specs.Prelude.{◌≡◌, IfErr, IfOk, Some, true};
+ghost use Rattle.relay_command.specs.Ask.{Answered, IsUnheard, IsUnserved, ask_text};
+ghost use Rattle.relay_command.specs.Ask.{formed, is_made};
 ghost use Rattle.relay_command.specs.Run.{AsksFolder};
 
 use crate::failure::Failure;
 use relay_metrics::exposition;
+use relay_page::page;
 use relay_report::put;
 use std::alloc::{AllocError, Global};
 use std::error::Error;
@@ -29,6 +30,8 @@ pub enum Form {
     Told,
     /// As metrics (docs/FORMATS.md, Metrics).
     Metrics,
+    /// As a page (docs/FORMATS.md, Page).
+    Page,
 }
 
 /// Why what a relay tells can't be had, or is not printed. Its text is what the program prints.
@@ -92,15 +95,20 @@ where
     }
 }
 
-/// What a relay told, in this form. Only metrics take memory.
+/// What a relay told, in this form. What is told as it is takes no memory.
 fn in_form(alloc: Global, form: Form, told: Vec<u8>) -> Result<Vec<u8>, AllocError>
     ensures text { IfOk result (λ text. text.items ≡ formed form told.items) }
-    ensures memory { IfErr result (λ error. form ≡ Metrics) }
+    ensures memory { IfErr result (λ error. is_made form ≡ true) }
 {
     match form {
         Form::Told => Ok(told),
         Form::Metrics => {
             let text = exposition(alloc, &told);
+            drop(told);
+            text
+        }
+        Form::Page => {
+            let text = page(alloc, &told);
             drop(told);
             text
         }

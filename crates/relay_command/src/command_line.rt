@@ -4,9 +4,9 @@ ghost use Rattle.std.specs.Prelude.{IfOk, Some, bytes_eq};
 ghost use Rattle.clap.specs.Words.{found_of, one_of, rows_of, subcommand_rows_of};
 ghost use Rattle.relay_command.specs.CommandLine.{ReadsWords, asked, asked_by};
 ghost use Rattle.relay_command.specs.CommandLine.{word_given};
-ghost use Rattle.relay_command.specs.CommandLine.{Drills, Explains, Reports, Serves};
+ghost use Rattle.relay_command.specs.CommandLine.{Drills, Explains, Serves};
 ghost use Rattle.relay_command.specs.CommandLine.{flag_given, form_given, fresh_given};
-ghost use Rattle.relay_command.specs.CommandLine.{sessions_given};
+ghost use Rattle.relay_command.specs.CommandLine.{reports_in, sessions_given, two_given};
 ghost use Rattle.relay_command.specs.Numbers.{number_of};
 ghost use Rattle.relay_command.specs.Questions.{question_given};
 
@@ -49,6 +49,8 @@ pub enum Job {
         folder: String,
         form: Form,
     },
+    /// To print a report in two forms, which isn't done.
+    Clash,
     /// To make the files of the buffers that the configuration in this folder, or the built-in one,
     /// has behind those of the relay that was stopped there.
     Add(String),
@@ -150,13 +152,25 @@ fn service(given: &ArgMatches<'_>, folder: String) -> Job
     }
 }
 
-/// What `report` asks for of this folder, with what was given for its words.
+/// What `report` asks for of this folder, with what was given for its words: one form at most.
 fn reporting(given: &ArgMatches<'_>, folder: String) -> Job
-    ensures { asked result ≡ Reports (string_bytes folder)
-        (form_given (rows_of (found_of given.now))) }
+    ensures { asked result ≡ reports_in (string_bytes folder) (rows_of (found_of given.now)) }
 {
+    if are_both(given) {
+        drop(folder);
+        return Job::Clash;
+    }
     let form = form(given);
     Job::Report { folder, form }
+}
+
+/// Whether two forms of a report are given.
+fn are_both(given: &ArgMatches<'_>) -> bool
+    ensures { result ≡ two_given (rows_of (found_of given.now)) }
+{
+    let metrics = flag(given, "openmetrics");
+    let page = flag(given, "html");
+    metrics && page
 }
 
 /// In which form the report is printed.
@@ -165,6 +179,8 @@ fn form(given: &ArgMatches<'_>) -> Form
 {
     if flag(given, "openmetrics") {
         Form::Metrics
+    } else if flag(given, "html") {
+        Form::Page
     } else {
         Form::Told
     }

@@ -46,6 +46,9 @@ impl fmt::Debug for Unbegun {
 
 impl error::Error for Unbegun {}
 
+/// What is told of a report in two forms, as clap tells it of words that clash.
+const CLASH: &str = "error: the argument '--openmetrics' cannot be used with '--html'";
+
 /// Why the program ends with a status other than 0. Its text is what the program prints.
 #[derive(Error)]
 pub enum Failure {
@@ -53,6 +56,8 @@ pub enum Failure {
     Unbegun(Unbegun),
     /// The words are no command line; or memory ran out as they were read, or as help was made.
     Words(clap::Error),
+    /// The words ask for a report in two forms.
+    Clash,
     /// A configuration can't be had, or is not told.
     Check(CheckError),
     /// A configuration can't be had, or is not explained.
@@ -83,6 +88,7 @@ impl Display for Failure {
             Failure::Token(fault) => Display::fmt(fault, formatter),
             Failure::Serve(error) => Display::fmt(error, formatter),
             Failure::Ask(error) => Display::fmt(error, formatter),
+            Failure::Clash => formatter.write_str(CLASH),
             Failure::Unwritten => formatter.write_str("stdout: unwritten"),
         }
     }
@@ -94,6 +100,7 @@ impl Drop for Failure {
         match self {
             Failure::Unbegun(_) => {}
             Failure::Words(_) => {}
+            Failure::Clash => {}
             Failure::Check(_) => {}
             Failure::Explain(_) => {}
             Failure::Drill(_) => {}
@@ -119,6 +126,7 @@ impl Failure {
         match self {
             Failure::Unbegun(Unbegun::NoText) => 1,
             Failure::Words(error) => words_status(error),
+            Failure::Clash => 1,
             Failure::Check(error) => check_status(error),
             Failure::Explain(unexplained) => check_status(&unexplained.error),
             Failure::Drill(DrillError::Line(_) | DrillError::Unreadable) => 3,

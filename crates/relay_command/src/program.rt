@@ -190,6 +190,7 @@ where
         Job::Report { folder, form } => {
             ask_in(alloc, folder, Request::Report, *form, writer, ask)
         }
+        Job::Clash => Err(Failure::Clash),
         Job::Add(folder) => add_in(rt, alloc, folder, writer, add),
     }
 }

@@ -102,6 +102,13 @@ const OPENMETRICS: Word = Word {
     kind: Kind::Flag,
 };
 
+/// That the report is told as a page.
+const HTML: Word = Word {
+    name: "html",
+    told: "Prints it as a page, for a browser to show",
+    kind: Kind::Flag,
+};
+
 /// The text of a token.
 const TEXT: Word = Word {
     name: "TEXT",
@@ -134,7 +141,7 @@ const COMMANDS: &[Words] = &[
     Words {
         name: "report",
         does: "Prints the report of a relay that is served",
-        words: &[SERVED, OPENMETRICS],
+        words: &[SERVED, OPENMETRICS, HTML],
     },
     Words {
         name: "serve",

@@ -1,6 +1,7 @@
 -- What the lines of a report say (docs/FORMATS.md, Report; cnrelay(1), Asking).
 use Rattle.std.specs.Prelude.{ℕ, ◌&&◌, Bool, List, [], ◌∷◌, ◌++◌, bytes_eq, drop}
-use Rattle.std.specs.Prelude.{length, map, nat_le, option_and_then, option_map, take, unwrap_or, Option, None, Some}
+use Rattle.std.specs.Prelude.{length, map, nat_le, option_and_then, option_map, take, unwrap_or}
+use Rattle.std.specs.Prelude.{Option, None, Some}
 use Rattle.std.specs.Prelude.{false, true, if◌then◌else◌}
 use Rattle.std.specs.Borrow.{Bor}
 use Rattle.line_words.specs.Numbers.{is_numeral}

@@ -45,12 +45,7 @@ pub(crate) fn put_rows(
 }
 
 /// Puts what a part of the page has of a line.
-fn put_row(
-    text: &mut Vec<u8>,
-    part: Part,
-    most: u64,
-    line: &Line<'_>,
-) -> Result<(), AllocError>
+fn put_row(text: &mut Vec<u8>, part: Part, most: u64, line: &Line<'_>) -> Result<(), AllocError>
     ensures { OnOk result (text.new.items
         ≡ text.old.items ++ row_of part most (line_view line.now)) }
 {

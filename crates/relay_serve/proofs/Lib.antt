@@ -1,3 +1,4 @@
+mod Behind
 mod Kept
 mod PeerSources
 mod Reached

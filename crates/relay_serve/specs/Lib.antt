@@ -1,5 +1,6 @@
 pub mod Callers
 pub mod Figures
+pub mod Filled
 pub mod Gates
 pub mod Lives
 pub mod Moments

@@ -11,6 +11,7 @@ mod callers;
 mod clock;
 mod desk;
 mod figures;
+mod filled;
 mod gate;
 mod keeping;
 mod lives;

@@ -5,6 +5,7 @@ ghost use Rattle.relay_serve.specs.Syncing.{syncing_in};
 
 use crate::desk::Desk;
 use crate::figures::figures_of;
+use crate::filled::put_sizes;
 use crate::gate::CountingGate;
 use cyc_block::BlockStore;
 use live_store::StorePremises;
@@ -223,9 +224,23 @@ impl<S: BlockStore + Drop, J: StorePremises, L: Ledger, C: live_session::Clock> 
     }
 }
 
+/// What is told of these figures: the report of them, a line for each peer, and one for each
+/// buffer's size, by the front that the buffer's line has.
+fn told_of(
+    alloc: Global,
+    config: &Config,
+    figures: &Figures,
+    gate: &CountingGate<'_>,
+) -> Result<Vec<u8>, AllocError> {
+    let mut text = text_of(alloc, figures)?;
+    gate.put_peers(&mut text)?;
+    put_sizes(&mut text, &config.buffers.buffers, &figures.buffers)?;
+    Ok(text)
+}
+
 impl<S: BlockStore + Drop, J: StorePremises, L: Ledger, C: live_session::Clock, R: Wait> Figured<R>
     for Served<'_, S, J, L, C> {
-    /// The report of the relay as it is, and a line for each peer.
+    /// The report of the relay as it is, a line for each peer, and one for each buffer's size.
     fn report(
         &self,
         rt: &R,
@@ -233,11 +248,9 @@ impl<S: BlockStore + Drop, J: StorePremises, L: Ledger, C: live_session::Clock, 
         gate: &CountingGate<'_>,
     ) -> Result<Vec<u8>, AllocError> {
         let figures = self.figures(rt, alloc)?;
-        let text = text_of(alloc, &figures);
+        let text = told_of(alloc, self.config, &figures, gate);
         drop(figures);
-        let mut text = text?;
-        gate.put_peers(&mut text)?;
-        Ok(text)
+        text
     }
 
     fn between(&self) -> u64 {

@@ -29,7 +29,7 @@ returns-in-Ok-in_form g c = (
       (c.deref.ensures.value ∙ c.in-Ok-in_form.ensures.text) c.in-Err-put.ensures,
 )
 
--- or there was no memory for its metrics, and nothing was written;
+-- or there was no memory for what is made of it, and nothing was written;
 pub returns-in-Ok : goal.returns-in-Ok
 returns-in-Ok g c =
     let post = λ (folder : Bor (List ℕ)) (request : Request) (answer : Result (Vec ℕ) Error).
