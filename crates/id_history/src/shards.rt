@@ -2,7 +2,8 @@ ghost use Rattle.std.specs.Prelude.{◌≡◌, ◌≢◌, ◌<◌, ℕ, List, So
 ghost use Rattle.std.specs.Prelude.{IsOk, IfOk, IfSome, OnOk, OnErr, ◌+◌, vec_len, vec_capacity};
 ghost use Rattle.std.specs.List.{AllByRecursion};
 ghost use Rattle.cyc_token.specs.Token.{token_view};
-ghost use Rattle.relay_model.specs.Claims.{standing, Accepted, Claim, Unknown, offer_answer, after_offer};
+ghost use Rattle.relay_model.specs.Claims.{standing, Accepted, Claim, Unknown, offer_answer};
+ghost use Rattle.relay_model.specs.Claims.{after_offer};
 ghost use Rattle.relay_model.specs.Claims.{take_answer, after_take, after_refuse, after_release};
 ghost use Rattle.relay_model.specs.Claims.{after_forget, is_storing_for, after_settle, look_answer};
 ghost use Rattle.relay_model.specs.Run as run;

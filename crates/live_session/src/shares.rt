@@ -40,7 +40,7 @@ pub trait Shares<J: StorePremises, R> {
     /// The token of the article of the id, where it is stored.
     fn look(&self, rt: &R, id: &MsgId) -> Option<Token>;
 
-    /// The session's article of the id is refused at this moment, where offers last so many seconds.
+    /// The session's article of the id is refused at this moment, where offers last so long.
     fn refuse(
         &self,
         rt: &R,

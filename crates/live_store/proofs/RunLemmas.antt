@@ -59,7 +59,8 @@ module _ {S : Type 0} {s : Ghosts S} {J : Type 0} {j : store_premises.Ghosts J}
   -- nothing was read
   pub none_behind : (token : codes.Token) (k blocks : ℕ) (ahead : Ahead)
       → blocks ≡ blocks_behind k token.length → ahead.token ≡ token → ahead.from ≡ k + 1
-      → length ahead.octets.items ≡ 0 → GoesAsFar old own blocks ahead → HasNoneBehind old own token k
+      → length ahead.octets.items ≡ 0 → GoesAsFar old own blocks ahead
+      → HasNoneBehind old own token k
   none_behind token k blocks ahead count named from empty (ToTheLast all) =
       inl (sym count ∙ omega (arith, all, empty))
   none_behind token k blocks ahead count named from empty (ToAShortOne n more less) =

@@ -40,7 +40,8 @@ impl<J: StorePremises> OneRecord<J> {
     ghost use Rattle.cyc_buffer.specs.declared.answers.Found.TheVariants as found;
     ghost use Rattle.cyc_token.specs.Token.{token_view};
     ghost use Rattle.live_store.specs.Ahead.{GoesAsFar, IsAhead, IsGivenAhead, IsToldOfRead};
-    ghost use Rattle.live_store.specs.Ahead.{WasMerelyRead, blocks_behind, chunk_ahead, left_behind};
+    ghost use Rattle.live_store.specs.Ahead.{WasMerelyRead, blocks_behind, chunk_ahead};
+    ghost use Rattle.live_store.specs.Ahead.{left_behind};
     ghost use Rattle.live_store.specs.Causes.{cause_of};
     ghost use Rattle.live_store.specs.Steps.{IsFoundIn, IsFoundGone, IsReadFault, IsRecordAfter};
     ghost use Rattle.live_store.specs.Steps.{IsShown, IsOneNowhere, IsOneThere, IsOneUnfound};

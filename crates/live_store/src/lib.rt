@@ -1,8 +1,9 @@
 //! Buffers under locks, and the register of what was written into them (docs/PROTOCOL.md, Store).
 //!
 //! A writer stores a text and others fetch it, in any threads: each step takes the lock of one
-//! buffer for one call of it, and a read of an article for those of a run of its blocks. A text that
-//! is fetched is that of the record of its number, and a record never changes under its number.
+//! buffer for one call of it, and a read of an article for those of a run of its blocks. A text
+//! that is fetched is that of the record of its number, and a record never changes under its
+//! number.
 //!
 //! A register: values that each get a number of their own for good, in any threads.
 //!

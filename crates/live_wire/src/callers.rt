@@ -1,27 +1,23 @@
 //! Who may connect to a port.
-ghost use Rattle.std.specs.Prelude.{◌≡◌, if◌then◌else◌};
-ghost use Rattle.std.specs.List.{list_any};
-ghost use Rattle.std.specs.Net.Addr.{ipv4_bits};
-ghost use Rattle.live_wire.specs.Callers.{let_in_of, ranges_of};
+ghost use Rattle.std.specs.Prelude.{ℕ, List, ◌≡◌};
+ghost use Rattle.std.specs.Net.Addr.{ipv4_octets};
+ghost use Rattle.live_wire.specs.Callers.{let_in_of};
 ghost use Rattle.live_wire.specs.Callers as terms;
+ghost use Rattle.relay_conf.specs.Reach.{may_reach};
 
 use crate::stop::may_tell;
+use relay_conf::Relay;
 use std::io;
 use std::io::ErrorKind;
 use std::net::{Ipv4Addr, SocketAddr, TcpListener};
 use std::sync::atomic::{AtomicU64, Ordering};
 
-/// IPv4 addresses of which the first bits are those of this one, a number of 32 bits.
-#[derive(Clone, Copy)]
-pub struct Range {
-    pub address: u32,
-    pub bits: u8,
-}
-
-/// Who may connect to a port: addresses in one of its ranges, all where there is none; and how many
-/// others have come.
-pub struct Callers {
-    ranges: Vec<Range>,
+/// Who may connect to the port of a peer: those who may reach it (docs/FORMATS.md, relay.conf); and
+/// how many others have come.
+pub struct Callers<'a> {
+    relay: &'a Relay,
+    /// The number of the peer.
+    peer: usize,
     /// How many were refused since that was last told.
     refused: AtomicU64,
     /// The second after that in which it was, 0 before that.
@@ -29,23 +25,26 @@ pub struct Callers {
 }
 
 // Written out, so that no crate above proves anew how each part is let go.
-impl Drop for Callers {
+impl Drop for Callers<'_> {
     fn drop(self) {
         let Callers {
-            ranges: _,
+            relay: _,
+            peer: _,
             refused: _,
             told: _,
         } = self;
     }
 }
 
-impl Callers {
-    /// Addresses in one of these ranges may connect, all where there is none.
-    pub fn of(ranges: Vec<Range>) -> Callers
-        ensures { ranges_of result ≡ ranges.items }
+impl<'a> Callers<'a> {
+    /// Those who may reach the peer of this number.
+    pub fn of(relay: &'a Relay, peer: usize) -> Callers<'a>
+        ensures { (address : List ℕ)
+            → terms.may_call result address ≡ may_reach relay.now.allows.items peer address }
     {
         Callers {
-            ranges,
+            relay,
+            peer,
             refused: AtomicU64::new(0),
             told: AtomicU64::new(0),
         }
@@ -53,14 +52,14 @@ impl Callers {
 
     /// Whether this address may connect.
     pub fn may_call(&self, address: Ipv4Addr) -> bool
-        ensures { result ≡ terms.may_call (ranges_of self.now) (ipv4_bits address) }
+        ensures { result ≡ terms.may_call self.now (ipv4_octets address) }
     {
-        self.ranges.is_empty() || has_caller_in(&self.ranges, address.to_bits())
+        self.relay.may_reach(self.peer, address.octets())
     }
 
     /// The connection from an address, where that may connect; else it is closed.
     pub(crate) fn let_in<S: Drop>(&self, stream: S, from: Ipv4Addr) -> Option<S>
-        ensures { result ≡ let_in_of (ranges_of self.now) (ipv4_bits from) stream }
+        ensures { result ≡ let_in_of self.now (ipv4_octets from) stream }
     {
         if self.may_call(from) {
             Some(stream)
@@ -86,21 +85,6 @@ impl Callers {
         let count = self.refused.swap(0, Ordering::SeqCst);
         eprintln!(rt; "refused port={number} for=address from={from} count={count}")
     }
-}
-
-/// Whether one of the ranges has the address.
-fn has_caller_in(ranges: &[Range], address: u32) -> bool
-    ensures { result ≡ list_any (λ one. terms.has_caller one address) ranges.now }
-{
-    ranges.iter().any(|range| has_caller(range, address))
-}
-
-/// Whether the range has the address.
-fn has_caller(range: &Range, address: u32) -> bool
-    ensures { result ≡ terms.has_caller range.now address }
-{
-    let others = 32_u8.saturating_sub(range.bits);
-    u64::from(address) >> others == u64::from(range.address) >> others
 }
 
 /// The IPv4 address that a connection comes from. At a listener of an IPv4 address none comes from

@@ -23,7 +23,7 @@ const NEVER: u64 = u64::MAX;
 pub struct Door<'a> {
     listener: TcpListener,
     /// Who may connect.
-    callers: &'a Callers,
+    callers: &'a Callers<'a>,
     /// By what the port is told to end.
     stop: &'a Stop,
     /// The place of the port there.
@@ -49,7 +49,7 @@ impl<'a> Door<'a> {
     /// The door of the port that listens so.
     pub(crate) fn of(
         listener: TcpListener,
-        callers: &'a Callers,
+        callers: &'a Callers<'a>,
         stop: &'a Stop,
         place: u64,
     ) -> Door<'a> {

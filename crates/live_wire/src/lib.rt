@@ -18,7 +18,7 @@ mod stop;
 mod tally;
 mod wire;
 
-pub use callers::{Callers, Range};
+pub use callers::Callers;
 pub use connections::Connections;
 pub use door::Door;
 pub use line::Line;

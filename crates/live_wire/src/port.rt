@@ -1,7 +1,7 @@
 //! A port of a peer.
 ghost use Rattle.std.specs.Prelude.{◌≡◌, true, IfOk, IfSome};
-ghost use Rattle.std.specs.Net.Addr.{ipv4_bits};
-ghost use Rattle.live_wire.specs.Callers.{may_call, ranges_of};
+ghost use Rattle.std.specs.Net.Addr.{ipv4_octets};
+ghost use Rattle.live_wire.specs.Callers.{may_call};
 ghost use Rattle.live_wire.specs.Ports.{callers_of, left_of};
 
 use crate::callers::{Callers, ipv4_of};
@@ -39,7 +39,7 @@ pub struct Port<'a> {
     /// How many connections it still takes; without a number it never ends by itself.
     left: Option<u32>,
     /// Who may connect.
-    callers: &'a Callers,
+    callers: &'a Callers<'a>,
     /// By what it is told to end.
     stop: &'a Stop,
     /// Its place there.
@@ -73,12 +73,12 @@ impl<'a> Port<'a> {
         address: Ipv4Addr,
         port: u16,
         connections: Option<u32>,
-        callers: &'a Callers,
+        callers: &'a Callers<'a>,
         stop: &'a Stop,
         patience: u32,
     ) -> io::Result<Port<'a>>
         ensures left { IfOk result (λ port. left_of port ≡ connections) }
-        ensures callers { IfOk result (λ port. callers_of port ≡ ranges_of callers.now) }
+        ensures callers { IfOk result (λ port. callers_of port ≡ callers.now) }
     {
         let listener = TcpListener::bind(net, SocketAddr::from((address, port)))?;
         // Of several ends behind it that find the same connection one gets it.
@@ -141,7 +141,7 @@ impl<'a> Port<'a> {
     /// from an address that may not connect is closed, and there is none.
     fn accept<R: Clock + Eprint>(&self, rt: &R) -> io::Result<Option<(Line<'a>, Line<'a>)>>
         ensures { IfOk result (λ taken. IfSome taken
-            (λ pair. may_call (callers_of self.now) (ipv4_bits pair.0.from) ≡ true)) }
+            (λ pair. may_call (callers_of self.now) (ipv4_octets pair.0.from) ≡ true)) }
     {
         let (stream, address) = self.listener.accept()?;
         let from = ipv4_of(address)?;
@@ -178,7 +178,7 @@ impl<'a> Port<'a> {
     /// is to stop.
     fn wait<R: Wait + Clock + Eprint>(&self, rt: &R) -> Option<(Line<'a>, Line<'a>)>
         ensures { IfSome result
-            (λ pair. may_call (callers_of self.now) (ipv4_bits pair.0.from) ≡ true) }
+            (λ pair. may_call (callers_of self.now) (ipv4_octets pair.0.from) ≡ true) }
     {
         for _ in rt.forever() {
             if self.stop.is_asked() {
@@ -264,7 +264,7 @@ impl<'a, R: Wait + Clock + Eprint> Connections<R> for Port<'a> {
     }
 
     fn caller(&self, reader: &RecordingReader<Line<'a>>) -> Ipv4Addr
-        ensures { ipv4_bits result ≡ comes_from reader.now }
+        ensures { ipv4_octets result ≡ comes_from reader.now }
     {
         reader.reader().from()
     }

@@ -204,7 +204,8 @@ no_block todos.Rest read old d none is = ap (λ (one : Due). reads_block one.ask
 no_block (todos.Owe id) read old d none is = ap (λ (one : Due). reads_block one.ask) is
 no_block (todos.Say octets) read old d none is = ap (λ (one : Due). reads_block one.ask) is.2
 no_block (todos.Leave octets) read old d none is = ap (λ (one : Due). reads_block one.ask) is.2
-no_block (todos.Check id room since) read old d none is = ap (λ (one : Due). reads_block one.ask) is.1
+no_block (todos.Check id room since) read old d none is =
+    ap (λ (one : Due). reads_block one.ask) is.1
 no_block (todos.Ihave id copy room since) read old d none is =
     ap (λ (one : Due). reads_block one.ask) is.2
 no_block (todos.Look part id room) read old d none is = ap (λ (one : Due). reads_block one.ask) is

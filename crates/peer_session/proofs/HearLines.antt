@@ -83,7 +83,8 @@ pub checks : (s : ℕ) (old new : Session) (answer : Answer) (said : List ℕ)
     (offer_heard (offering read old id since) model.TakesThis id (offer_view told)) new)
     → Heeds s old answer said new
 checks s old new answer said planned read id room since todo arm = λ w m d gathered told h.
-    let had = has_other w old m d gathered answer (todos.Check id room since) read todo (λ e. cc) h in
+    let had =
+    has_other w old m d gathered answer (todos.Check id room since) read todo (λ e. cc) h in
     let due : Due = due_as (asks.Offers model.TakesThis id) (offering read old id since) in
     by_due w s d due gathered answer told said new had.due_is.1
     (λ is. heard_of w s due told said (with_planned old planned) new

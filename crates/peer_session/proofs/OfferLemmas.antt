@@ -1,6 +1,7 @@
 -- The open offers of places, by the ids that the places have.
 use Rattle.std.proofs.Common.{◌≡◌, ◌≢◌, ◌<◌, ◌+◌, ℕ, zero, suc, List, [], ◌∷◌, ◌++◌, Option, Bool}
-use Rattle.std.proofs.Common.{None, Some, length, get_or, set, map, refl, sym, ap, arith, rules, ◌∙◌}
+use Rattle.std.proofs.Common.{None, Some, length, get_or, set, map, refl, sym, ap, arith, rules}
+use Rattle.std.proofs.Common.{◌∙◌}
 use Rattle.std.proofs.Common.{true, false, inl, inr, option_map, subst, ◌||◌, if◌then◌else◌}
 use Rattle.std.proofs.Math.ListN.{get_or-map}
 use Rattle.std.proofs.lemmas.Bool.{cases_Bool, cond_both, true≢false}

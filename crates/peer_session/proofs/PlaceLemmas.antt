@@ -93,7 +93,8 @@ closed_one (Some other ∷ places) zero id e once =
     rw same (first_alone (open_ids places) other once) in
     rw ((bytes_eq-Decides id other).1 same) (kept_all (open_ids places) id alone)
 closed_one (Some other ∷ places) (suc j) id e once =
-    let rest : is_among (open_ids places) other ≡ false = first_alone (open_ids places) other once in
+    let rest : is_among (open_ids places) other ≡ false =
+    first_alone (open_ids places) other once in
     let ne : id ≢ other = λ same. true≢false (sym (open_somewhere places j other
     (rw (← same) e)) ∙ rest) in
     rw (differs id other ne) (ap (λ ids. other ∷ ids)

@@ -70,8 +70,8 @@ abbrev pub offer_planned : model.Transfer → List ℕ → (now : ℕ) → Todo
 offer_planned model.TakesThis id now = todos.Check id 0 now
 offer_planned model.Has id now = todos.Ihave id id 0 now
 
--- the id is offered at this moment, where these offers are open; where no further one may be opened,
--- that is said
+-- the id is offered at this moment, where these offers are open; where no further one may be
+-- opened, that is said
 pub data IsOffering (offers : List OpenOffer) (now : ℕ) (transfer : model.Transfer) (id : List ℕ)
     (one : Todo × Step) : Type 0 where
   IsFull : is_full offers id ≡ true → IsSaying (asks.later transfer id) one

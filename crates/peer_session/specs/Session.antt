@@ -97,11 +97,11 @@ abbrev pub LeavesFree : Option Job → List OpenOffer → Type 0
 LeavesFree (Some job) offers = Unit {0}
 LeavesFree None offers = offers ≡ []
 
--- What is due is planned without memory at this moment, where offers last so long. Nothing is due: a
--- session that reads a command has no offer that has run out, and no whole line, but may still get
--- one; one that owes a block has none that is whole; or it is closed. Or it pushes the job in hand,
--- looks into its slot, reads the next block of a fetch that is prepared for it, or has nothing left
--- to give up.
+-- What is due is planned without memory at this moment, where offers last so long. Nothing is due:
+-- a session that reads a command has no offer that has run out, and no whole line, but may still
+-- get one; one that owes a block has none that is whole; or it is closed. Or it pushes the job in
+-- hand, looks into its slot, reads the next block of a fetch that is prepared for it, or has
+-- nothing left to give up.
 abbrev pub PlansFreeIn : (lasting : Option ℕ) → (now : ℕ) → Session → Phase → Type 0
 PlansFreeIn lasting now session phases.Ready =
     (run_out lasting now session.offers ≡ None) × (next_line session.cutter.unread ≡ Incomplete)

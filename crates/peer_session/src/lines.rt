@@ -140,8 +140,8 @@ impl Session {
         }
     }
 
-    /// The answer to CHECK or IHAVE of an id at this moment. After IHAVE the block of the id is owed
-    /// where the article is wanted; after CHECK none is.
+    /// The answer to CHECK or IHAVE of an id at this moment. After IHAVE the block of the id is
+    /// owed where the article is wanted; after CHECK none is.
     pub(crate) fn hear_offer(
         &mut self,
         read: usize,

@@ -14,8 +14,8 @@ use std::alloc::{AllocError, Global};
 use std::hash::RandomState;
 use std::marker::Model;
 
-/// The open offers of a session, from the oldest on, each with the moment at which it was opened: no
-/// id is among them twice, and there are at most 256 (docs/PROTOCOL.md, Limits).
+/// The open offers of a session, from the oldest on, each with the moment at which it was opened:
+/// no id is among them twice, and there are at most 256 (docs/PROTOCOL.md, Limits).
 #[derive(Drop)]
 pub struct OpenOffers {
     table: Table,

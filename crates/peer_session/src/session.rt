@@ -222,10 +222,24 @@ impl Session {
             Todo::Say(octets) => self.hear_said(read, octets, answer),
             Todo::Leave(octets) => self.hear_left(read, octets, answer),
             Todo::Check(id, room, since) => {
-                self.hear_offer(read, Transfer::TakesThis, Opened { id, since }, None, room, answer)
+                self.hear_offer(
+                    read,
+                    Transfer::TakesThis,
+                    Opened { id, since },
+                    None,
+                    room,
+                    answer,
+                )
             }
             Todo::Ihave(id, copy, room, since) => {
-                self.hear_offer(read, Transfer::Has, Opened { id, since }, Some(copy), room, answer)
+                self.hear_offer(
+                    read,
+                    Transfer::Has,
+                    Opened { id, since },
+                    Some(copy),
+                    room,
+                    answer,
+                )
             }
             Todo::Look(part, id, room) => self.hear_look(read, part, id, room, answer),
             Todo::Fetch(reading) => self.hear_first(read, reading, answer),

@@ -77,7 +77,8 @@ impl Table {
         requires { IsTable self.old }
         ensures table { IsTable self.new }
         ensures opened { is_full (open_offers self.old.offers.items) id ≡ false
-            → open_offers self.new.offers.items ≡ with_offer (open_offers self.old.offers.items) id now }
+            → open_offers self.new.offers.items
+            ≡ with_offer (open_offers self.old.offers.items) id now }
         ensures full { is_full (open_offers self.old.offers.items) id ≡ true
             → open_offers self.new.offers.items ≡ open_offers self.old.offers.items }
     {

@@ -8,7 +8,8 @@ use Rattle.clap.specs.declared.error.kind.ErrorKind.TheVariants.{OutOfMemory}
 use Rattle.relay_report.specs.Written.{GainsFront}
 use Rattle.std.specs.Io.KnownBytes.{Appends}
 use Rattle.relay_command.specs.CommandLine.{HasFault, IsRefusedBy}
-use Rattle.relay_command.specs.Help.{AreAtFault, GivesFront, GivesHelp, HelpGives, ErrorTextGives, help}
+use Rattle.relay_command.specs.Help.{AreAtFault, GivesFront, GivesHelp, HelpGives, ErrorTextGives}
+use Rattle.relay_command.specs.Help.{help}
 use Rattle.relay_command.specs.declared.failure.Failure.{Failure}
 use Rattle.relay_command.specs.declared.failure.Failure.TheVariants as failures
 
@@ -29,7 +30,8 @@ wants_memory words error memory = record {
 
 -- Clap's text was written of words that ask for help, or a front of it; or there was no memory.
 pub text_given : (words : List Text) (result : Result (Unit {0}) Failure)
-    (before after : Option (List ℕ)) → HasFault words DisplayHelp → ErrorTextGives result before after
+    (before after : Option (List ℕ)) → HasFault words DisplayHelp
+    → ErrorTextGives result before after
     → HelpGives words result before after
 text_given words (Ok done) before after asked gives =
     record { text = gives.0; wanted = help asked; written = gives.1 }

@@ -14,7 +14,8 @@ use Rattle.relay_conf.specs.declared.reach.Allow.{Allow}
 use Rattle.relay_conf.specs.declared.reach.Range.{Range}
 use Rattle.relay_conf.specs.Faults.{first_fault, whole_fault, unless_fault}
 use Rattle.relay_conf.specs.RelayLines.{SaidLine, Skipped, Own, MaxArticle, Cutoff, Remember}
-use Rattle.relay_conf.specs.RelayLines.{Patience, Sync, Offers, Bind, PeerLine, ConnectionsLine, AllowLine}
+use Rattle.relay_conf.specs.RelayLines.{Patience, Sync, Offers, Bind, PeerLine, ConnectionsLine}
+use Rattle.relay_conf.specs.RelayLines.{AllowLine}
 use Rattle.relay_conf.specs.RelayLines.{FeedLine}
 
 -- the own identity that a line says

@@ -50,8 +50,8 @@ abbrev pub openings_of : (sync : Option ℕ) → (files : ℕ) → ℕ
 openings_of None files = files
 openings_of (Some seconds) files = files * 2
 
--- the descriptors: of the files of buffers, three of each connection, one of each port for who waits
--- there, of the socket and of one who asks there, of the journal, and of the standard streams
+-- the descriptors: of the files of buffers, three of each connection, one of each port for who
+-- waits there, of the socket and of one who asks there, of the journal, and of the standard streams
 unfoldable pub descriptors_of : Config → ℕ
 descriptors_of config =
     openings_of config.relay.sync (length config.buffers.buffers.items)

@@ -38,8 +38,8 @@ pub fn untaken_newsgroups_do_not_match()
         → IsFalse (is_match (verdict expression (c ∷ name))) }
 {}
 
-/// A buffer of a group is told to have no room for an article exactly where the relay finds that the
-/// group has none for it.
+/// A buffer of a group is told to have no room for an article exactly where the relay finds that
+/// the group has none for it.
 pub fn rooms_are_the_relays()
     ensures { (buffers : settings.Buffers) (number size : ℕ) (group : confs.GroupConf)
         → slice_get buffers.groups.items number ≡ Some group

@@ -17,7 +17,8 @@ use Rattle.relay_model.specs.Run.{HasNoRoom}
 use Rattle.relay_model.specs.Run.{HasNot, refusal, opened, expired, reads_front, forgotten}
 use Rattle.relay_model.specs.Run.{restarted, first_of_two, is_there, is_running}
 use Rattle.relay_model.specs.Run as run
-use Rattle.relay_model.specs.Shares.{known_at, Answer, Shares, Reading, IsFound, HasNotRead, Pushing}
+use Rattle.relay_model.specs.Shares.{known_at, Answer, Shares, Reading, IsFound, HasNotRead}
+use Rattle.relay_model.specs.Shares.{Pushing}
 use Rattle.relay_model.specs.Shares.{queue_taken}
 use Rattle.relay_model.specs.Shares.{ring_of, after_take_of, pushed, untold}
 use Rattle.relay_model.specs.State.{State, Session, Job, Feed}
@@ -137,7 +138,8 @@ shared_same w x s now timed (Says reply) answer y e = moved x.state y x e.1 (sam
 shared_same w x s now timed (Leaves reply) answer y e = moved x.state y x e.1 (same_store x.state)
 shared_same w x s now timed (Offers transfer id) answer y e =
     moved x.state y (with_claim x id (after_offer s now (known_at w x now id))) e.1
-    (claim_changes x id (after_offer s now (known_at w x now id)) (offer_goes w.offers s now (x.state.claim id)))
+    (claim_changes x id (after_offer s now (known_at w x now id))
+    (offer_goes w.offers s now (x.state.claim id)))
 shared_same w x s now timed (Looks part id) answer y e = moved x.state y x e.1 (same_store x.state)
 shared_same w x s now timed (Reads asked token had) answer y reads =
     reading_same w x token answer y reads

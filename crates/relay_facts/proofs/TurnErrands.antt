@@ -17,7 +17,8 @@ use Rattle.relay_model.specs.Fetches.{Fetched}
 use Rattle.relay_model.specs.Hears.{Heard, Hears, ReadHeard, goes_on, offer_heard, look_heard}
 use Rattle.relay_model.specs.Hears.{take_heard, outcome_heard, slot_heard, push_heard}
 use Rattle.relay_model.specs.Run.{Turns}
-use Rattle.relay_model.specs.Shares.{known_at, Answer, ToPush, Shares, Reading, IsFound, HasNotRead, Pushing}
+use Rattle.relay_model.specs.Shares.{known_at, Answer, ToPush, Shares, Reading, IsFound, HasNotRead}
+use Rattle.relay_model.specs.Shares.{Pushing}
 use Rattle.relay_model.specs.Shares.{queue_taken, ring_of, pushed, untold}
 use Rattle.relay_model.specs.State.{Session, Holds, Waits, Leaving}
 use Rattle.relay_model.specs.State.{Ended, Transfer, TakesThis, Has, Asked, Job, in_phase}
@@ -313,7 +314,8 @@ asked_awaited w x s now after is a (Offers transfer id) asks answer y heard shar
     let next = (offer_heard after transfer id hears.0).session in
     settle x s is (with_claim x id (after_offer s now (known_at w x now id))) y next heard shares.1
     (session_of hears.2)
-    (leaves_claim x s id (after_offer s now (known_at w x now id)) next (offer_alike w.offers s now (x.state.claim id)))
+    (leaves_claim x s id (after_offer s now (known_at w x now id)) next
+    (offer_alike w.offers s now (x.state.claim id)))
     (λ t. refl)
     (offer_awaits x s after transfer id hears.0 a asks)
 asked_awaited w x s now after is a (Looks part id) asks answer y heard shares hears =
@@ -329,7 +331,8 @@ asked_awaited w x s now after is a (TakesQueue feed most) asks answer y heard sh
     shares.1 (session_of hears.3)
     (leaves_feed x s (ring_of (slice_get w.feeds feed)) feed most after) (λ t. refl) a
 asked_awaited w x s now after is a (Refuses transfer id) asks answer y heard shares hears =
-    settle x s is (with_claim x id (after_refuse s now (known_at w x now id))) y after heard shares.1
+    settle x s is (with_claim x id (after_refuse s now (known_at w x now id))) y after heard
+    shares.1
     (session_of hears)
     (leaves_claim x s id (after_refuse s now (known_at w x now id)) after
     (refuse_alike w.offers s now (x.state.claim id))) (λ t. refl) a

@@ -17,7 +17,8 @@ use Rattle.relay_model.specs.Hears.{take_heard, outcome_heard, slot_heard, push_
 use Rattle.relay_model.specs.Invariants.{IsSoundArticle}
 use Rattle.relay_facts.proofs.Orderly.{IsOrderly}
 use Rattle.relay_model.specs.Run.{Turns, is_running}
-use Rattle.relay_model.specs.Shares.{known_at, Answer, ToPush, Shares, Reading, IsFound, HasNotRead, Pushing}
+use Rattle.relay_model.specs.Shares.{known_at, Answer, ToPush, Shares, Reading, IsFound, HasNotRead}
+use Rattle.relay_model.specs.Shares.{Pushing}
 use Rattle.relay_model.specs.Shares.{queue_taken, ring_of, pushed, untold}
 use Rattle.relay_model.specs.State.{Session, Ready, AwaitsBlock, Holds, Waits, Fetches, Leaving}
 use Rattle.relay_model.specs.State.{Ended}
@@ -293,10 +294,12 @@ asked_orderly w x s now old after there is f (Leaves reply) fits answer y heard 
     (leaving_follows w old after f) (leaves_all x s (in_phase after Leaving))
 asked_orderly w x s now old after there is f (Offers transfer id) fits answer y heard shares hears =
     let next = (offer_heard after transfer id hears.0).session in
-    settle w x s old there is (with_claim x id (after_offer s now (known_at w x now id))) y next heard
+    settle w x s old there is (with_claim x id (after_offer s now (known_at w x now id))) y next
+    heard
     shares.1 (session_of hears.2)
     (offer_follows w old after transfer id hears.0 f fits)
-    (leaves_claim x s id (after_offer s now (known_at w x now id)) next (offer_alike w.offers s now (x.state.claim id)))
+    (leaves_claim x s id (after_offer s now (known_at w x now id)) next
+    (offer_alike w.offers s now (x.state.claim id)))
 asked_orderly w x s now old after there is f (Looks part id) fits answer y heard shares hears =
     let next = (look_heard after part id hears.0).session in
     settle w x s old there is x y next heard shares.1 (session_of hears.2)

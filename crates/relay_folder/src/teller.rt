@@ -30,8 +30,8 @@ impl Teller {
         Teller { stream }
     }
 
-    /// Whoever asked over this connection, on which nothing was waited for; nobody where it can't be
-    /// bounded how long he is waited for.
+    /// Whoever asked over this connection, on which nothing was waited for; nobody where it can't
+    /// be bounded how long he is waited for.
     pub(crate) fn of_asker(stream: UnixStream) -> Option<Teller> {
         let part = Some(Duration::from_millis(HIS_PART));
         if stream.set_nonblocking(false).is_err() || stream.set_write_timeout(part).is_err() {

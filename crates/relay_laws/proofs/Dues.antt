@@ -180,7 +180,8 @@ ready_due w session now hint Incomplete knows = refl
 -- where a command is due
 abbrev due_at_command : Terms → Session → (now : ℕ) → Hint → Option (OpenOffer × List OpenOffer)
     → Due
-due_at_command w session now hint None = due_where_ready w session now hint (next_line session.unread)
+due_at_command w session now hint None = due_where_ready w session now hint
+    (next_line session.unread)
 due_at_command w session now hint (Some ended) =
     due_as (Releases ended.0.id) (with_offers session ended.1)
 
@@ -191,7 +192,8 @@ at_command_premise session now hint (Some ended) = Free
 
 -- that is due
 at_command_due : (w : Terms) (session : Session) (now : ℕ) (hint : Hint)
-    (ended : Option (OpenOffer × List OpenOffer)) → IsMet (at_command_premise session now hint ended)
+    (ended : Option (OpenOffer × List OpenOffer))
+    → IsMet (at_command_premise session now hint ended)
     → IsDueAtCommand w session now ended (due_at_command w session now hint ended)
 at_command_due w session now hint None knows =
     ready_due w session now hint (next_line session.unread) knows

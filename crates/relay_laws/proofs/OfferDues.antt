@@ -25,7 +25,8 @@ use Rattle.relay_model.specs.State.{OpenOffer, with_offers}
 use Rattle.relay_model.specs.Terms.{Terms, Reason}
 
 -- the open offers once this is asked, by those before
-abbrev pub DueOffers : (now : ℕ) → (before : List OpenOffer) → Ask → (after : List OpenOffer) → Type 0
+abbrev pub DueOffers : (now : ℕ) → (before : List OpenOffer) → Ask
+    → (after : List OpenOffer) → Type 0
 DueOffers now before Rests after = after ≡ before
 DueOffers now before GoesOn after = after ≡ before
 DueOffers now before (Says reply) after = after ≡ before
@@ -39,7 +40,8 @@ DueOffers now before (Takes transfer id article) after =
     (after ≡ without_offer before id) ⊎ (after ≡ before)
 DueOffers now before (Pushes job) after = after ≡ before
 DueOffers now before (LooksInSlot transfer id) after = after ≡ before
-DueOffers now before (Releases id) after = (since : ℕ) × (before ≡ record { id = id; since = since } ∷ after)
+DueOffers now before (Releases id) after =
+    (since : ℕ) × (before ≡ record { id = id; since = since } ∷ after)
 DueOffers now before Ends after = after ≡ before
 
 -- what is due, named
@@ -113,7 +115,8 @@ ready_offers w one now TooLong d e = due_is now one.offers _ one refl d e
 ready_offers w one now Incomplete d e = due_is now one.offers Rests one refl d e
 
 -- an article that was judged
-judged_offers : (now : ℕ) (before : List OpenOffer) (one : Session) (transfer : Transfer) (id : List ℕ)
+judged_offers : (now : ℕ) (before : List OpenOffer) (one : Session) (transfer : Transfer)
+    (id : List ℕ)
     → one.offers ≡ without_offer before id → (verdict : Result Accepted Reason) (d : Due)
     → d ≡ judged_asked one transfer id verdict → DueOffers now before d.ask d.after.offers
 judged_offers now before one transfer id ends (Ok article) d e =
@@ -142,7 +145,8 @@ owing_offers w one transfer id now (Oversize rest) d e =
 owing_offers w one transfer id now Unfinished d e = due_is now one.offers Rests one refl d e
 
 -- where the session waits
-waiting_offers : (now : ℕ) (offers : List OpenOffer) (transfer : Transfer) (id : List ℕ) (hand : Option Job)
+waiting_offers : (now : ℕ) (offers : List OpenOffer) (transfer : Transfer) (id : List ℕ)
+    (hand : Option Job)
     → DueOffers now offers (or_push hand (LooksInSlot transfer id)) offers
 waiting_offers now offers transfer id None = refl
 waiting_offers now offers transfer id (Some job) = refl
@@ -167,7 +171,8 @@ ended_first lasting now (offer ∷ behind) ended e =
     by : (test : Bool) → (if test then Some (offer, behind) else None) ≡ Some ended
         → offer ∷ behind ≡ ended.0 ∷ ended.1
     by true is =
-        ap (λ (one : OpenOffer × List OpenOffer). one.0 ∷ one.1) (same_Some (offer, behind) ended is)
+        ap (λ (one : OpenOffer × List OpenOffer). one.0 ∷ one.1)
+        (same_Some (offer, behind) ended is)
     by false is = absurd (none-some ended is)
 
 -- where a command is due

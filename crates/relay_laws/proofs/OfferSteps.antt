@@ -102,7 +102,8 @@ stays_without (offer ∷ offers) id other differs is =
 pub stays_behind : (oldest : OpenOffer) (offers : List OpenOffer) (other : List ℕ)
     → bytes_eq other oldest.id ≡ false
     → is_open (oldest ∷ offers) other ≡ true → is_open offers other ≡ true
-stays_behind oldest offers other differs is = sym (ap (λ test. test || is_open offers other) differs)
+stays_behind oldest offers other differs is =
+    sym (ap (λ test. test || is_open offers other) differs)
     ∙ is
 
 -- the open offers after a CHECK, at another id

@@ -16,8 +16,10 @@ use Rattle.relay_model.specs.Fetches.{Fetched}
 use Rattle.relay_model.specs.Hears.{Heard, Hears, ReadHeard, goes_on, offer_heard, look_heard}
 use Rattle.relay_model.specs.Hears.{take_heard, slot_heard, push_heard}
 use Rattle.relay_model.specs.Run.{Turns}
-use Rattle.relay_model.specs.Shares.{known_at, Answer, Shares, Reading, IsFound, HasNotRead, Pushing}
-use Rattle.relay_model.specs.State.{OpenOffer, Session, Job, Transfer, TakesThis, Has, Asked, put_id}
+use Rattle.relay_model.specs.Shares.{known_at, Answer, Shares, Reading, IsFound, HasNotRead}
+use Rattle.relay_model.specs.Shares.{Pushing}
+use Rattle.relay_model.specs.State.{OpenOffer, Session, Job, Transfer, TakesThis, Has, Asked}
+use Rattle.relay_model.specs.State.{put_id}
 use Rattle.relay_model.specs.Terms.{Terms, queue_limit}
 use Rattle.relay_model.specs.World.{World, Output, Outcome, IsKept, HasFailed}
 use Rattle.relay_laws.proofs.OfferDues.{DueOffers, due_offers}
@@ -105,7 +107,8 @@ pushing_claims x job false answer y pushes = claims_of x y _ pushes.1 (λ k. ref
 
 -- by what is asked
 asked_offers : (w : Terms) (x : World) (s now : ℕ) (before : List OpenOffer) (after : Session)
-    (ask : Ask) → DueOffers now before ask after.offers → (answer : Answer) (y : World) (heard : Heard)
+    (ask : Ask) → DueOffers now before ask after.offers → (answer : Answer) (y : World)
+    (heard : Heard)
     → Shares w x s now ask answer y → Hears s after ask answer heard
     → TurnOffers x y s before heard.session.offers
 asked_offers w x s now before after Rests due answer y heard shares hears =

@@ -18,7 +18,8 @@ use Rattle.relay_model.specs.Run.{Does, IsRefused, WantsMemory, IsDone, Restarts
 use Rattle.relay_model.specs.Run.{HasNoRoom, HasNot, expired, reads_front, forgotten, forgetting}
 use Rattle.relay_model.specs.Run.{opened, restarted, shard_of}
 use Rattle.relay_model.specs.Run as run
-use Rattle.relay_model.specs.Shares.{known_at, Answer, Shares, Reading, IsFound, HasNotRead, Pushing}
+use Rattle.relay_model.specs.Shares.{known_at, Answer, Shares, Reading, IsFound, HasNotRead}
+use Rattle.relay_model.specs.Shares.{Pushing}
 use Rattle.relay_model.specs.Shares.{known_at, queue_taken, ring_of, pushed, untold}
 use Rattle.relay_model.specs.State.{State, Job, put_id}
 use Rattle.relay_model.specs.Terms.{Terms, queue_limit}

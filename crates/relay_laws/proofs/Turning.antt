@@ -22,8 +22,10 @@ use Rattle.relay_model.specs.Hears.{Heard, Hears, ReadHeard, ReplyIs, goes_on, s
 use Rattle.relay_model.specs.Hears.{offer_heard, look_heard, take_heard, push_heard, slot_heard}
 use Rattle.relay_model.specs.Hears.{Shows, rejected}
 use Rattle.relay_model.specs.Run.{Turns}
-use Rattle.relay_model.specs.Shares.{known_at, Answer, Shares, IsFound, Pushing, Nothing, ToOffer, ToLook}
-use Rattle.relay_model.specs.Shares.{known_at, ToRead, ToTakeQueue, ToTake, ToPush, InSlot, as_ring, ring_of}
+use Rattle.relay_model.specs.Shares.{known_at, Answer, Shares, IsFound, Pushing, Nothing, ToOffer}
+use Rattle.relay_model.specs.Shares.{ToLook}
+use Rattle.relay_model.specs.Shares.{known_at, ToRead, ToTakeQueue, ToTake, ToPush, InSlot, as_ring}
+use Rattle.relay_model.specs.Shares.{ring_of}
 use Rattle.relay_model.specs.Shares.{known_at, queue_taken, pushed, untold}
 use Rattle.relay_model.specs.State.{Session, Asked, OfId, OfToken, Fetches, Ended, Job, in_phase}
 use Rattle.relay_model.specs.Terms.{Terms, queue_limit}

@@ -188,7 +188,8 @@ sharing failures one two =
         claim = put_id before.state.claim (codes "<o@x>") (Offered 3 now);
         session = put_at before.state.session 1 (Some (record reading {
           offers =
-              open_now (codes "<o@x>") ∷ open_now (codes "<3@x>") ∷ open_now (codes "<4@x>") ∷ open_now (codes "<2@x>") ∷ [];
+              open_now (codes "<o@x>") ∷ open_now (codes "<3@x>") ∷ open_now (codes "<4@x>")
+              ∷ open_now (codes "<2@x>") ∷ [];
         }));
       };
     }
@@ -314,7 +315,8 @@ outdated failures =
             (codes "<3@x>") (Storing 3 three_blocks Waiting)) (codes "<2@x>")
             (Stored (three_blocks_at 0 3) now);
         session = put_at (λ s. None) 1 (Some (record reading {
-          offers = open_now (codes "<3@x>") ∷ open_now (codes "<2@x>") ∷ replicate 254 (open_now (codes "<o@x>"));
+          offers = open_now (codes "<3@x>") ∷ open_now (codes "<2@x>")
+              ∷ replicate 254 (open_now (codes "<o@x>"));
         }));
         newest = Some 1;
       };

@@ -1,5 +1,6 @@
 //! Laws of single rules.
-ghost use Rattle.std.specs.Prelude.{◌≡◌, ◌≢◌, ◌++◌, ◌∷◌, [], ◌↔◌, ◌+◌, ◌≤◌, ◌<◌, ◌⊎◌, ℕ, true, false, List};
+ghost use Rattle.std.specs.Prelude.{◌≡◌, ◌≢◌, ◌++◌, ◌∷◌, [], ◌↔◌, ◌+◌, ◌≤◌, ◌<◌, ◌⊎◌, ℕ, true};
+ghost use Rattle.std.specs.Prelude.{false, List};
 ghost use Rattle.std.specs.Prelude.{Option, None, Some, Result, Contains, IsSomeAnd, slice_get};
 ghost use Rattle.news_terms.specs.Article.{Article};
 ghost use Rattle.news_terms.specs.Places.{Buffer, size_of};

@@ -1,5 +1,6 @@
 -- The lines of a report, read again.
-use Rattle.std.proofs.Common.{◌≡◌, ◌∙◌, ◌++◌, ◌∷◌, ◌-◌, ◌<◌, ◌^◌, [], List, ℕ, ap, append_assoc, arith}
+use Rattle.std.proofs.Common.{◌≡◌, ◌∙◌, ◌++◌, ◌∷◌, ◌-◌, ◌<◌, ◌^◌, [], List, ℕ, ap, append_assoc}
+use Rattle.std.proofs.Common.{arith}
 use Rattle.std.proofs.Common.{Some, codes, length, refl, sym, true}
 use Rattle.std.specs.Prelude.{decimal}
 use Rattle.std.proofs.Math.Dec.{leb-zero}
@@ -24,8 +25,10 @@ three : (p q r a b c : ℕ) → IsNumber p a → IsNumber q b → IsNumber r c
 three p q r a b c one two last =
     let gap : (places n : ℕ) → ℕ = λ places n. places - length (decimal n) in
     simp append_assoc
-    (led (gap p a) (decimal a ++ (spaces (gap q b) ++ (decimal b ++ (spaces (gap r c) ++ decimal c))))
-    ∙ next_word (decimal a) (gap q b) (decimal b ++ (spaces (gap r c) ++ decimal c)) one.name two.room
+    (led (gap p a)
+    (decimal a ++ (spaces (gap q b) ++ (decimal b ++ (spaces (gap r c) ++ decimal c))))
+    ∙ next_word (decimal a) (gap q b) (decimal b ++ (spaces (gap r c) ++ decimal c)) one.name
+    two.room
     ∙ ap (λ (more : List (List ℕ)). decimal a ∷ more)
     (next_word (decimal b) (gap r c) (decimal c) two.name last.room
     ∙ ap (λ (more : List (List ℕ)). decimal b ∷ more) (last_word (decimal c) last.name)))

@@ -25,7 +25,7 @@ pub(crate) fn open_ports<'a, N: Net<Listener = TcpListener, Stream = TcpStream>>
     alloc: Global,
     relay: &Relay,
     sessions: Option<u32>,
-    callers: &'a [Callers],
+    callers: &'a [Callers<'a>],
     stop: &'a Stop,
 ) -> Result<Vec<PeerSource<Port<'a>>>, ServeError>
     requires { AreCallers relay.now callers.now }
@@ -54,7 +54,7 @@ fn listen_all<'a, N: Net<Listener = TcpListener, Stream = TcpStream>>(
     net: &N,
     relay: &Relay,
     sessions: Option<u32>,
-    callers: &'a [Callers],
+    callers: &'a [Callers<'a>],
     stop: &'a Stop,
     peer_sources: &mut Vec<PeerSource<Port<'a>>>,
 ) -> Result<(), ServeError>

@@ -127,7 +127,7 @@ struct Asked<'a> {
     /// Whether it is to begin from nothing.
     fresh: bool,
     /// Who may connect to the port of each peer.
-    callers: &'a [Callers],
+    callers: &'a [Callers<'a>],
 }
 
 /// Opens what a relay is served over, last the socket by which it is asked, runs the relay, and

@@ -2,7 +2,6 @@ use Rattle.std.proofs.Common.{◌≡◌, ◌∙◌, ◌++◌, ◌≤◌, ◌+◌
 use Rattle.std.proofs.Common.{drop, get_or, refl, ap, sym, subst, arith}
 use Rattle.std.proofs.lemmas.Bool.{eq-eqb, ne_eqb}
 use Rattle.std.proofs.lemmas.Result.{err_from_is_err_and}
-use Rattle.live_wire.specs.Callers.{ranges_of}
 use Rattle.live_wire.specs.Ports.{callers_of}
 use Rattle.live_wire.specs.declared.port.Port.{Port}
 use Rattle.relay_conf.specs.declared.relay.Peer.{Peer}
@@ -83,7 +82,7 @@ loop-number-preserved g c =
     let allows = c.args.relay.now.allows.items in
     let own : LetsIn allows k (callers_of c.in-Ok.first) =
     subst (LetsIn allows k)
-    (sym (c.in-Ok.ensures.callers ∙ ap ranges_of c.index-callers-number.is))
+    (sym (c.in-Ok.ensures.callers ∙ c.index-callers-number.is))
     (c.requires.callers.each k c.index-callers-number.result
     (omega (arith, within, c.requires.callers.count))) in
     record {

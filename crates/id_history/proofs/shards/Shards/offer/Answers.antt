@@ -18,7 +18,8 @@ returns-clause-answer c =
 -- the change is that of the id's own shard
 pub returns-clause-claims : goal.returns-clause-claims
 returns-clause-claims c =
-    on_ok_weaker c.offer.result (changes _ _ _ _ _ c.args.id.now (λ claim. after_offer c.args.session c.args.now (standing c.args.lasting c.args.now claim))
+    on_ok_weaker c.offer.result (changes _ _ _ _ _ c.args.id.now
+    (λ claim. after_offer c.args.session c.args.now (standing c.args.lasting c.args.now claim))
     c.shard_of.ensures c.index_mut.ensures.value refl) c.offer.ensures.claims
 
 -- what the id's own shard keeps, they keep
@@ -39,5 +40,7 @@ invariant_of-self-clause-own c =
     OwnIds-set _ _ _ _ c.args.id.now c.shard_of.ensures c.index_mut.ensures.value
     c.args.self.now.own
     (either_way c.offer.result c.offer.ensures.claims c.offer.ensures.err
-    (λ change. others_by_change _ _ c.args.id.now (λ claim. after_offer c.args.session c.args.now (standing c.args.lasting c.args.now claim)) change)
+    (λ change. others_by_change _ _ c.args.id.now
+    (λ claim. after_offer c.args.session c.args.now (standing c.args.lasting c.args.now claim))
+    change)
     (λ kept. others_kept _ _ c.args.id.now kept))

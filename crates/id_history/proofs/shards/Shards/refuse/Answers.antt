@@ -9,7 +9,8 @@ use Rattle.id_history.proofs.shards.Shards.refuse.Goals as goal
 pub returns-clause-claims : goal.returns-clause-claims
 returns-clause-claims c =
     on_ok_weaker c.refuse.result
-    (changes _ _ _ _ _ c.args.id.now (λ claim. after_refuse c.args.session c.args.now (standing c.args.lasting c.args.now claim))
+    (changes _ _ _ _ _ c.args.id.now (λ claim. after_refuse c.args.session c.args.now
+    (standing c.args.lasting c.args.now claim))
     c.shard_of.ensures c.index_mut.ensures.value refl) c.refuse.ensures.claims
 
 -- what the id's own shard keeps, they keep
@@ -30,5 +31,7 @@ invariant_of-self-clause-own c =
     OwnIds-set _ _ _ _ c.args.id.now c.shard_of.ensures c.index_mut.ensures.value
     c.args.self.now.own
     (either_way c.refuse.result c.refuse.ensures.claims c.refuse.ensures.err
-    (λ change. others_by_change _ _ c.args.id.now (λ claim. after_refuse c.args.session c.args.now (standing c.args.lasting c.args.now claim)) change)
+    (λ change. others_by_change _ _ c.args.id.now
+    (λ claim. after_refuse c.args.session c.args.now (standing c.args.lasting c.args.now claim))
+    change)
     (λ kept. others_kept _ _ c.args.id.now kept))

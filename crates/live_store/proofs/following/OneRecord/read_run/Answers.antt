@@ -32,7 +32,8 @@ returns-then-not-begun-clause-told g c =
       reading = c.read.result;
       read = c.read.new.self.buffer;
       reads = c.read.ensures.reads;
-      told = told_ok c.read.result c.in-Ok.reading c.tell-one.result c.args.self.now.shown c.in-Ok.is
+      told = told_ok c.read.result c.in-Ok.reading c.tell-one.result c.args.self.now.shown
+          c.in-Ok.is
           c.tell-one.ensures.tells.told;
     }
 
@@ -50,7 +51,8 @@ returns-in_default-clause-told g c =
       reading = c.read.result;
       read = c.read.new.self.buffer;
       reads = c.read.ensures.reads;
-      told = told_ok c.read.result c.in-Ok.reading c.tell-one.result c.args.self.now.shown c.in-Ok.is
+      told = told_ok c.read.result c.in-Ok.reading c.tell-one.result c.args.self.now.shown
+          c.in-Ok.is
           c.tell-one.ensures.tells.told;
     }
 

@@ -41,7 +41,8 @@ returns-in-Holds c =
           (plans_held w c.args.self.now c.args.now c.in-Holds.id c.in-Holds.field-1
           c.in-Holds.field-2 due c.in-Holds.is asked)) c.held_due.ensures;
       err = on_err c.held_due.result (stands_same c.args.self.now phase c.in-Holds.is);
-      free = λ free. absurd (free_in (terms_of c.args.config.now).offers c.args.now c.args.self.now phase c.in-Holds.is free);
+      free = λ free. absurd (free_in (terms_of c.args.config.now).offers c.args.now c.args.self.now
+          phase c.in-Holds.is free);
       bounded = none_owed c.args.self.now.phase phase c.in-Holds.is refl;
     }
 
@@ -69,7 +70,8 @@ returns-in-Fetches c =
           (c.in-Fetches.is ∙ ap phases.Fetches (sym same)))
           c.reading_due.ensures.err;
       free = λ free. c.reading_due.ensures.free
-          (free_in (terms_of c.args.config.now).offers c.args.now c.args.self.now phase c.in-Fetches.is free);
+          (free_in (terms_of c.args.config.now).offers c.args.now c.args.self.now phase
+          c.in-Fetches.is free);
       bounded = none_owed c.args.self.now.phase phase c.in-Fetches.is refl;
     }
 
@@ -80,7 +82,8 @@ returns-in-Leaving c = record {
       c.args.self.now.offers due c.in-Leaving.is refl refl asked) c.leaving_due.ensures.due;
   err = on_err c.leaving_due.result (λ w m gathered stands. stands);
   free = λ free. c.leaving_due.ensures.free
-      (free_in (terms_of c.args.config.now).offers c.args.now c.args.self.now phases.Leaving c.in-Leaving.is free);
+      (free_in (terms_of c.args.config.now).offers c.args.now c.args.self.now phases.Leaving
+      c.in-Leaving.is free);
   bounded = none_owed c.args.self.now.phase phases.Leaving c.in-Leaving.is refl;
 }
 

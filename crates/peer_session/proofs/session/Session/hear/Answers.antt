@@ -119,7 +119,8 @@ returns-in-Ihave c =
           ready);
       given = not_read had c.hear_offer-in-Ihave.new.self c.args.answer
           c.hear_offer-in-Ihave.result.items
-          (todos.Ihave c.in-Ihave.id c.in-Ihave.copy c.in-Ihave.room c.in-Ihave.since) c.args.planned.read refl
+          (todos.Ihave c.in-Ihave.id c.in-Ihave.copy c.in-Ihave.room c.in-Ihave.since)
+          c.args.planned.read refl
           (was_planned had c.args.planned _ refl c.in-Ihave.is);
       other = λ other. c.hear_offer-in-Ihave.ensures.other
           (subst (λ todo. IsOther todo c.args.answer) c.in-Ihave.is other);

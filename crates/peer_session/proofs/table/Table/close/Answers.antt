@@ -20,7 +20,8 @@ returns-in-Some-clause-table c =
     let found : get_or (ids_of c.args.self.now.offers.items) c.in-Some.spot.place None
     ≡ Some c.args.id.now = rw c.deref.ensures.value at c.in-Some.ensures.found in
     record {
-      chains = subst (λ ids. AreChains ids c.remove.new.self) (sym (ids_set places c.in-Some.spot.place))
+      chains = subst (λ ids. AreChains ids c.remove.new.self)
+          (sym (ids_set places c.in-Some.spot.place))
           (c.remove.ensures.chains (ids_of places) c.requires.chains);
       chain_room = c.remove.ensures.room;
       once = once_ended places c.in-Some.spot.place c.args.id.now found c.requires.once;

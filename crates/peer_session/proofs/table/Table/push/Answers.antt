@@ -1,4 +1,5 @@
-use Rattle.std.proofs.Common.{◌≡◌, ◌∙◌, ◌++◌, ◌∷◌, [], ap, arith, rules, subst, sym, length-append, Some}
+use Rattle.std.proofs.Common.{◌≡◌, ◌∙◌, ◌++◌, ◌∷◌, [], ap, arith, rules, subst, sym, length-append}
+use Rattle.std.proofs.Common.{Some}
 use Rattle.peer_session.specs.Chains.{AreChains}
 use Rattle.peer_session.specs.Places.{ids_of, offer_view, open_ids, open_offers}
 use Rattle.peer_session.proofs.OfferLemmas.{ids_more, more_open, open_alike}
