@@ -222,24 +222,12 @@ impl Session {
             Todo::Say(octets) => self.hear_said(read, octets, answer),
             Todo::Leave(octets) => self.hear_left(read, octets, answer),
             Todo::Check(id, room, since) => {
-                self.hear_offer(
-                    read,
-                    Transfer::TakesThis,
-                    Opened { id, since },
-                    None,
-                    room,
-                    answer,
-                )
+                let offer = Opened { id, since };
+                self.hear_offer(read, Transfer::TakesThis, offer, None, room, answer)
             }
             Todo::Ihave(id, copy, room, since) => {
-                self.hear_offer(
-                    read,
-                    Transfer::Has,
-                    Opened { id, since },
-                    Some(copy),
-                    room,
-                    answer,
-                )
+                let offer = Opened { id, since };
+                self.hear_offer(read, Transfer::Has, offer, Some(copy), room, answer)
             }
             Todo::Look(part, id, room) => self.hear_look(read, part, id, room, answer),
             Todo::Fetch(reading) => self.hear_first(read, reading, answer),
