@@ -1,3 +1,4 @@
+pub mod Behind
 pub mod Cuts
 pub mod LineWords
 pub mod Numerals

@@ -5,14 +5,9 @@ use Rattle.std.proofs.Common.{sym}
 use Rattle.std.proofs.Common.{Err, Ok, Result}
 use Rattle.std.proofs.lemmas.List.{at_drop_all, at_drop_more}
 use Rattle.std.specs.Prelude.{OnOk, is_ok, if◌then◌else◌}
+use Rattle.line_words.proofs.Behind.{behind}
 use Rattle.relay_conf.specs.declared.cycbuff.BufferConf.{BufferConf}
 use Rattle.relay_adding.specs.Telling.{added_line, added_lines, added_text, told_of_added}
-
--- what is put behind a column stands with it behind all before
-behind : (before column more text all : List ℕ) → text ≡ before ++ column
-    → all ≡ text ++ more → all ≡ before ++ (column ++ more)
-behind before column more text all is adds =
-    adds ∙ ap (λ (one : List ℕ). one ++ more) is ∙ append_assoc before column more
 
 -- of some there are lines
 some_told : (first stop : ℕ) (some : List BufferConf) → 0 < length some

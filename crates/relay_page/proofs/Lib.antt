@@ -1,6 +1,5 @@
 mod Escapes
 mod Hundredths
 mod Kept
-mod Parts
 mod Places
 mod Together

@@ -5,20 +5,8 @@ use Rattle.std.proofs.Common.{refl, take}
 use Rattle.std.proofs.lemmas.Grind.{flat_map-append}
 use Rattle.std.proofs.lemmas.List.{map_push, replicate-append-replicate, take_all, take_more}
 use Rattle.std.specs.Prelude.{OnOk, decimal, is_ok, if◌then◌else◌}
+use Rattle.line_words.proofs.Behind.{behind, ends}
 use Rattle.relay_report.specs.Text.{numbers_line, right_in, spaces}
-
--- what is put behind a column stands with it behind all before
-pub behind : (before column more text all : List ℕ) → text ≡ before ++ column
-    → all ≡ text ++ more → all ≡ before ++ (column ++ more)
-behind before column more text all is adds =
-    adds ∙ ap (λ (one : List ℕ). one ++ more) is ∙ append_assoc before column more
-
--- so does what is put last, if there was room for it
-pub ends : {A E : Type 0} (result : Result A E) (before column more text all : List ℕ)
-    → text ≡ before ++ column → all ≡ (if is_ok result then text ++ more else text)
-    → OnOk result (all ≡ before ++ (column ++ more))
-ends (Ok done) before column more text all is adds = behind before column more text all is adds
-ends (Err error) before column more text all is adds = tt
 
 -- behind what stands before come columns of numbers, and the end of their line
 abbrev pub with_numbers : (before : List ℕ) → List (ℕ × ℕ) → List ℕ

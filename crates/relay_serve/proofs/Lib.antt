@@ -1,4 +1,3 @@
-mod Behind
 mod Kept
 mod PeerSources
 mod Reached

@@ -1,4 +1,4 @@
-use Rattle.relay_page.proofs.Parts.{behind, ends}
+use Rattle.line_words.proofs.Behind.{behind, ends}
 use Rattle.relay_page.proofs.whole.put_foot.Goals as goal
 
 -- the number stands between the marks

@@ -1,4 +1,4 @@
-use Rattle.relay_serve.proofs.Behind.{behind, ends}
+use Rattle.line_words.proofs.Behind.{behind, ends}
 use Rattle.relay_serve.proofs.filled.put_size.Goals as goal
 
 -- the parts of the line stand behind one another
