@@ -10,7 +10,8 @@
 //! decided.
 #![tactic(auto)]
 
-use relay_command::{Failure, Request, exit_code, gathering, print_failure, program_words, run};
+use relay_command::{Failure, Request, exit_code, gathering, hint, print_failure, program_words};
+use relay_command::run;
 use relay_folder::{Word, ask};
 use relay_serve::serve_on;
 use relay_startup::{add_on, stand_on};
@@ -18,6 +19,7 @@ use std::alloc::Global;
 use std::env::Env;
 use std::fs::{File, Files};
 use std::io;
+use std::io::{IsTerminal, Write};
 use std::net::{Net, TcpListener, TcpStream};
 use std::process::ExitCode;
 use std::random::RandomSource;
@@ -26,14 +28,15 @@ use std::thread::Threads;
 use std::time::Clock;
 
 fn main(rt: HostRuntime) -> ExitCode {
-    let ran = run_here(&rt);
+    let ran = run_here(&rt, &mut rt.stderr());
     let _unseen = print_failure(&ran, &mut rt.stderr());
     exit_code(&ran)
 }
 
 /// Does what the words of the system ask for, over its streams, files and ports. What could not be
-/// handed on to standard output is let go of, and not written when its writer is.
-fn run_here<R>(rt: &R) -> Result<(), Failure>
+/// handed on to standard output is let go of, and not written when its writer is. `errors` is
+/// standard error.
+fn run_here<R, E: Write + IsTerminal>(rt: &R, errors: &mut E) -> Result<(), Failure>
 where
     R: AllocGlobal
         + Env
@@ -50,6 +53,7 @@ where
 {
     let alloc = rt.alloc();
     let words = program_words(rt)?;
+    let _unseen = hint(&words, errors.is_terminal(), errors);
     let mut output = gathering(alloc, io::writer(rt))?;
     let ran = run(
         rt,

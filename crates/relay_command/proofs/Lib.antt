@@ -13,3 +13,4 @@ pub mod Scripts
 pub mod Servings
 pub mod TextsRead
 pub mod Tokens
+pub mod Wordless

@@ -7,6 +7,7 @@ pub mod Failure
 pub mod Files
 pub mod Gathered
 pub mod Help
+pub mod Hints
 pub mod Numbers
 pub mod Questions
 pub mod Run
