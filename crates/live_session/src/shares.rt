@@ -21,7 +21,7 @@ use live_store::{ArticleLog, OneRead, OneRecord, StorePremises};
 use live_wire::Tally;
 use nntp_text::MsgId;
 use std::alloc::{AllocError, Global};
-use std::net::Ipv4Addr;
+use std::net::Ipv6Addr;
 
 /// What sessions share with each other and with the writers: each call is one step under one lock
 /// (docs/PROTOCOL.md, Threads).
@@ -149,7 +149,7 @@ pub trait Gate<R> {
         _rt: &R,
         _peer: usize,
         _session: u64,
-        _from: Ipv4Addr,
+        _from: Ipv6Addr,
         _finish: Finish,
         _tally: &Tally,
         _seconds: u64,

@@ -3,7 +3,7 @@ use Rattle.std.specs.Prelude.{ℕ, Bool, List, Option, None, Some, if◌then◌e
 use Rattle.live_wire.specs.declared.callers.Callers.{Callers}
 use Rattle.relay_conf.specs.Reach.{may_reach}
 
--- an address, its four octets, may connect where it may reach the peer (docs/FORMATS.md,
+-- an address, its sixteen octets, may connect where it may reach the peer (docs/FORMATS.md,
 -- relay.conf)
 abbrev pub may_call : Callers → (address : List ℕ) → Bool
 may_call callers address = may_reach callers.relay.now.allows.items callers.peer address

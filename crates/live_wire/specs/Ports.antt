@@ -1,6 +1,6 @@
 -- How many connections a port takes, and of whom.
 use Rattle.std.specs.Prelude.{◌≡◌, ℕ, ◌+◌, List, Option, None, Some}
-use Rattle.std.specs.Net.Addr.{ipv4_octets}
+use Rattle.std.specs.Net.Addr.{ipv6_octets}
 use Rattle.live_wire.specs.declared.callers.Callers.{Callers}
 use Rattle.live_wire.specs.declared.line.Line.{Line}
 use Rattle.live_wire.specs.declared.port.Port.{Port}
@@ -14,9 +14,9 @@ left_of port = port.left
 abbrev pub callers_of : Port → Callers
 callers_of port = port.callers.now
 
--- the address that a connection comes from, its four octets
+-- the address that a connection comes from, its sixteen octets
 abbrev pub comes_from : RecordingReader Line → List ℕ
-comes_from reader = ipv4_octets reader.reader.from
+comes_from reader = ipv6_octets reader.reader.from
 
 -- one fewer, where they have an end
 abbrev pub OneLess : Option ℕ → Option ℕ → Type 0

@@ -1,15 +1,15 @@
 //! Who may connect to a port.
 ghost use Rattle.std.specs.Prelude.{ℕ, List, ◌≡◌};
-ghost use Rattle.std.specs.Net.Addr.{ipv4_octets};
+ghost use Rattle.std.specs.Net.Addr.{ipv6_octets};
 ghost use Rattle.live_wire.specs.Callers.{let_in_of};
 ghost use Rattle.live_wire.specs.Callers as terms;
 ghost use Rattle.relay_conf.specs.Reach.{may_reach};
 
+use crate::listeners::Listeners;
 use crate::stop::may_tell;
 use relay_conf::Relay;
 use std::io;
-use std::io::ErrorKind;
-use std::net::{Ipv4Addr, SocketAddr, TcpListener};
+use std::net::Ipv6Addr;
 use std::sync::atomic::{AtomicU64, Ordering};
 
 /// Who may connect to the port of a peer: those who may reach it (docs/FORMATS.md, relay.conf); and
@@ -51,15 +51,15 @@ impl<'a> Callers<'a> {
     }
 
     /// Whether this address may connect.
-    pub fn may_call(&self, address: Ipv4Addr) -> bool
-        ensures { result ≡ terms.may_call self.now (ipv4_octets address) }
+    pub fn may_call(&self, address: Ipv6Addr) -> bool
+        ensures { result ≡ terms.may_call self.now (ipv6_octets address) }
     {
         self.relay.may_reach(self.peer, address.octets())
     }
 
     /// The connection from an address, where that may connect; else it is closed.
-    pub(crate) fn let_in<S: Drop>(&self, stream: S, from: Ipv4Addr) -> Option<S>
-        ensures { result ≡ let_in_of self.now (ipv4_octets from) stream }
+    pub(crate) fn let_in<S: Drop>(&self, stream: S, from: Ipv6Addr) -> Option<S>
+        ensures { result ≡ let_in_of self.now (ipv6_octets from) stream }
     {
         if self.may_call(from) {
             Some(stream)
@@ -68,30 +68,26 @@ impl<'a> Callers<'a> {
         }
     }
 
-    /// Counts one at the port of this listener that was refused, and tells in one line a minute at
+    /// Counts one at the port of these listeners that was refused, and tells in one line a minute at
     /// most how many were since the last, and whence this one came.
     pub(crate) fn refuse<R: Eprint>(
         &self,
         rt: &R,
-        listener: &TcpListener,
-        from: Ipv4Addr,
+        listeners: &Listeners,
+        from: Ipv6Addr,
         second: u64,
     ) -> io::Result<()> {
         self.refused.fetch_add(1, Ordering::SeqCst);
         if !may_tell(&self.told, second) {
             return Ok(());
         }
-        let number = listener.local_addr()?.port();
+        let (number, from) = (listeners.number()?, from.to_canonical());
         let count = self.refused.swap(0, Ordering::SeqCst);
         eprintln!(rt; "refused port={number} for=address from={from} count={count}")
     }
-}
 
-/// The IPv4 address that a connection comes from. At a listener of an IPv4 address none comes from
-/// another; the error says that one did.
-pub(crate) fn ipv4_of(address: SocketAddr) -> io::Result<Ipv4Addr> {
-    match address {
-        SocketAddr::V4(address) => Ok(*address.ip()),
-        SocketAddr::V6(_) => Err(io::Error::from(ErrorKind::InvalidData)),
+    /// The settings that say who may.
+    pub(crate) fn relay(&self) -> &'a Relay {
+        self.relay
     }
 }

@@ -2,7 +2,7 @@
 ghost use Rattle.std.specs.Prelude.{◌≡◌, [], IfSome};
 
 use crate::wire::{Hears, Says};
-use std::net::Ipv4Addr;
+use std::net::Ipv6Addr;
 
 /// The connections of an end, one after the other.
 pub trait Connections<R> {
@@ -17,7 +17,7 @@ pub trait Connections<R> {
             × (Self.Writer.said pair.1 ≡ [])) };
 
     /// The address that a connection comes from.
-    fn caller(&self, reader: &Self::Reader) -> Ipv4Addr;
+    fn caller(&self, reader: &Self::Reader) -> Ipv6Addr;
 
     /// Lets go of a connection whose session has ended, in an order in which its last reply
     /// arrives.

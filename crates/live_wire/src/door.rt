@@ -1,12 +1,10 @@
 //! Whoever waits at a port all of whose connections are taken.
-use crate::callers::{Callers, ipv4_of};
+use crate::callers::Callers;
+use crate::listeners::Listeners;
 use crate::stop::{Stop, have_passed};
-use libc::net::{POLLIN, poll};
-use libc::types::pollfd;
 use std::io;
 use std::io::Write;
-use std::net::{Shutdown, TcpListener, TcpStream};
-use std::os::fd::AsRawFd;
+use std::net::{Shutdown, TcpStream};
 use std::sync::atomic::{AtomicU64, Ordering};
 use std::time::Clock;
 
@@ -21,7 +19,7 @@ const NEVER: u64 = u64::MAX;
 
 /// The door of a port, at which connections wait until one of the port's ends takes them.
 pub struct Door<'a> {
-    listener: TcpListener,
+    listeners: Listeners,
     /// Who may connect.
     callers: &'a Callers<'a>,
     /// By what the port is told to end.
@@ -36,7 +34,7 @@ pub struct Door<'a> {
 impl Drop for Door<'_> {
     fn drop(self) {
         let Door {
-            listener: _,
+            listeners: _,
             callers: _,
             stop: _,
             place: _,
@@ -48,13 +46,13 @@ impl Drop for Door<'_> {
 impl<'a> Door<'a> {
     /// The door of the port that listens so.
     pub(crate) fn of(
-        listener: TcpListener,
+        listeners: Listeners,
         callers: &'a Callers<'a>,
         stop: &'a Stop,
         place: u64,
     ) -> Door<'a> {
         Door {
-            listener,
+            listeners,
             callers,
             stop,
             place,
@@ -85,25 +83,17 @@ impl<'a> Door<'a> {
         if self.stop.is_asked() || !self.stop.have_all_begun() {
             return false;
         }
-        let mut ready = [pollfd {
-            fd: self.listener.as_raw_fd(),
-            events: POLLIN,
-            revents: 0,
-        }];
-        poll(&mut ready, 0) > 0
+        matches!(self.listeners.has_one(0), Ok(true))
     }
 
     /// Tells the first who waits that there are too many, where an end of the port hasn't taken him
     /// meanwhile; that this was so is told in one line a minute at most.
     fn refuse<R: Eprint>(&self, rt: &R, second: u64) {
-        let Ok((stream, address)) = self.listener.accept() else {
-            return;
-        };
-        let Ok(from) = ipv4_of(address) else {
+        let Ok((stream, from)) = self.listeners.accept() else {
             return;
         };
         let Some(stream) = self.callers.let_in(stream, from) else {
-            let _unseen = self.callers.refuse(rt, &self.listener, from, second);
+            let _unseen = self.callers.refuse(rt, &self.listeners, from, second);
             return;
         };
         let _lost = dismiss(&stream);
@@ -114,7 +104,7 @@ impl<'a> Door<'a> {
 
     /// Tells that a connection of the port was refused.
     fn tell<R: Eprint>(&self, rt: &R) -> io::Result<()> {
-        let number = self.listener.local_addr()?.port();
+        let number = self.listeners.number()?;
         eprintln!(rt; "refused port={number} for=connections")
     }
 }

@@ -13,6 +13,7 @@ mod callers;
 mod connections;
 mod door;
 mod line;
+mod listeners;
 mod port;
 mod stop;
 mod tally;

@@ -8,7 +8,7 @@ ghost use Rattle.live_wire.specs.Waits.{IsLate, IsWait};
 use crate::stop::Stop;
 use std::io;
 use std::io::{ErrorKind, Read, Write};
-use std::net::{Ipv4Addr, Shutdown, TcpStream};
+use std::net::{Ipv6Addr, Shutdown, TcpStream};
 use std::time::{Clock, Duration, Instant};
 
 /// How many milliseconds a wait for a peer takes at once. Between two waits a line looks whether it
@@ -49,7 +49,7 @@ const DROPPED_AT_ONCE: usize = 4_096;
 pub struct Line<'a> {
     stream: TcpStream,
     /// The address that it comes from.
-    from: Ipv4Addr,
+    from: Ipv6Addr,
     stop: &'a Stop,
     /// The place of its port.
     place: u64,
@@ -62,7 +62,7 @@ impl<'a> Line<'a> {
     /// writes are sent at once.
     pub(crate) fn both(
         stream: TcpStream,
-        from: Ipv4Addr,
+        from: Ipv6Addr,
         stop: &'a Stop,
         place: u64,
         patience: u32,
@@ -92,7 +92,7 @@ impl<'a> Line<'a> {
     }
 
     /// The address that it comes from.
-    pub(crate) fn from(&self) -> Ipv4Addr
+    pub(crate) fn from(&self) -> Ipv6Addr
         ensures { result ≡ self.now.from }
     {
         self.from

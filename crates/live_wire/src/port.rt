@@ -1,19 +1,18 @@
 //! A port of a peer.
 ghost use Rattle.std.specs.Prelude.{◌≡◌, true, IfOk, IfSome};
-ghost use Rattle.std.specs.Net.Addr.{ipv4_octets};
+ghost use Rattle.std.specs.Net.Addr.{ipv6_octets};
 ghost use Rattle.live_wire.specs.Callers.{may_call};
 ghost use Rattle.live_wire.specs.Ports.{callers_of, left_of};
 
-use crate::callers::{Callers, ipv4_of};
+use crate::callers::Callers;
 use crate::connections::Connections;
 use crate::door::Door;
 use crate::line::{Line, is_wait};
+use crate::listeners::Listeners;
 use crate::stop::Stop;
 use crate::wire::{RecordingReader, RecordingWriter};
-use libc::net::{POLLIN, poll};
-use libc::types::pollfd;
-use std::net::{Ipv4Addr, Net, SocketAddr, TcpListener, TcpStream};
-use std::os::fd::AsRawFd;
+use std::alloc::Global;
+use std::net::{Ipv6Addr, Net, TcpListener, TcpStream};
 use std::sync::Wait;
 use std::sync::atomic::{AtomicBool, Ordering};
 use std::time::{Clock, Duration};
@@ -33,9 +32,9 @@ const LONG_PAUSE: u64 = 1_000;
 /// The system's numbers for want of descriptors: of the machine (ENFILE), of the program (EMFILE).
 const NO_DESCRIPTOR: [i32; 2] = [23, 24];
 
-/// A port of a peer, on one IPv4 address of the machine or, at 0.0.0.0, on all.
+/// A port of a peer, on each address of the machine that the settings name.
 pub struct Port<'a> {
-    listener: TcpListener,
+    listeners: Listeners,
     /// How many connections it still takes; without a number it never ends by itself.
     left: Option<u32>,
     /// Who may connect.
@@ -54,7 +53,7 @@ pub struct Port<'a> {
 impl Drop for Port<'_> {
     fn drop(self) {
         let Port {
-            listener: _,
+            listeners: _,
             left: _,
             callers: _,
             stop: _,
@@ -66,45 +65,44 @@ impl Drop for Port<'_> {
 }
 
 impl<'a> Port<'a> {
-    /// Listens on a port of this address, for so many connections of these callers, until it is
-    /// told to stop. The error is the system's.
+    /// Listens on this port of each address that the settings name, for so many connections of these
+    /// callers, until it is told to stop. The error is the system's, or want of memory.
     pub fn listen<N: Net<Listener = TcpListener, Stream = TcpStream>>(
         net: &N,
-        address: Ipv4Addr,
+        alloc: Global,
         port: u16,
         connections: Option<u32>,
         callers: &'a Callers<'a>,
         stop: &'a Stop,
-        patience: u32,
     ) -> io::Result<Port<'a>>
         ensures left { IfOk result (λ port. left_of port ≡ connections) }
         ensures callers { IfOk result (λ port. callers_of port ≡ callers.now) }
     {
-        let listener = TcpListener::bind(net, SocketAddr::from((address, port)))?;
-        // Of several ends behind it that find the same connection one gets it.
-        listener.set_nonblocking(true)?;
+        let relay = callers.relay();
+        let listeners = Listeners::bind(net, alloc, &relay.binds, port)?;
         stop.count_made();
         Ok(Port {
-            listener,
+            listeners,
             left: connections,
             callers,
             stop,
             place: stop.place(),
-            patience,
+            patience: relay.patience,
             is_served: AtomicBool::new(false),
         })
     }
 
     /// The same port for a further end, which takes as many connections as this one still does, of
-    /// the same callers. Each connection is given by one of them. The error is the system's.
+    /// the same callers. Each connection is given by one of them. The error is the system's, or want
+    /// of memory.
     pub fn another(&self) -> io::Result<Port<'a>>
         ensures left { IfOk result (λ port. left_of port ≡ left_of self.now) }
         ensures callers { IfOk result (λ port. callers_of port ≡ callers_of self.now) }
     {
-        let listener = self.listener.try_clone()?;
+        let listeners = self.listeners.try_clone()?;
         self.stop.count_made();
         Ok(Port {
-            listener,
+            listeners,
             left: self.left,
             callers: self.callers,
             stop: self.stop,
@@ -115,10 +113,10 @@ impl<'a> Port<'a> {
     }
 
     /// Its door, at which connections wait that none of its ends has taken. The error is the
-    /// system's.
+    /// system's, or want of memory.
     pub fn door(&self) -> io::Result<Door<'a>> {
         Ok(Door::of(
-            self.listener.try_clone()?,
+            self.listeners.try_clone()?,
             self.callers,
             self.stop,
             self.place,
@@ -127,7 +125,7 @@ impl<'a> Port<'a> {
 
     /// Its number, where the system chose it.
     pub fn number(&self) -> io::Result<u16> {
-        Ok(self.listener.local_addr()?.port())
+        self.listeners.number()
     }
 
     /// Counts this port as one that is served, once.
@@ -141,10 +139,9 @@ impl<'a> Port<'a> {
     /// from an address that may not connect is closed, and there is none.
     fn accept<R: Clock + Eprint>(&self, rt: &R) -> io::Result<Option<(Line<'a>, Line<'a>)>>
         ensures { IfOk result (λ taken. IfSome taken
-            (λ pair. may_call (callers_of self.now) (ipv4_octets pair.0.from) ≡ true)) }
+            (λ pair. may_call (callers_of self.now) (ipv6_octets pair.0.from) ≡ true)) }
     {
-        let (stream, address) = self.listener.accept()?;
-        let from = ipv4_of(address)?;
+        let (stream, from) = self.listeners.accept()?;
         let Some(stream) = self.callers.let_in(stream, from) else {
             let _unseen = self.refuse(rt, from);
             return Ok(None);
@@ -153,32 +150,29 @@ impl<'a> Port<'a> {
     }
 
     /// Counts a connection from an address that may not connect, and tells of such.
-    fn refuse<R: Clock + Eprint>(&self, rt: &R, from: Ipv4Addr) -> io::Result<()> {
+    fn refuse<R: Clock + Eprint>(&self, rt: &R, from: Ipv6Addr) -> io::Result<()> {
         let second = rt.monotonic()?.as_secs();
-        self.callers.refuse(rt, &self.listener, from, second)
+        self.callers.refuse(rt, &self.listeners, from, second)
     }
 
     /// Waits until a connection has come, or a part of the wait has passed: whether one has come.
     /// The end of the wait is a moment of the machine's clock: where the program is stopped and
     /// goes on it comes no later. Where the wait of `accept` is interrupted it begins anew.
     fn has_one<C: Clock>(&self, clock: &C) -> bool {
-        let mut ready = [pollfd {
-            fd: self.listener.as_raw_fd(),
-            events: POLLIN,
-            revents: 0,
-        }];
-        let count = poll(&mut ready, PART);
-        if count < 0 {
-            thread::sleep(clock, Duration::from_millis(PAUSE));
+        match self.listeners.has_one(PART) {
+            Ok(has) => has,
+            Err(_) => {
+                thread::sleep(clock, Duration::from_millis(PAUSE));
+                false
+            }
         }
-        count > 0
     }
 
     /// Waits until all ports are served, then for a connection, both in parts; none comes once it
     /// is to stop.
     fn wait<R: Wait + Clock + Eprint>(&self, rt: &R) -> Option<(Line<'a>, Line<'a>)>
         ensures { IfSome result
-            (λ pair. may_call (callers_of self.now) (ipv4_octets pair.0.from) ≡ true) }
+            (λ pair. may_call (callers_of self.now) (ipv6_octets pair.0.from) ≡ true) }
     {
         for _ in rt.forever() {
             if self.stop.is_asked() {
@@ -263,8 +257,8 @@ impl<'a, R: Wait + Clock + Eprint> Connections<R> for Port<'a> {
         Some((RecordingReader::new(reader), RecordingWriter::new(writer)))
     }
 
-    fn caller(&self, reader: &RecordingReader<Line<'a>>) -> Ipv4Addr
-        ensures { ipv4_octets result ≡ comes_from reader.now }
+    fn caller(&self, reader: &RecordingReader<Line<'a>>) -> Ipv6Addr
+        ensures { ipv6_octets result ≡ comes_from reader.now }
     {
         reader.reader().from()
     }

@@ -1,8 +1,9 @@
 -- What is told of the settings of relay.conf that are of the relay itself.
-use Rattle.std.specs.Prelude.{ℕ, ◌+◌, Bool, List, ◌++◌, codes, decimal, length, nat_le, nat_lt}
+use Rattle.std.specs.Prelude.{ℕ, ◌+◌, Bool, List, [], ◌∷◌, ◌++◌, bytes_eq, codes, decimal, drop}
+use Rattle.std.specs.Prelude.{flat_map, length, nat_le, nat_lt, take}
 use Rattle.std.specs.Prelude.{Option, Some, None, if◌then◌else◌}
-use Rattle.std.specs.Net.Addr.{ipv4_octets}
-use Rattle.std.specs.Net.Text.{ipv4_text}
+use Rattle.std.specs.Net.Addr.{octets_of, segments_of}
+use Rattle.std.specs.Net.Text.{ipv4_text, ipv6_text}
 use Rattle.relay_conf.specs.declared.settings.Relay.{Relay}
 use Rattle.relay_explain.specs.Lines.{key_line, odd_line, told_line}
 
@@ -53,6 +54,34 @@ sync_text lines (Some seconds) =
     setting_text lines (codes "sync") (decimal seconds)
     (codes "seconds between two flushes of the files of buffers")
 
+-- what is told of how long an offer lasts
+unfoldable pub offers_text : (lines : List (List ℕ)) → Option ℕ → List ℕ
+offers_text lines None = codes "relay.conf: offers (no line says it): no offer runs out\n"
+offers_text lines (Some seconds) =
+    setting_text lines (codes "offers") (decimal seconds)
+    (codes "seconds after which an offer runs out")
+
+-- the segments before those of an IPv4 address (RFC 4291 section 2.5.5.2)
+abbrev pub before_ipv4 : List ℕ
+before_ipv4 = 0 ∷ 0 ∷ 0 ∷ 0 ∷ 0 ∷ 65535 ∷ []
+
+-- an address of these eight segments as it is written: one of IPv4 as four numbers, another as RFC
+-- 5952 section 4 has it
+unfoldable pub segments_text : (segments : List ℕ) → List ℕ
+segments_text segments =
+    if bytes_eq (take 6 segments) before_ipv4 then ipv4_text (octets_of (drop 6 segments))
+    else ipv6_text segments
+
+-- an address, its sixteen octets, as it is written
+abbrev pub address_text : (address : List ℕ) → List ℕ
+address_text address = segments_text (segments_of address)
+
+-- addresses, a space between two
+abbrev pub addresses_text : (addresses : List (List ℕ)) → List ℕ
+addresses_text [] = []
+addresses_text (first ∷ more) =
+    address_text first ++ flat_map (λ address. codes " " ++ address_text address) more
+
 -- what is told of the relay itself
 unfoldable pub settings_text : Relay → (lines : List (List ℕ)) → List ℕ
 settings_text relay lines =
@@ -65,5 +94,6 @@ settings_text relay lines =
     ++ setting_text lines (codes "patience") (decimal relay.patience)
     (codes "seconds for which a silent peer is waited for")
     ++ sync_text lines relay.sync
-    ++ setting_text lines (codes "bind") (ipv4_text (ipv4_octets relay.bind))
-    (codes "the address on which ports listen, 0.0.0.0 for all")
+    ++ offers_text lines relay.offers
+    ++ setting_text lines (codes "bind") (addresses_text relay.binds.items)
+    (codes "the addresses on which ports listen, 0.0.0.0 for all of IPv4, :: for all")

@@ -1,7 +1,5 @@
 //! What is told of the settings of relay.conf that are of the relay itself.
-ghost use Rattle.std.specs.Prelude.{◌≡◌, codes, decimal, map, string_bytes, IfOk};
-ghost use Rattle.std.specs.Net.Addr.{ipv4_octets};
-ghost use Rattle.std.specs.Net.Text.{ipv4_text};
+ghost use Rattle.std.specs.Prelude.{◌≡◌, ◌++◌, codes, decimal, map, string_bytes, IfOk, OnOk};
 ghost use Rattle.relay_explain.specs.Settings as terms;
 ghost use Rattle.relay_explain.specs.Text.{Adds};
 
@@ -10,7 +8,7 @@ use crate::text::{Text, put, put_line, put_odd};
 use itoa::Buffer;
 use relay_conf::Relay;
 use std::alloc::{AllocError, Global};
-use std::net::Ipv4Addr;
+use std::net::Ipv6Addr;
 
 /// The file in which the relay and its peers are said.
 pub(crate) const RELAY: &[u8] = b"relay.conf";
@@ -53,28 +51,65 @@ pub(crate) fn put_settings(alloc: Global, text: Text, relay: &Relay, lines: &[&[
         b"seconds for which a silent peer is waited for",
     );
     let text = put_sync(text, lines, relay.sync);
-    put_address(alloc, text, lines, &relay.bind)
+    let text = put_offers(text, lines, relay.offers);
+    put_addresses(alloc, text, lines, &relay.binds)
 }
 
-/// Puts what is told of the address on which its ports listen.
-fn put_address(alloc: Global, text: Text, lines: &[&[u8]], address: &Ipv4Addr) -> Text
+/// Puts what is told of the addresses on which its ports listen.
+fn put_addresses(alloc: Global, text: Text, lines: &[&[u8]], addresses: &[[u8; 16]]) -> Text
     ensures { Adds text result
         (terms.setting_text (map (λ line. line.now) lines.now) (codes "bind")
-        (ipv4_text (ipv4_octets address.now))
-        (codes "the address on which ports listen, 0.0.0.0 for all")) }
+        (terms.addresses_text addresses.now)
+        (codes "the addresses on which ports listen, 0.0.0.0 for all of IPv4, :: for all")) }
 {
-    let told = b"the address on which ports listen, 0.0.0.0 for all";
-    match address_text(alloc, address) {
-        Ok(address) => put_setting(text, lines, b"bind", address.as_bytes(), told),
+    let told = b"the addresses on which ports listen, 0.0.0.0 for all of IPv4, :: for all";
+    match addresses_text(alloc, addresses) {
+        Ok(addresses) => put_setting(text, lines, b"bind", addresses.as_slice(), told),
         Err(error) => text.fail(error),
     }
 }
 
-/// An address as it is written.
-fn address_text(alloc: Global, address: &Ipv4Addr) -> Result<String, AllocError>
-    ensures { IfOk result (λ text. string_bytes text ≡ ipv4_text (ipv4_octets address.now)) }
+/// Addresses as they are written, a space between two.
+fn addresses_text(alloc: Global, addresses: &[[u8; 16]]) -> Result<Vec<u8>, AllocError>
+    ensures { IfOk result (λ text. text.items ≡ terms.addresses_text addresses.now) }
 {
-    format!(in alloc; "{address}")
+    let mut text = Vec::new(alloc);
+    let Some((first, more)) = addresses.split_first() else {
+        return Ok(text);
+    };
+    add_address(alloc, &mut text, b"", *first)?;
+    for address in more {
+        add_address(alloc, &mut text, b" ", *address)?;
+    }
+    Ok(text)
+}
+
+/// Adds an address as it is written, behind what is to stand before it.
+fn add_address(
+    alloc: Global,
+    text: &mut Vec<u8>,
+    before: &[u8],
+    address: [u8; 16],
+) -> Result<(), AllocError>
+    ensures { OnOk result
+        (text.new.items ≡ text.old.items ++ (before.now ++ terms.address_text address)) }
+{
+    let address = address_text(alloc, address)?;
+    text.extend_from_slice(before)?;
+    text.extend_from_slice(address.as_bytes())?;
+    Ok(())
+}
+
+/// An address as it is written.
+#[tactic(auto, unfolding(crate::specs::Settings::segments_text))]
+fn address_text(alloc: Global, address: [u8; 16]) -> Result<String, AllocError>
+    ensures { IfOk result (λ text. string_bytes text ≡ terms.address_text address) }
+{
+    let address = Ipv6Addr::from_octets(address);
+    match address.to_ipv4_mapped() {
+        Some(address) => format!(in alloc; "{address}"),
+        None => format!(in alloc; "{address}"),
+    }
 }
 
 /// Puts what is told of how long ids are remembered.
@@ -111,6 +146,20 @@ fn put_sync(text: Text, lines: &[&[u8]], sync: Option<u64>) -> Text
         Some(seconds) => {
             let told = b"seconds between two flushes of the files of buffers".as_slice();
             put_number(text, lines, b"sync", seconds, told)
+        }
+    }
+}
+
+/// Puts what is told of how long an offer lasts.
+#[tactic(auto, unfolding(crate::specs::Settings::offers_text))]
+fn put_offers(text: Text, lines: &[&[u8]], offers: Option<u64>) -> Text
+    ensures { Adds text result (terms.offers_text (map (λ line. line.now) lines.now) offers) }
+{
+    match offers {
+        None => text.add(b"relay.conf: offers (no line says it): no offer runs out\n"),
+        Some(seconds) => {
+            let told = b"seconds after which an offer runs out".as_slice();
+            put_number(text, lines, b"offers", seconds, told)
         }
     }
 }

@@ -22,7 +22,7 @@ use relay_conf::Config;
 use std::alloc::Global;
 use std::hash::RandomState;
 use std::mem;
-use std::net::Ipv4Addr;
+use std::net::Ipv6Addr;
 use std::sync::Wait;
 use std::sync::ledger::Ledger;
 
@@ -113,7 +113,7 @@ impl<
         turns: &N,
         seat: SessionSeat,
         number: Number<L>,
-        from: Ipv4Addr,
+        from: Ipv6Addr,
         reader: H,
         writer: W,
     ) -> Conversed<H, W>

@@ -7,7 +7,7 @@ use live_wire::Tally;
 use relay_conf::Peer;
 use std::alloc::{AllocError, Global};
 use std::fmt::{Display, Formatter};
-use std::net::Ipv4Addr;
+use std::net::Ipv6Addr;
 use std::sync::atomic::{AtomicU64, Ordering};
 use std::{fmt, str};
 
@@ -167,7 +167,7 @@ impl<R: Eprint> Gate<R> for CountingGate<'_> {
         rt: &R,
         peer: usize,
         session: u64,
-        from: Ipv4Addr,
+        from: Ipv6Addr,
         finish: Finish,
         tally: &Tally,
         seconds: u64,
@@ -176,6 +176,7 @@ impl<R: Eprint> Gate<R> for CountingGate<'_> {
             return;
         };
         counts.open.fetch_sub(1, Ordering::SeqCst);
+        let from = from.to_canonical();
         let _lost = eprintln!(rt;
             "closed peer={} session={session} from={from} finish={} seconds={seconds} {}",
             counts.name,

@@ -40,7 +40,15 @@ pub(crate) fn open_ports<'a, N: Net<Listener = TcpListener, Stream = TcpStream>>
     ensures fault { IfErr result (IsPortFault relay.now.peers.items) }
 {
     let mut peer_sources = Vec::new(alloc);
-    match listen_all(net, relay, sessions, callers, stop, &mut peer_sources) {
+    match listen_all(
+        net,
+        alloc,
+        relay,
+        sessions,
+        callers,
+        stop,
+        &mut peer_sources,
+    ) {
         Ok(()) => Ok(peer_sources),
         Err(error) => {
             drop(peer_sources);
@@ -52,6 +60,7 @@ pub(crate) fn open_ports<'a, N: Net<Listener = TcpListener, Stream = TcpStream>>
 /// Adds the peer sources of each peer that has a port to none.
 fn listen_all<'a, N: Net<Listener = TcpListener, Stream = TcpStream>>(
     net: &N,
+    alloc: Global,
     relay: &Relay,
     sessions: Option<u32>,
     callers: &'a [Callers<'a>],
@@ -72,8 +81,8 @@ fn listen_all<'a, N: Net<Listener = TcpListener, Stream = TcpStream>>(
         if peer.port == 0 {
             continue;
         }
-        let (own, patience) = (&callers[number], relay.patience);
-        match Port::listen(net, relay.bind, peer.port, sessions, own, stop, patience) {
+        let own = &callers[number];
+        match Port::listen(net, alloc, peer.port, sessions, own, stop) {
             Ok(first) => add_peer_sources(peer_sources, number, peer, first)?,
             Err(error) => return Err(lost(peer, error.kind())),
         }
