@@ -47,7 +47,7 @@ k1_relay =
       patience = 3600;
       sync = None;
       offers = None;
-      bind = each_address;
+      binds = each_address ∷ [];
       peers =
           record { name = codes "p1"; identity = codes "one.example"; port = 0; connections = 1 }
           ∷ record { name = codes "p2"; identity = codes "two.example"; port = 0; connections = 1 }

@@ -1,7 +1,9 @@
 -- Who may connect, in an example (docs/FORMATS.md, Configuration).
-use Rattle.std.specs.Prelude.{ℕ, Bool, List, [], ◌∷◌, codes, None}
+use Rattle.std.specs.Prelude.{ℕ, ◌+◌, Bool, List, [], ◌∷◌, codes, None}
+use Rattle.relay_conf.specs.declared.reach.Range.{Range}
 use Rattle.relay_conf.specs.Reach.{may_reach}
 use Rattle.relay_conf.specs.Relay.{RelaySettings, each_address}
+use Rattle.relay_conf.specs.RelayLines.{mapped}
 
 -- three peers, lines of two of them, one before its peer, and two of the first (docs/FORMATS.md,
 -- Configuration)
@@ -10,6 +12,10 @@ reach_lines =
     codes "own a" ∷ codes "allow p 192.0.2.5/31" ∷ codes "peer p b 0" ∷ codes "peer q c 0"
     ∷ codes "peer r d 0" ∷ codes "allow q 198.51.100.7" ∷ codes "allow p 203.0.113.9/32 10.1.2.3/8"
     ∷ []
+
+-- the range of this IPv4 address and of so many of its 32 bits: behind the 96 bits in front of it
+abbrev pub ipv4_range : (a b c d : ℕ) → (bits : ℕ) → Range
+ipv4_range a b c d bits = record { address = mapped (a ∷ b ∷ c ∷ d ∷ []); bits = 96 + bits }
 
 -- what they say: the ranges in their order, each with the number of its peer
 abbrev pub reach_settings : RelaySettings
@@ -22,17 +28,17 @@ reach_settings =
       patience = 3600;
       sync = None;
       offers = None;
-      bind = each_address;
+      binds = each_address ∷ [];
       peers = record { name = codes "p"; identity = codes "b"; port = 0; connections = 1 }
           ∷ record { name = codes "q"; identity = codes "c"; port = 0; connections = 1 }
           ∷ record { name = codes "r"; identity = codes "d"; port = 0; connections = 1 } ∷ [];
       feeds = [];
-      allows = record { peer = 0; range = record { address = 192 ∷ 0 ∷ 2 ∷ 5 ∷ []; bits = 31 } }
-          ∷ record { peer = 1; range = record { address = 198 ∷ 51 ∷ 100 ∷ 7 ∷ []; bits = 32 } }
-          ∷ record { peer = 0; range = record { address = 203 ∷ 0 ∷ 113 ∷ 9 ∷ []; bits = 32 } }
-          ∷ record { peer = 0; range = record { address = 10 ∷ 1 ∷ 2 ∷ 3 ∷ []; bits = 8 } } ∷ [];
+      allows = record { peer = 0; range = ipv4_range 192 0 2 5 31 }
+          ∷ record { peer = 1; range = ipv4_range 198 51 100 7 32 }
+          ∷ record { peer = 0; range = ipv4_range 203 0 113 9 32 }
+          ∷ record { peer = 0; range = ipv4_range 10 1 2 3 8 } ∷ [];
     }
 
--- the address of these octets may connect to the peer of this number
+-- the IPv4 address of these octets may connect to the peer of this number
 abbrev pub reaches : (peer : ℕ) → (a b c d : ℕ) → Bool
-reaches peer a b c d = may_reach reach_settings.allows peer (a ∷ b ∷ c ∷ d ∷ [])
+reaches peer a b c d = may_reach reach_settings.allows peer (mapped (a ∷ b ∷ c ∷ d ∷ []))

@@ -16,7 +16,7 @@ use Rattle.relay_conf.specs.Faults.{first_fault, whole_fault, unless_fault}
 use Rattle.relay_conf.specs.RelayLines.{SaidLine, Skipped, Own, MaxArticle, Cutoff, Remember}
 use Rattle.relay_conf.specs.RelayLines.{Patience, Sync, Offers, Bind, PeerLine, ConnectionsLine}
 use Rattle.relay_conf.specs.RelayLines.{AllowLine}
-use Rattle.relay_conf.specs.RelayLines.{FeedLine}
+use Rattle.relay_conf.specs.RelayLines.{FeedLine, mapped}
 
 -- the own identity that a line says
 abbrev pub own_of : SaidLine → Option (List ℕ)
@@ -137,7 +137,7 @@ offers_of (Ok (ConnectionsLine name connections)) = None
 offers_of (Ok (AllowLine name ranges)) = None
 offers_of (Ok (FeedLine name ring expression)) = None
 
--- the address that a line says
+-- the address to listen on that a line says
 abbrev pub bind_of : SaidLine → Option (List ℕ)
 bind_of (Err fault) = None
 bind_of (Ok Skipped) = None
@@ -315,8 +315,8 @@ peer_fault peers name =
     else if is_peer peers name then Some Duplicate
     else None
 
--- one line more of a peer: at most one feed, and one number of connections, for each
--- (docs/FORMATS.md, Configuration)
+-- one more of what may stand once each: the name of a peer in lines of its feed, and in those of its
+-- connections, and an address to listen on (docs/FORMATS.md, Configuration)
 abbrev pub again_fault : (names : List (List ℕ)) → (name : List ℕ) → Option Fault
 again_fault names name = if list_any (bytes_eq name) names then Some Duplicate else None
 
@@ -332,7 +332,7 @@ line_fault stand (Ok (Remember seconds)) = once stand.remembers
 line_fault stand (Ok (Patience seconds)) = once stand.patiences
 line_fault stand (Ok (Sync seconds)) = once stand.syncs
 line_fault stand (Ok (Offers seconds)) = once stand.offers
-line_fault stand (Ok (Bind address)) = once stand.binds
+line_fault stand (Ok (Bind address)) = again_fault stand.binds address
 line_fault stand (Ok (PeerLine name identity port)) = peer_fault stand.peers name
 line_fault stand (Ok (ConnectionsLine name connections)) =
     again_fault (map (λ one. one.name) stand.connections) name
@@ -377,7 +377,7 @@ pub record RelaySettings : Type 0 where
   pub patience : ℕ
   pub sync : Option ℕ
   pub offers : Option ℕ
-  pub bind : List ℕ
+  pub binds : List (List ℕ)
   pub peers : List Peer
   pub feeds : List Feed
   pub allows : List Allow
@@ -399,9 +399,16 @@ connected all peer =
       connections = connections_for all peer.name;
     }
 
--- the address without `bind`, which stands for all of the machine (docs/FORMATS.md, Configuration)
+-- the address without `bind`, 0.0.0.0, which stands for all IPv4 addresses of the machine
+-- (docs/FORMATS.md, Configuration)
 abbrev pub each_address : List ℕ
-each_address = 0 ∷ 0 ∷ 0 ∷ 0 ∷ []
+each_address = mapped (0 ∷ 0 ∷ 0 ∷ 0 ∷ [])
+
+-- the addresses to listen on: those that lines say, in their order, else that without `bind`
+-- (docs/FORMATS.md, Configuration)
+abbrev pub binds_or_each : (said : List (List ℕ)) → List (List ℕ)
+binds_or_each [] = each_address ∷ []
+binds_or_each (first ∷ more) = first ∷ more
 
 -- the settings that lines without fault say (docs/FORMATS.md, Configuration)
 abbrev pub settings_of : List SaidLine → RelaySettings
@@ -414,7 +421,7 @@ settings_of said =
       patience = first_or 3600 (stand_of said).patiences;
       sync = first_of (stand_of said).syncs;
       offers = first_of (stand_of said).offers;
-      bind = first_or each_address (stand_of said).binds;
+      binds = binds_or_each (stand_of said).binds;
       peers = map (connected (stand_of said).connections) (stand_of said).peers;
       feeds = filter_map (feed_of (stand_of said).peers) said;
       allows = flat_map (allows_of (stand_of said).peers) said;

@@ -24,7 +24,7 @@ use Rattle.relay_conf.specs.Drafts.{ReadingGives}
 use Rattle.relay_conf.specs.RelayLines.{RelayLine, RawLine, SaidLine, RawSays, Skipped, Own}
 use Rattle.relay_conf.specs.RelayLines.{MaxArticle, Cutoff, Remember, Patience, Sync, Offers, Bind}
 use Rattle.relay_conf.specs.RelayLines.{PeerLine, ConnectionsLine, AllowLine, FeedLine}
-use Rattle.relay_conf.specs.Relay.{Stand, stand_of, connected, each_address, line_fault}
+use Rattle.relay_conf.specs.Relay.{Stand, stand_of, connected, binds_or_each, line_fault}
 use Rattle.relay_conf.specs.Relay.{peer_number, is_peer, allow_of, no_own_fault, RelaySettings}
 
 -- what lines so far say
@@ -36,7 +36,7 @@ pub record Reading : Type 0 where
   pub patience : Option ℕ
   pub sync : Option ℕ
   pub offers : Option ℕ
-  pub bind : Option (List ℕ)
+  pub binds : List (List ℕ)
   pub peers : List Peer
   pub connections : List PeerConnections
   pub named : List NamedLine
@@ -54,7 +54,7 @@ draft_view d =
       patience = d.patience;
       sync = d.sync;
       offers = d.offers;
-      bind = d.bind;
+      binds = d.binds.items;
       peers = d.peers.items;
       connections = d.connections.items;
       named = d.named.items;
@@ -73,7 +73,7 @@ nothing =
       patience = None;
       sync = None;
       offers = None;
-      bind = None;
+      binds = [];
       peers = [];
       connections = [];
       named = [];
@@ -96,7 +96,7 @@ stand_view r =
       patiences = option_to_list r.patience;
       syncs = option_to_list r.sync;
       offers = option_to_list r.offers;
-      binds = option_to_list r.bind;
+      binds = r.binds;
       peers = r.peers;
       connections = r.connections;
       feed_names = map (λ feed. feed.name) r.feeds;
@@ -116,7 +116,7 @@ after_line number r (Remember seconds) = record r { remember = Some seconds }
 after_line number r (Patience seconds) = record r { patience = Some seconds }
 after_line number r (Sync seconds) = record r { sync = Some seconds }
 after_line number r (Offers seconds) = record r { offers = Some seconds }
-after_line number r (Bind address) = record r { bind = Some address }
+after_line number r (Bind address) = record r { binds = r.binds ++ address ∷ [] }
 after_line number r (PeerLine name identity port) =
     record r {
       peers = r.peers
@@ -296,7 +296,7 @@ reading_settings r =
       patience = unwrap_or r.patience 3600;
       sync = r.sync;
       offers = r.offers;
-      bind = unwrap_or r.bind each_address;
+      binds = binds_or_each r.binds;
       peers = map (connected r.connections) r.peers;
       feeds = map (numbered_feed r.peers) r.feeds;
       allows = map (numbered_allow r.peers) r.allows;

@@ -1,7 +1,9 @@
 -- relay.conf: what its lines say, one by one.
-use Rattle.std.specs.Prelude.{◌≡◌, ℕ, ◌&&◌, nat_eq, nat_lt, List, [], ◌∷◌, length, codes, bytes_eq}
-use Rattle.std.specs.Prelude.{Option, None, Some, Result, Ok, Err, if◌then◌else◌}
-use Rattle.std.specs.List.{starts_with}
+use Rattle.std.specs.Prelude.{◌≡◌, ℕ, ◌+◌, ◌-◌, ◌==◌, Bool, ◌&&◌, nat_le, List, [], ◌∷◌, length}
+use Rattle.std.specs.Prelude.{slice_index, take, drop, codes, bytes_eq, Option, None, Some}
+use Rattle.std.specs.Prelude.{option_map, Result, Ok, Err, if◌then◌else◌}
+use Rattle.std.specs.Net.Addr.{octets_of}
+use Rattle.std.specs.Net.Reader.{read_ipv4, read_ipv6, whole_value}
 use Rattle.std.specs.Str.{byte}
 use Rattle.news_terms.specs.Article.{without_outer_white}
 use Rattle.news_terms.specs.Pattern.{Marked, ExpressionFault, IsExpressionText, HasLeftmostFault}
@@ -71,36 +73,42 @@ abbrev pub with_number : (ℕ → RelayLine (List ℕ)) → Result ℕ Fault →
 with_number line (Err fault) = Err fault
 with_number line (Ok number) = Ok (line number)
 
--- a part of an address: a number to 255, without a 0 in front of further digits (docs/FORMATS.md,
--- Configuration)
-abbrev pub octet_of : List ℕ → Option ℕ
-octet_of word =
-    if nat_lt 1 (length word) && starts_with nat_eq word (codes "0") then None
-    else number_within 0 255 word
+-- an IPv4 address as an IPv6 one, its IPv4-mapped address: ten octets 0, two of 255, and then its
+-- own four (RFC 4291 section 2.5.5.2)
+abbrev pub mapped : (octets : List ℕ) → List ℕ
+mapped octets = 0 ∷ 0 ∷ 0 ∷ 0 ∷ 0 ∷ 0 ∷ 0 ∷ 0 ∷ 0 ∷ 0 ∷ 255 ∷ 255 ∷ octets
 
--- an address of these parts (docs/FORMATS.md, Configuration)
-abbrev pub four_octets : (first second third fourth : Option ℕ) → Option (List ℕ)
-four_octets (Some first) (Some second) (Some third) (Some fourth) =
-    Some (first ∷ second ∷ third ∷ fourth ∷ [])
-four_octets (Some first) (Some second) (Some third) None = None
-four_octets (Some first) (Some second) None fourth = None
-four_octets (Some first) None third fourth = None
-four_octets None second third fourth = None
+-- the four octets of an IPv4 address, where the whole word is one: four decimal numbers to 255 with
+-- dots between them, none with a 0 in front of further digits (RFC 3986 section 3.2.2)
+abbrev pub ipv4_of : (word : List ℕ) → Option (List ℕ)
+ipv4_of word = whole_value (read_ipv4 word)
 
--- the address of a first part and three more (docs/FORMATS.md, Configuration)
-abbrev pub address_with : (first : List ℕ) → Option (List ℕ × List ℕ × List ℕ) → Option (List ℕ)
-address_with first None = None
-address_with first (Some more) =
-    four_octets (octet_of first) (octet_of more.0) (octet_of more.1) (octet_of more.2)
+-- the sixteen octets of an IPv6 address, where the whole word is one: eight groups of one to four
+-- hexadecimal digits with colons between them, of which `::` may stand once for groups of zeros, and
+-- the last two may be written as an IPv4 address (RFC 4291 section 2.2)
+abbrev pub ipv6_of : (word : List ℕ) → Option (List ℕ)
+ipv6_of word = option_map octets_of (whole_value (read_ipv6 word))
 
--- the address of these parts (docs/FORMATS.md, Configuration)
-abbrev pub address_of_parts : List (List ℕ) → Option (List ℕ)
-address_of_parts [] = None
-address_of_parts (first ∷ more) = address_with first (three_of more)
+-- the word begins with `[` and ends with `]`
+abbrev pub is_bracketed : (word : List ℕ) → Bool
+is_bracketed word =
+    nat_le 2 (length word) && slice_index word 0 == byte "["
+    && slice_index word (length word - 1) == byte "]"
 
--- an IPv4 address: four parts with dots between them (docs/FORMATS.md, Configuration)
-abbrev pub address_of : List ℕ → Option (List ℕ)
-address_of word = address_of_parts (parts (byte ".") word)
+-- what stands between the brackets of a word, and of a word without them all
+abbrev pub without_brackets : (word : List ℕ) → List ℕ
+without_brackets word =
+    if is_bracketed word then take (length word - 2) (drop 1 word) else word
+
+-- the octets of an IPv4 address mapped, where there is one, else those of an IPv6 address
+abbrev pub either_address : (four sixteen : Option (List ℕ)) → Option (List ℕ)
+either_address None sixteen = sixteen
+either_address (Some octets) sixteen = Some (mapped octets)
+
+-- an address, where the word is one, as the sixteen octets of an IPv6 address: an IPv4 address is
+-- its IPv4-mapped one; an IPv6 address may stand in brackets (docs/FORMATS.md, Configuration)
+abbrev pub address_of : (word : List ℕ) → Option (List ℕ)
+address_of word = either_address (ipv4_of word) (ipv6_of (without_brackets word))
 
 -- an address, where the word is one (docs/FORMATS.md, Configuration)
 abbrev pub address_or_fault : Option (List ℕ) → RawLine
@@ -143,12 +151,22 @@ ranged None bits = Err Syntax
 ranged (Some address) None = Err Number
 ranged (Some address) (Some bits) = Ok (record { address = address; bits = bits })
 
+-- how many of the 128 bits of an address count: behind an IPv4 address the 96 in front of it and 0
+-- to 32 of its own, else 0 to 128 (docs/FORMATS.md, Configuration)
+abbrev pub bits_behind : (four : Option (List ℕ)) → (bits : List ℕ) → Option ℕ
+bits_behind None bits = number_within 0 128 bits
+bits_behind (Some octets) bits = option_map (λ n. 96 + n) (number_within 0 32 bits)
+
+-- the same by the word of the address (docs/FORMATS.md, Configuration)
+abbrev pub bits_of : (address bits : List ℕ) → Option ℕ
+bits_of address bits = bits_behind (ipv4_of address) bits
+
 -- the range of the parts between slashes: an address, and how many of its bits count, without a
--- number all 32 (docs/FORMATS.md, Configuration)
+-- number all 128 (docs/FORMATS.md, Configuration)
 abbrev pub range_of_parts : List (List ℕ) → Result Range Fault
 range_of_parts [] = Err Syntax
-range_of_parts (address ∷ []) = ranged (address_of address) (Some 32)
-range_of_parts (address ∷ bits ∷ []) = ranged (address_of address) (number_within 0 32 bits)
+range_of_parts (address ∷ []) = ranged (address_of address) (Some 128)
+range_of_parts (address ∷ bits ∷ []) = ranged (address_of address) (bits_of address bits)
 range_of_parts (address ∷ bits ∷ other ∷ more) = Err Syntax
 
 -- the range that a word is, or its fault (docs/FORMATS.md, Configuration)

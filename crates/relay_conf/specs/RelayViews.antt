@@ -1,7 +1,6 @@
 -- Lines of relay.conf that were read, as the definitions have them.
 use Rattle.std.specs.Prelude.{ℕ, List, filter_map, Result, Ok, Err}
 use Rattle.std.specs.Result.{result_ok}
-use Rattle.std.specs.Net.Addr.{ipv4_octets}
 use Rattle.relay_conf.specs.declared.faults.Fault.{Fault}
 use Rattle.relay_conf.specs.declared.relay_lines.Line.{Line}
 use Rattle.relay_conf.specs.declared.relay_lines.Line.TheVariants as lines
@@ -63,7 +62,7 @@ relay_view relay =
       patience = relay.patience;
       sync = relay.sync;
       offers = relay.offers;
-      bind = ipv4_octets relay.bind;
+      binds = relay.binds.items;
       peers = relay.peers.items;
       feeds = relay.feeds.items;
       allows = relay.allows.items;

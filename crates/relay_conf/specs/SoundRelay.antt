@@ -1,5 +1,5 @@
 -- What holds of the settings of relay.conf, whatever it says (docs/FORMATS.md, Configuration).
-use Rattle.std.specs.Prelude.{◌≡◌, ℕ, ◌≤◌, ◌<◌, length, All, slice_get, Some, IsTrue}
+use Rattle.std.specs.Prelude.{◌≡◌, ℕ, ◌≤◌, ◌<◌, List, length, All, slice_get, Some, IsTrue}
 use Rattle.std.specs.Option.{ForSome}
 use Rattle.news_terms.specs.Path.{is_agent}
 use Rattle.relay_conf.specs.declared.relay.Feed.{Feed}
@@ -19,8 +19,12 @@ pub record IsSoundRelay (settings : RelaySettings) : Type 0 where
   pub of_peers : All (λ feed. feed.peer < length settings.peers) settings.feeds
   pub own_feed : (i j : ℕ) (a b : Feed) → slice_get settings.feeds i ≡ Some a
       → slice_get settings.feeds j ≡ Some b → a.peer ≡ b.peer → i ≡ j
-  -- a range of addresses counts 0 to 32 bits, and is of one of the peers
-  pub bits : All (λ allow. allow.range.bits ≤ 32) settings.allows
+  -- there is an address to listen on, and none stands twice
+  pub some_binds : 1 ≤ length settings.binds
+  pub apart_binds : (i j : ℕ) (address : List ℕ) → slice_get settings.binds i ≡ Some address
+      → slice_get settings.binds j ≡ Some address → i ≡ j
+  -- a range of addresses counts 0 to 128 bits, and is of one of the peers
+  pub bits : All (λ allow. allow.range.bits ≤ 128) settings.allows
   pub allows_of_peers : All (λ allow. allow.peer < length settings.peers) settings.allows
   -- the limits are in their ranges
   pub some_octets : 1 ≤ settings.max_article

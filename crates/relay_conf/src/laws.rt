@@ -144,12 +144,12 @@ pub fn who_connects_in_an_example()
     ensures everywhere { (reaches 2 192 0 2 6 ≡ true) × (reaches 2 0 0 0 0 ≡ true) }
 {}
 
-/// A range of no bits has each address, and one of 32 only its own.
+/// A range of no bits has each address, and one of 128 only its own.
 pub fn ranges_of_no_bit_and_of_all()
     ensures all { (range : Range) (address : List ℕ) → IsAddress address → IsAddress range.address
         → range.bits ≡ 0 → has_address range address ≡ true }
     ensures one { (range : Range) (address : List ℕ) → IsAddress address → IsAddress range.address
-        → range.bits ≡ 32 → has_address range address ≡ true → address ≡ range.address }
+        → range.bits ≡ 128 → has_address range address ≡ true → address ≡ range.address }
 {}
 
 /// What is said of other peers doesn't count, further ranges of a peer add up, and a peer of which

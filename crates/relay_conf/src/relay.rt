@@ -1,8 +1,10 @@
 //! relay.conf: the relay itself, its peers and their feeds (docs/FORMATS.md, Configuration).
-ghost use Rattle.std.specs.Prelude.{◌≡◌, ◌≤◌, ◌∷◌, ◌++◌, [], length, Ok, OnOk};
+ghost use Rattle.std.specs.Prelude.{◌≡◌, ◌≤◌, ◌∷◌, ◌++◌, [], length, bytes_eq, Ok, IfOk, OnOk};
+ghost use Rattle.std.specs.List.{list_any};
 ghost use Rattle.relay_conf.specs.Faults.{ConfGives, LineGives};
 ghost use Rattle.relay_conf.specs.Lines.{lines_of};
-ghost use Rattle.relay_conf.specs.Relay.{RelaySettings, peer_fault};
+ghost use Rattle.relay_conf.specs.Relay.{RelaySettings, again_fault, peer_fault};
+ghost use Rattle.relay_conf.specs.Relay as terms;
 ghost use Rattle.relay_conf.specs.RelayDraft.{AddsAllow, AddsConnections, AddsFeed, AddsLine};
 ghost use Rattle.relay_conf.specs.RelayDraft.{Lists, nothing};
 ghost use Rattle.relay_conf.specs.RelayDraft.{draft_view, draft_said, with_peers};
@@ -20,7 +22,6 @@ use crate::settings::Relay;
 use line_words::Octets;
 use std::alloc::{AllocError, Global};
 use std::collections::HashSet;
-use std::net::Ipv4Addr;
 use uwild::Expr;
 
 /// A peer: its name, its identity, its port, where 0 is not served, and how many of its connections
@@ -58,8 +59,8 @@ const CUTOFF: u64 = 864_000;
 /// The seconds without `patience`.
 const PATIENCE: u32 = 3_600;
 
-/// The address without `bind`: all of the machine.
-const EACH_ADDRESS: [u8; 4] = [0; 4];
+/// The address without `bind`: 0.0.0.0, all IPv4 addresses of the machine.
+const EACH_ADDRESS: [u8; 16] = [0, 0, 0, 0, 0, 0, 0, 0, 0, 0, 255, 255, 0, 0, 0, 0];
 
 /// Reads the text of relay.conf.
 pub fn read_relay(alloc: Global, text: &[u8]) -> Result<Relay, ConfError>
@@ -79,7 +80,7 @@ pub(crate) struct RelayDraft {
     patience: Option<u32>,
     sync: Option<u64>,
     offers: Option<u64>,
-    bind: Option<[u8; 4]>,
+    binds: Vec<[u8; 16]>,
     peers: Vec<Peer>,
     connections: Vec<PeerConnections>,
     feeds: Vec<NamedFeed>,
@@ -149,7 +150,7 @@ impl RelayDraft {
             patience: None,
             sync: None,
             offers: None,
-            bind: None,
+            binds: Vec::new(alloc),
             peers: Vec::new(alloc),
             connections: Vec::new(alloc),
             feeds: Vec::new(alloc),
@@ -174,7 +175,7 @@ impl RelayDraft {
             Line::Patience(seconds) => set_once(&mut self.patience, seconds),
             Line::Sync(seconds) => set_once(&mut self.sync, seconds),
             Line::Offers(seconds) => set_once(&mut self.offers, seconds),
-            Line::Bind(address) => set_once(&mut self.bind, address),
+            Line::Bind(address) => add_bind(&mut self.binds, address),
             Line::Peer(name, identity, port) => self.add_peer(alloc, name, identity, port),
             Line::Connections(name, connections) => {
                 self.add_connections(alloc, number, name, connections)
@@ -267,6 +268,36 @@ impl RelayDraft {
     }
 }
 
+/// Adds an address to listen on; a second time it is Duplicate.
+fn add_bind(binds: &mut Vec<[u8; 16]>, address: [u8; 16]) -> Result<(), Refusal>
+    ensures fault { LineGives result (again_fault binds.old.items address) }
+    ensures kept { OnOk result (binds.new.items ≡ binds.old.items ++ address ∷ []) }
+{
+    if has_bind(binds, address) {
+        return Err(Refusal::Faulty(Fault::Duplicate));
+    }
+    binds.push(address)?;
+    Ok(())
+}
+
+/// Whether the address is one of these.
+fn has_bind(binds: &[[u8; 16]], address: [u8; 16]) -> bool
+    ensures { result ≡ list_any (bytes_eq address) binds.now }
+{
+    binds.iter().any(|bind| *bind == address)
+}
+
+/// The addresses that lines say, or the one without `bind`.
+fn binds_or_each(said: Vec<[u8; 16]>) -> Result<Vec<[u8; 16]>, AllocError>
+    ensures { IfOk result (λ binds. binds.items ≡ terms.binds_or_each said.items) }
+{
+    let mut binds = said;
+    if binds.is_empty() {
+        binds.push(EACH_ADDRESS)?;
+    }
+    Ok(binds)
+}
+
 /// Keeps a peer, one of whose connections is served at once.
 fn push_peer(
     alloc: Global,
@@ -354,7 +385,7 @@ fn finished(alloc: Global, draft: RelayDraft) -> Result<Relay, ConfError>
         patience,
         sync,
         offers,
-        bind,
+        binds,
         mut peers,
         connections,
         feeds,
@@ -375,6 +406,7 @@ fn finished(alloc: Global, draft: RelayDraft) -> Result<Relay, ConfError>
     drop(named);
     let feeds = numbered(alloc, &peers, feeds)?;
     let allows = numbered_allows(alloc, &peers, allows)?;
+    let binds = binds_or_each(binds)?;
     connect(&mut peers, &connections);
     Ok(Relay {
         own,
@@ -384,7 +416,7 @@ fn finished(alloc: Global, draft: RelayDraft) -> Result<Relay, ConfError>
         patience: patience.unwrap_or(PATIENCE),
         sync,
         offers,
-        bind: Ipv4Addr::from_octets(bind.unwrap_or(EACH_ADDRESS)),
+        binds,
         peers,
         feeds,
         allows,

@@ -9,7 +9,8 @@ use crate::faults::Fault;
 use crate::names::name_of;
 use crate::reach::range_fault;
 use crate::words::{first_word, is_identity, is_name, one_word, three_words, two_words};
-use line_words::{cut, is, is_skipped, number_within, three_parts, trim};
+use line_words::{is, is_skipped, number_within, trim};
+use std::net::{Ipv4Addr, Ipv6Addr};
 
 /// What a line says, without fault.
 #[derive(Clone, Copy)]
@@ -30,8 +31,8 @@ pub(crate) enum Line<'a> {
     Sync(u64),
     /// The seconds after which an offer runs out.
     Offers(u64),
-    /// The address on which ports listen.
-    Bind([u8; 4]),
+    /// An address on which ports listen.
+    Bind([u8; 16]),
     /// A peer: its name, its identity and its port.
     Peer(&'a [u8], &'a [u8], u16),
     /// The name of a peer and how many of its connections are served at once.
@@ -153,34 +154,55 @@ fn bind_line(rest: &[u8]) -> Result<Line<'_>, Fault>
     }
 }
 
-/// The octets of an IPv4 address, where the word is one.
-pub(crate) fn address_of(word: &[u8]) -> Option<[u8; 4]>
+/// The octets of an address, where the word is one: an IPv4 address is its IPv4-mapped one, and an
+/// IPv6 address may stand in brackets.
+pub(crate) fn address_of(word: &[u8]) -> Option<[u8; 16]>
     ensures { result ≡ terms.address_of word.now }
 {
-    let (first, rest) = cut(word, b'.');
-    let (second, third, fourth) = three_parts(rest, b'.')?;
-    match (
-        octet_of(first),
-        octet_of(second),
-        octet_of(third),
-        octet_of(fourth),
-    ) {
-        (Some(first), Some(second), Some(third), Some(fourth)) => {
-            Some([first, second, third, fourth])
-        }
-        _ => None,
+    match ipv4_of(word) {
+        Some(octets) => Some(mapped(octets)),
+        None => ipv6_of(without_brackets(word)),
     }
 }
 
-/// The number of a part of an address: to 255, and without a 0 in front of further digits.
-fn octet_of(word: &[u8]) -> Option<u8>
-    ensures { result ≡ terms.octet_of word.now }
+/// The octets of an IPv4 address, where the word is one.
+pub(crate) fn ipv4_of(word: &[u8]) -> Option<[u8; 4]>
+    ensures { result ≡ terms.ipv4_of word.now }
 {
-    if word.len() > 1 && word.starts_with(b"0") {
-        return None;
+    match Ipv4Addr::parse_ascii(word) {
+        Ok(address) => Some(address.octets()),
+        Err(_) => None,
     }
-    let number = number_within(0, 255, word)?;
-    Some(number as u8)
+}
+
+/// The octets of an IPv6 address, where the word is one.
+fn ipv6_of(word: &[u8]) -> Option<[u8; 16]>
+    ensures { result ≡ terms.ipv6_of word.now }
+{
+    match Ipv6Addr::parse_ascii(word) {
+        Ok(address) => Some(address.octets()),
+        Err(_) => None,
+    }
+}
+
+/// The octets of the IPv4-mapped address of these four.
+fn mapped(octets: [u8; 4]) -> [u8; 16]
+    ensures { result ≡ terms.mapped octets }
+{
+    let [first, second, third, fourth] = octets;
+    [
+        0, 0, 0, 0, 0, 0, 0, 0, 0, 0, 255, 255, first, second, third, fourth,
+    ]
+}
+
+/// What stands between the brackets of a word, or all of it.
+fn without_brackets(word: &[u8]) -> &[u8]
+    ensures { result.now ≡ terms.without_brackets word.now }
+{
+    match word {
+        [b'[', inner @ .., b']'] => inner,
+        _ => word,
+    }
 }
 
 /// Reads what follows `peer`.

@@ -1,7 +1,6 @@
 //! The settings of the configuration's files, with what holds of each value of them
 //! (docs/FORMATS.md, Configuration).
 ghost use Rattle.std.specs.Prelude.{◌≤◌, ◌<◌, ◌^◌, All, length, map};
-ghost use Rattle.std.specs.Net.Addr.{ipv4_octets};
 ghost use Rattle.std.proofs.Props.{props};
 ghost use Rattle.news_terms.specs.Settings.{AreSound};
 ghost use Rattle.news_terms.proofs.OneSoundness.{AreSound-prop};
@@ -12,7 +11,6 @@ use crate::cycbuff::{BufferConf, GroupConf};
 use crate::reach::Allow;
 use crate::relay::{Feed, Peer};
 use line_words::Octets;
-use std::net::Ipv4Addr;
 use uwild::Expr;
 
 /// The settings of cycbuff.conf. Buffers and groups are numbered from 0, each in the order of their
@@ -80,8 +78,9 @@ pub struct Relay {
     pub sync: Option<u64>,
     /// The seconds after which an offer runs out; without it none does.
     pub offers: Option<u64>,
-    /// The address of the machine on which ports listen; 0.0.0.0 stands for all.
-    pub bind: Ipv4Addr,
+    /// The addresses of the machine on which ports listen, at least one, in the order of their lines.
+    /// An IPv4 address is its IPv4-mapped one; 0.0.0.0 stands for all of IPv4, and :: for all of IPv6.
+    pub binds: Vec<[u8; 16]>,
     pub peers: Vec<Peer>,
     pub feeds: Vec<Feed>,
     /// The addresses that may connect to the peers; each may to a peer without one.
@@ -94,7 +93,7 @@ pub struct Relay {
       patience = patience;
       sync = sync;
       offers = offers;
-      bind = ipv4_octets bind;
+      binds = binds.items;
       peers = peers.items;
       feeds = feeds.items;
       allows = allows.items;
@@ -112,7 +111,7 @@ impl Drop for Relay {
             patience: _,
             sync: _,
             offers: _,
-            bind: _,
+            binds: _,
             peers: _,
             feeds: _,
             allows: _,
