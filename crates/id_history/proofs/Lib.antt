@@ -1,5 +1,5 @@
 mod Appends
-mod ClaimLemmas
+pub mod ClaimLemmas
 pub mod CountLaws
 mod CountLemmas
 mod EachLemmas

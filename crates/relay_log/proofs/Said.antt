@@ -13,7 +13,7 @@ use Rattle.relay_log.specs.Folding.{nothing}
 -- what is known of an id, or else this
 abbrev pub or_else : Claim → Claim → Claim
 or_else Unknown other = other
-or_else (Offered session since) other = Offered session
+or_else (Offered session since) other = Offered session since
 or_else (Storing session article stage) other = Storing session article stage
 or_else (Stored token moment) other = Stored token moment
 or_else (Refused moment) other = Refused moment
