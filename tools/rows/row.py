@@ -482,13 +482,15 @@ class Row:
             self.clients[name].closes()
         self.clients[name] = Client(connected, self.given.patience)
 
-    def miss(self, port):
-        """Nothing listens at this port of 127.0.0.1."""
+    def miss(self, where):
+        """Nothing listens at this port of 127.0.0.1, or, by PORT@ADDRESS, of another address."""
+        named, _, address = where.partition("@")
+        address = address or "127.0.0.1"
         try:
-            socket.create_connection(("127.0.0.1", self.port(port)), self.given.patience).close()
+            socket.create_connection((address, self.port(named)), self.given.patience).close()
         except ConnectionRefusedError:
             return
-        raise Wrong(f"something listens at {port} of 127.0.0.1")
+        raise Wrong(f"something listens at {named} of {address}")
 
     def try_port(self, name, port, program):
         """A client connects with a port as soon as that listens, unless this program has ended."""
