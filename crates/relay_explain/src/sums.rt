@@ -121,7 +121,8 @@ fn descriptors_of(config: &Config) -> u128
     let openings = openings_of(config.relay.sync, config.buffers.buffers.len());
     let connections = connections_of(&config.relay.peers);
     let ports = ports_of(&config.relay.peers);
-    openings + connections * 3 + ports + 6
+    let addresses = config.relay.binds.len() as u128;
+    openings + connections * (addresses + 2) + ports * addresses + 6
 }
 
 /// The descriptors of so many files of buffers.
