@@ -119,8 +119,9 @@ class Ports(Numbers):
 
 
 def listening():
-    """The ports of IPv4 at which programs of this machine listen."""
-    lines = Path("/proc/net/tcp").read_text().splitlines()[1:]
+    """The ports at which programs of this machine listen, by IPv4 or by IPv6."""
+    files = [Path("/proc/net/tcp"), Path("/proc/net/tcp6")]
+    lines = [it for file in files if file.exists() for it in file.read_text().splitlines()[1:]]
     words = [line.split() for line in lines]
     return {int(it[1].rsplit(":", 1)[1], 16) for it in words if it[3] == "0A"}
 

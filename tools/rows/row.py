@@ -151,8 +151,8 @@ class Row:
                 return words[: 2 if words[0] in ("peer", "feed", "connections") else 1]
 
             at = [key(it) for it in self.conf[name]]
-            # Lines of one peer that say who may connect add up.
-            if key(line) in at and key(line) != ["allow"]:
+            # Lines that say who may connect, and where ports listen, add up.
+            if key(line) in at and key(line) not in (["allow"], ["bind"]):
                 self.conf[name][at.index(key(line))] = line
                 return
         elif name not in self.set_before:
