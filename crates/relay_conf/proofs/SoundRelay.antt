@@ -25,7 +25,8 @@ use Rattle.relay_conf.specs.Relay.{feed_name_of, feed_of, allow_of, allows_of, p
 use Rattle.relay_conf.specs.Relay.{name_in, unknown_fault}
 use Rattle.relay_conf.specs.Relay.{line_fault, stand_of, early_fault, late_fault, no_own_fault}
 use Rattle.relay_conf.specs.Relay.{settings_of, RelaySettings, Stand, again_fault, connected}
-use Rattle.relay_conf.specs.Relay.{binds_or_each, connections_for, first_or, first_of}
+use Rattle.relay_conf.specs.Relay.{binds_or_each, connections_for, each_address, first_or}
+use Rattle.relay_conf.specs.Relay.{first_of}
 use Rattle.relay_conf.specs.RelayViews.{HasSettings}
 use Rattle.relay_conf.specs.SoundRelay.{IsSoundRelay}
 use Rattle.relay_conf.proofs.FaultlessLines.{all_option, behind_trials, given_keeps}
@@ -180,10 +181,13 @@ some_bind [] = omega arith
 some_bind (first ∷ more) = omega arith
 
 -- and where none stands twice, none does with that which stands without a line.
+one_apart : (bind : List ℕ) → Apart (bind ∷ [])
+one_apart bind zero zero x at other = refl
+one_apart bind zero (suc j) x at other = cc
+one_apart bind (suc i) j x at other = cc
+
 each_apart : (binds : List (List ℕ)) → Apart binds → Apart (binds_or_each binds)
-each_apart [] apart zero zero x at other = refl
-each_apart [] apart zero (suc j) x at other = cc
-each_apart [] apart (suc i) j x at other = cc
+each_apart [] apart = one_apart each_address
 each_apart (first ∷ more) apart = apart
 
 first_own : (owns : List (List ℕ)) → no_own_fault owns ≡ None

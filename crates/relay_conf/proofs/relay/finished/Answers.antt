@@ -1,5 +1,5 @@
 use Rattle.std.proofs.Common.{◌≡◌, ◌∙◌, ℕ, List, map, Some, Ok, ap, sym, arith, length}
-use Rattle.std.proofs.lemmas.List.{length-map}
+use Rattle.std.proofs.lemmas.List.{length-map, take_at}
 use Rattle.relay_conf.specs.declared.relay.NamedLine.{NamedLine}
 use Rattle.relay_conf.specs.declared.relay.Peer.{Peer}
 use Rattle.relay_conf.specs.declared.relay.PeerConnections.{PeerConnections}
@@ -75,6 +75,7 @@ invariant_of-result c =
         c.unwrap_or-2.ensures,
         c.unwrap_or-3.ensures,
         c.in_ok-binds.ensures,
+        take_at,
         peers c,
         feeds c,
         allows c,
@@ -90,6 +91,7 @@ returns c =
       made.unwrap_or-2.ensures,
       made.unwrap_or-3.ensures,
       made.in_ok-binds.ensures,
+      take_at,
       peers made,
       feeds made,
       allows made,
