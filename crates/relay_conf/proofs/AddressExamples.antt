@@ -1,6 +1,6 @@
 -- Addresses to listen on, and who may connect, in examples.
-use Rattle.std.proofs.Common.{List, [], ◌∷◌, Ok, refl}
-use Rattle.std.specs.Prelude.{ℕ, codes}
+use Rattle.std.proofs.Common.{[], ◌∷◌, Ok, refl}
+use Rattle.std.specs.Prelude.{codes}
 use Rattle.std.specs.Net.Addr.{octets_of}
 use Rattle.std.specs.Net.Reader.{read_ipv4, read_ipv6, read_number, read_octet, read_segment}
 use Rattle.std.specs.Net.Reader.{read_segments}

@@ -4,7 +4,6 @@ use Rattle.std.proofs.Common.{Err, sym, subst, arith}
 use Rattle.std.specs.Prelude.{◌&&◌, filter_map, flat_map, codes, bytes_eq, option_map, IsTrue}
 use Rattle.std.proofs.lemmas.Bool.{and_parts, cond_both}
 use Rattle.std.proofs.lemmas.List.Elements.{All-cons, All-map, All-nil}
-use Rattle.line_words.specs.Numbers.{number_within}
 use Rattle.line_words.specs.Parts.{parts}
 use Rattle.news_terms.specs.Article.{without_outer_white}
 use Rattle.news_terms.specs.Path.{is_agent}
