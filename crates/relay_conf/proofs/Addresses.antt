@@ -1,7 +1,7 @@
 -- Addresses in lines of relay.conf.
-use Rattle.std.proofs.Common.{◌≡◌, ◌≢◌, ℕ, ◌+◌, ◌-◌, ◌<◌, ◌^◌, Bool, true, List, [], ◌∷◌, ◌++◌, length}
-use Rattle.std.proofs.Common.{Option, None, Some, refl, ap, ap₂, ◌∙◌, sym, subst, append-nil, ne_eqb}
-use Rattle.std.proofs.Common.{get_or, take, lit≤, arith}
+use Rattle.std.proofs.Common.{◌≡◌, ◌≢◌, ℕ, ◌+◌, ◌-◌, ◌<◌, ◌^◌, Bool, true, List, [], ◌∷◌, ◌++◌}
+use Rattle.std.proofs.Common.{length, get_or, take, Option, None, Some, refl, ap, ap₂, ◌∙◌, sym}
+use Rattle.std.proofs.Common.{subst, append-nil, ne_eqb, lit≤, arith}
 use Rattle.std.specs.Prelude.{◌==◌, ◌&&◌, nat_le, option_map, slice_index, codes}
 use Rattle.std.specs.Prelude.{if◌then◌else◌}
 use Rattle.std.specs.Net.Addr.{octets_of}

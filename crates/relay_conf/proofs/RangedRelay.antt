@@ -1,6 +1,6 @@
 -- What lines of relay.conf say is as it may be configured: identities, and numbers in their ranges.
-use Rattle.std.proofs.Common.{◌≡◌, ℕ, ◌+◌, ◌≤◌, true, List, [], ◌∷◌, All, Option, None, Some, Result, Ok}
-use Rattle.std.proofs.Common.{Err, sym, subst, arith}
+use Rattle.std.proofs.Common.{◌≡◌, ℕ, ◌+◌, ◌≤◌, true, List, [], ◌∷◌, All, Option, None, Some}
+use Rattle.std.proofs.Common.{Result, Ok, Err, sym, subst, arith}
 use Rattle.std.specs.Prelude.{◌&&◌, filter_map, flat_map, codes, bytes_eq, option_map, IsTrue}
 use Rattle.std.proofs.lemmas.Bool.{and_parts, cond_both}
 use Rattle.std.proofs.lemmas.List.Elements.{All-cons, All-map, All-nil}

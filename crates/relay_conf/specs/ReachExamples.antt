@@ -23,8 +23,8 @@ ipv4_range a b c d bits = record { address = mapped (a ∷ b ∷ c ∷ d ∷ [])
 abbrev pub unserved : (name identity : List ℕ) → Peer
 unserved name identity = record { name = name; identity = identity; port = 0; connections = 1 }
 
--- the settings of the relay `a` with these addresses to listen on, peers and ranges, and without any
--- other line
+-- the settings of the relay `a` with these addresses to listen on, peers and ranges, and without
+-- any other line
 abbrev pub settings_with : (binds : List (List ℕ)) → List Peer → List Allow → RelaySettings
 settings_with binds peers allows =
     record {
