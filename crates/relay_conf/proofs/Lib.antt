@@ -1,3 +1,5 @@
+pub mod AddressExamples
+pub mod Addresses
 pub mod BuiltIn
 pub mod CycbuffReadings
 pub mod FaultlessLines

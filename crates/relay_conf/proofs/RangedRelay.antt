@@ -1,10 +1,9 @@
 -- What lines of relay.conf say is as it may be configured: identities, and numbers in their ranges.
-use Rattle.std.proofs.Common.{◌≡◌, ℕ, ◌≤◌, true, List, [], ◌∷◌, All, Option, None, Some, Result, Ok}
-use Rattle.std.proofs.Common.{Err, sym, subst, arith}
-use Rattle.std.specs.Prelude.{◌&&◌, filter_map, flat_map, codes, bytes_eq, IsTrue}
+use Rattle.std.proofs.Common.{◌≡◌, ℕ, ◌+◌, ◌≤◌, true, List, [], ◌∷◌, All, Option, None, Some}
+use Rattle.std.proofs.Common.{Result, Ok, Err, sym, subst, arith}
+use Rattle.std.specs.Prelude.{◌&&◌, filter_map, flat_map, codes, bytes_eq, option_map, IsTrue}
 use Rattle.std.proofs.lemmas.Bool.{and_parts, cond_both}
 use Rattle.std.proofs.lemmas.List.Elements.{All-cons, All-map, All-nil}
-use Rattle.line_words.specs.Numbers.{number_within}
 use Rattle.line_words.specs.Parts.{parts}
 use Rattle.news_terms.specs.Article.{without_outer_white}
 use Rattle.news_terms.specs.Path.{is_agent}
@@ -24,7 +23,8 @@ use Rattle.relay_conf.specs.RelayLines.{RawSays, LineSays, own_line, number_line
 use Rattle.relay_conf.specs.RelayLines.{with_number, bind_line, peer_ported, peer_line}
 use Rattle.relay_conf.specs.RelayLines.{connections_numbered, connections_line, allow_line}
 use Rattle.relay_conf.specs.RelayLines.{allow_ranged}
-use Rattle.relay_conf.specs.RelayLines.{AllowLine, address_of, feed_ringed, range_and_more}
+use Rattle.relay_conf.specs.RelayLines.{AllowLine, address_of, bits_behind, feed_ringed, ipv4_of}
+use Rattle.relay_conf.specs.RelayLines.{range_and_more}
 use Rattle.relay_conf.specs.RelayLines.{range_of, range_of_parts, ranged, ranges_of}
 use Rattle.relay_conf.specs.RelayLines.{feed_line, relay_words, relay_line}
 use Rattle.relay_conf.specs.Relay.{own_of, max_article_of, cutoff_of, remember_of, patience_of}
@@ -45,7 +45,7 @@ IsRanged (Ok (Sync seconds)) = (1 ≤ seconds) × (seconds ≤ 86400)
 IsRanged (Ok (Offers seconds)) = (1 ≤ seconds) × (seconds ≤ 86400)
 IsRanged (Ok (PeerLine name identity port)) = is_identity identity ≡ true
 IsRanged (Ok (ConnectionsLine name connections)) = (1 ≤ connections) × (connections ≤ 64)
-IsRanged (Ok (AllowLine name ranges)) = All (λ range. range.bits ≤ 32) ranges
+IsRanged (Ok (AllowLine name ranges)) = All (λ range. range.bits ≤ 128) ranges
 IsRanged (Ok (FeedLine name ring expression)) = (1 ≤ ring) × (ring ≤ 65536)
 IsRanged said = Unit {0}
 
@@ -78,30 +78,33 @@ of_connections (Some two) =
     (λ e. within_range IsRanged (connections_numbered two.0) 1 64 two.1 tt
     (λ n least most. (least, most))) (λ e. tt)
 
--- a range counts 0 to 32 bits
+-- a range counts 0 to 128 bits
 abbrev HasBits : Result Range Fault → Type 0
 HasBits (Err fault) = Unit {0}
-HasBits (Ok range) = range.bits ≤ 32
+HasBits (Ok range) = range.bits ≤ 128
 
 -- each of them does
 abbrev HaveBits : Result (List Range) Fault → Type 0
 HaveBits (Err fault) = Unit {0}
-HaveBits (Ok ranges) = All (λ (range : Range). range.bits ≤ 32) ranges
+HaveBits (Ok ranges) = All (λ (range : Range). range.bits ≤ 128) ranges
 
-of_whole : (address : Option (List ℕ)) → HasBits (ranged address (Some 32))
+of_whole : (address : Option (List ℕ)) → HasBits (ranged address (Some 128))
 of_whole None = tt
 of_whole (Some address) = omega arith
 
-of_bits : (address : Option (List ℕ)) (bits : List ℕ)
-    → HasBits (ranged address (number_within 0 32 bits))
-of_bits None bits = tt
-of_bits (Some address) bits =
-    within_range HasBits (ranged (Some address)) 0 32 bits tt (λ n least most. most)
+of_bits : (address four : Option (List ℕ)) (bits : List ℕ)
+    → HasBits (ranged address (bits_behind four bits))
+of_bits None four bits = tt
+of_bits (Some address) None bits =
+    within_range HasBits (ranged (Some address)) 0 128 bits tt (λ n least most. most)
+of_bits (Some address) (Some octets) bits =
+    within_range HasBits (λ (o : Option ℕ). ranged (Some address) (option_map (λ n. 96 + n) o)) 0 32
+    bits tt (λ n least most. omega (arith, most))
 
 of_range : (parts : List (List ℕ)) → HasBits (range_of_parts parts)
 of_range [] = tt
 of_range (address ∷ []) = of_whole (address_of address)
-of_range (address ∷ bits ∷ []) = of_bits (address_of address) bits
+of_range (address ∷ bits ∷ []) = of_bits (address_of address) (ipv4_of address) bits
 of_range (address ∷ bits ∷ other ∷ more) = tt
 
 of_one_more : (one : Result Range Fault) (more : Result (List Range) Fault) → HasBits one
@@ -109,10 +112,10 @@ of_one_more : (one : Result Range Fault) (more : Result (List Range) Fault) → 
 of_one_more (Err fault) more h k = tt
 of_one_more (Ok range) (Err fault) h k = tt
 of_one_more (Ok range) (Ok ranges) h k =
-    All-cons (λ (range : Range). range.bits ≤ 32) range ranges h k
+    All-cons (λ (range : Range). range.bits ≤ 128) range ranges h k
 
 of_ranges : (words : List (List ℕ)) → HaveBits (ranges_of words)
-of_ranges [] = All-nil (λ (range : Range). range.bits ≤ 32)
+of_ranges [] = All-nil (λ (range : Range). range.bits ≤ 128)
 of_ranges (word ∷ more) =
     of_one_more (range_of word) (ranges_of more) (of_range (parts 47 word)) (of_ranges more)
 
@@ -188,7 +191,7 @@ pub record AreRanged (said : List SaidLine) : Type 0 where
       (filter_map connections_of said)
   pub rings : (peers : List Peer) → All (λ (feed : Feed). (1 ≤ feed.ring) × (feed.ring ≤ 65536))
       (filter_map (feed_of peers) said)
-  pub bits : (peers : List Peer) → All (λ (allow : Allow). allow.range.bits ≤ 32)
+  pub bits : (peers : List Peer) → All (λ (allow : Allow). allow.range.bits ≤ 128)
       (flat_map (allows_of peers) said)
 
 -- What lines say is so.
@@ -221,11 +224,11 @@ are_ranged lines said h =
       rings = λ peers. all_given IsRanged
           (λ (feed : Feed). (1 ≤ feed.ring) × (feed.ring ≤ 65536)) (feed_of peers)
           (elim [ Ok (FeedLine name n expression) ↦ λ is. is | one ↦ λ is. tt ]) said all;
-      bits = λ peers. all_listed IsRanged (λ (allow : Allow). allow.range.bits ≤ 32)
+      bits = λ peers. all_listed IsRanged (λ (allow : Allow). allow.range.bits ≤ 128)
           (allows_of peers)
           (elim [
             | Ok (AllowLine name ranges) ↦ λ is.
-                All-map (λ (allow : Allow). allow.range.bits ≤ 32) (allow_of peers name) ranges is
-            | one ↦ λ is. All-nil (λ (allow : Allow). allow.range.bits ≤ 32)
+                All-map (λ (allow : Allow). allow.range.bits ≤ 128) (allow_of peers name) ranges is
+            | one ↦ λ is. All-nil (λ (allow : Allow). allow.range.bits ≤ 128)
           ]) said all;
     }

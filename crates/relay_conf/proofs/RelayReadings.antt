@@ -33,7 +33,7 @@ use Rattle.relay_conf.specs.Relay.{connections_of}
 use Rattle.relay_conf.specs.Relay.{feed_name_of, feed_of, allows_of, line_fault, early_fault}
 use Rattle.relay_conf.specs.Relay.{late_fault}
 use Rattle.relay_conf.specs.Relay.{unknown_fault, again_fault, no_own_fault, first_or, first_of}
-use Rattle.relay_conf.specs.Relay.{connected, each_address, relay_said, RelaySettings}
+use Rattle.relay_conf.specs.Relay.{binds_or_each, connected, relay_said, RelaySettings}
 use Rattle.relay_conf.specs.RelayDraft.{AddsLine, IsDraftOf, Lists, draft_view, Reading, with_peers}
 use Rattle.relay_conf.specs.RelayDraft.{stand_view, fault_behind, after_line, named_of, named_from}
 use Rattle.relay_conf.specs.RelayDraft.{IsReadingOf, first_unknown, numbered_feed, draft_said}
@@ -262,7 +262,7 @@ settings_by st feeds allows =
       patience = first_or 3600 st.patiences;
       sync = first_of st.syncs;
       offers = first_of st.offers;
-      bind = first_or each_address st.binds;
+      binds = binds_or_each st.binds;
       peers = map (connected st.connections) st.peers;
       feeds = feeds;
       allows = allows;
@@ -303,7 +303,6 @@ reading_says said r none reading =
       first_or_is r.patience 3600,
       first_of_is r.sync,
       first_of_is r.offers,
-      first_or_is r.bind each_address,
     ) refl)
 
 -- The draft of no lines.

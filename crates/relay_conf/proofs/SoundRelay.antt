@@ -20,12 +20,13 @@ use Rattle.relay_conf.specs.declared.relay.Feed.{Feed}
 use Rattle.relay_conf.specs.declared.relay.Peer.{Peer}
 use Rattle.relay_conf.specs.declared.relay.PeerConnections.{PeerConnections}
 use Rattle.relay_conf.specs.Faults.{first_fault}
-use Rattle.relay_conf.specs.RelayLines.{SaidLine, AllowLine, FeedLine}
+use Rattle.relay_conf.specs.RelayLines.{SaidLine, AllowLine, Bind, FeedLine}
 use Rattle.relay_conf.specs.Relay.{feed_name_of, feed_of, allow_of, allows_of, peer_number}
 use Rattle.relay_conf.specs.Relay.{name_in, unknown_fault}
 use Rattle.relay_conf.specs.Relay.{line_fault, stand_of, early_fault, late_fault, no_own_fault}
 use Rattle.relay_conf.specs.Relay.{settings_of, RelaySettings, Stand, again_fault, connected}
-use Rattle.relay_conf.specs.Relay.{connections_for, first_or, first_of}
+use Rattle.relay_conf.specs.Relay.{binds_or_each, connections_for, each_address, first_or}
+use Rattle.relay_conf.specs.Relay.{first_of}
 use Rattle.relay_conf.specs.RelayViews.{HasSettings}
 use Rattle.relay_conf.specs.SoundRelay.{IsSoundRelay}
 use Rattle.relay_conf.proofs.FaultlessLines.{all_option, behind_trials, given_keeps}
@@ -50,6 +51,13 @@ apart_next : (stand : Stand) (line : SaidLine) → line_fault stand line ≡ Non
 apart_next stand (Ok (FeedLine name ring expression)) e apart =
     apart_more stand.feed_names name (is_new stand.feed_names name e) apart
 apart_next stand line e apart = subst Apart (sym (append-nil stand.feed_names)) apart
+
+-- So do addresses to listen on.
+binds_apart : (stand : Stand) (line : SaidLine) → line_fault stand line ≡ None
+    → Apart stand.binds → Apart (join stand line).binds
+binds_apart stand (Ok (Bind address)) e apart =
+    apart_more stand.binds address (is_new stand.binds address e) apart
+binds_apart stand line e apart = subst Apart (sym (append-nil stand.binds)) apart
 
 -- A feed behind a line without a fault is of a peer.
 name_known : (peers : List Peer) (line : SaidLine) → unknown_fault peers (name_in line) ≡ None
@@ -167,6 +175,21 @@ first_known : (P : ℕ → Type 0) (numbers : List ℕ) → All P numbers → Fo
 first_known P [] all = λ n e. cc
 first_known P (n ∷ more) all = λ m e. subst P (same_Some n m e) (All-head P n more all)
 
+-- There is an address to listen on,
+some_bind : (binds : List (List ℕ)) → 1 ≤ length (binds_or_each binds)
+some_bind [] = omega arith
+some_bind (first ∷ more) = omega arith
+
+-- and where none stands twice, none does with that which stands without a line.
+one_apart : (bind : List ℕ) → Apart (bind ∷ [])
+one_apart bind zero zero x at other = refl
+one_apart bind zero (suc j) x at other = cc
+one_apart bind (suc i) j x at other = cc
+
+each_apart : (binds : List (List ℕ)) → Apart binds → Apart (binds_or_each binds)
+each_apart [] apart = one_apart each_address
+each_apart (first ∷ more) apart = apart
+
 first_own : (owns : List (List ℕ)) → no_own_fault owns ≡ None
     → All (λ own. IsTrue (is_agent own)) owns → IsTrue (is_agent (first_or [] owns))
 first_own [] e all = cc
@@ -201,6 +224,9 @@ relay_is_sound lines settings h =
       of_peers = λ k d less. subst (λ n. (get_or (settings_of said).feeds k d).peer < n)
           (sym as_many) (feeds.within k _ (slice_get-get_or (settings_of said).feeds k d less));
       own_feed = feeds.own;
+      some_binds = some_bind stand.binds;
+      apart_binds = each_apart stand.binds
+          (stand_kept (λ stand. Apart stand.binds) binds_apart said none.0 (λ i j x at other. cc));
       bits = ranged.bits stand.peers;
       allows_of_peers = λ k d less. subst (λ n. (get_or (settings_of said).allows k d).peer < n)
           (sym as_many) (ranges_known stand.peers said none.2 k d less);

@@ -1,3 +1,4 @@
+pub mod AddressExamples
 pub mod Choice
 pub mod Cycbuff
 pub mod CycbuffDraft

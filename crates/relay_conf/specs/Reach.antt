@@ -14,12 +14,12 @@ pub record IsAddress (address : List ℕ) : Type 0 where
 
 -- the first so many bits of an address, as a number: its sixteen octets are one number of 128 bits,
 -- the first octet counting most (RFC 4291 section 2.3). An IPv4 address is its IPv4-mapped one (RFC
--- 4291 section 2.5.5.2): so ::/0 has all addresses, and 0.0.0.0/0, which counts 96 bits, all of IPv4
--- (docs/FORMATS.md, Configuration)
+-- 4291 section 2.5.5.2): so ::/0 has all addresses, and 0.0.0.0/0, which counts 96 bits, has all of
+-- IPv4 (docs/FORMATS.md, Configuration)
 abbrev pub first_bits : (bits : ℕ) → (address : List ℕ) → ℕ
 first_bits bits address = from_be_bytes w128 address / 2 ^ (128 - bits)
 
--- a range has the addresses whose first bits are those of its own (RFC 4632 section 3.1, RFC 4291
+-- a range has the addresses whose first bits are those of its own (RFC 4632 section 3.1; RFC 4291
 -- section 2.3)
 abbrev pub has_address : Range → (address : List ℕ) → Bool
 has_address range address = first_bits range.bits address == first_bits range.bits range.address

@@ -1,6 +1,8 @@
 -- Who may connect, in an example (docs/FORMATS.md, Configuration).
 use Rattle.std.specs.Prelude.{ℕ, ◌+◌, Bool, List, [], ◌∷◌, codes, None}
+use Rattle.relay_conf.specs.declared.reach.Allow.{Allow}
 use Rattle.relay_conf.specs.declared.reach.Range.{Range}
+use Rattle.relay_conf.specs.declared.relay.Peer.{Peer}
 use Rattle.relay_conf.specs.Reach.{may_reach}
 use Rattle.relay_conf.specs.Relay.{RelaySettings, each_address}
 use Rattle.relay_conf.specs.RelayLines.{mapped}
@@ -17,9 +19,14 @@ reach_lines =
 abbrev pub ipv4_range : (a b c d : ℕ) → (bits : ℕ) → Range
 ipv4_range a b c d bits = record { address = mapped (a ∷ b ∷ c ∷ d ∷ []); bits = 96 + bits }
 
--- what they say: the ranges in their order, each with the number of its peer
-abbrev pub reach_settings : RelaySettings
-reach_settings =
+-- a peer of this name and this identity, not served
+abbrev pub unserved : (name identity : List ℕ) → Peer
+unserved name identity = record { name = name; identity = identity; port = 0; connections = 1 }
+
+-- the settings of the relay `a` with these addresses to listen on, peers and ranges, and without
+-- any other line
+abbrev pub settings_with : (binds : List (List ℕ)) → List Peer → List Allow → RelaySettings
+settings_with binds peers allows =
     record {
       own = codes "a";
       max_article = 1000000;
@@ -28,16 +35,22 @@ reach_settings =
       patience = 3600;
       sync = None;
       offers = None;
-      binds = each_address ∷ [];
-      peers = record { name = codes "p"; identity = codes "b"; port = 0; connections = 1 }
-          ∷ record { name = codes "q"; identity = codes "c"; port = 0; connections = 1 }
-          ∷ record { name = codes "r"; identity = codes "d"; port = 0; connections = 1 } ∷ [];
+      binds = binds;
+      peers = peers;
       feeds = [];
-      allows = record { peer = 0; range = ipv4_range 192 0 2 5 31 }
-          ∷ record { peer = 1; range = ipv4_range 198 51 100 7 32 }
-          ∷ record { peer = 0; range = ipv4_range 203 0 113 9 32 }
-          ∷ record { peer = 0; range = ipv4_range 10 1 2 3 8 } ∷ [];
+      allows = allows;
     }
+
+-- what they say: the ranges in their order, each with the number of its peer
+abbrev pub reach_settings : RelaySettings
+reach_settings =
+    settings_with (each_address ∷ [])
+    (unserved (codes "p") (codes "b") ∷ unserved (codes "q") (codes "c")
+    ∷ unserved (codes "r") (codes "d") ∷ [])
+    (record { peer = 0; range = ipv4_range 192 0 2 5 31 }
+    ∷ record { peer = 1; range = ipv4_range 198 51 100 7 32 }
+    ∷ record { peer = 0; range = ipv4_range 203 0 113 9 32 }
+    ∷ record { peer = 0; range = ipv4_range 10 1 2 3 8 } ∷ [])
 
 -- the IPv4 address of these octets may connect to the peer of this number
 abbrev pub reaches : (peer : ℕ) → (a b c d : ℕ) → Bool

@@ -315,8 +315,8 @@ peer_fault peers name =
     else if is_peer peers name then Some Duplicate
     else None
 
--- one more of what may stand once each: the name of a peer in lines of its feed, and in those of its
--- connections, and an address to listen on (docs/FORMATS.md, Configuration)
+-- one more of what may stand once each: the name of a peer in lines of its feed, and in those of
+-- its connections, and an address to listen on (docs/FORMATS.md, Configuration)
 abbrev pub again_fault : (names : List (List ℕ)) → (name : List ℕ) → Option Fault
 again_fault names name = if list_any (bytes_eq name) names then Some Duplicate else None
 

@@ -84,8 +84,8 @@ abbrev pub ipv4_of : (word : List ℕ) → Option (List ℕ)
 ipv4_of word = whole_value (read_ipv4 word)
 
 -- the sixteen octets of an IPv6 address, where the whole word is one: eight groups of one to four
--- hexadecimal digits with colons between them, of which `::` may stand once for groups of zeros, and
--- the last two may be written as an IPv4 address (RFC 4291 section 2.2)
+-- hexadecimal digits with colons between them; `::` may stand once for one or more groups of zeros,
+-- and the last two may be written as an IPv4 address (RFC 4291 section 2.2)
 abbrev pub ipv6_of : (word : List ℕ) → Option (List ℕ)
 ipv6_of word = option_map octets_of (whole_value (read_ipv6 word))
 

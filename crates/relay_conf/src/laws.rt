@@ -1,7 +1,10 @@
 //! Laws of what the files say, and of the settings that are read of them. Nothing of the code
 //! stands on them; other crates take from them what holds of each value of the settings.
 ghost use Rattle.std.specs.Prelude.{◌≡◌, ◌↔◌, ◌≤◌, ◌<◌, ◌^◌, ℕ, List, [], ◌∷◌, ◌++◌, Ok, IsTrue};
-ghost use Rattle.std.specs.Prelude.{◌||◌, All, Err, codes, false, length, map, true};
+ghost use Rattle.std.specs.Prelude.{◌||◌, All, Err, Some, codes, false, length, map, slice_index};
+ghost use Rattle.std.specs.Prelude.{true};
+ghost use Rattle.std.specs.Net.Addr.{octets_of};
+ghost use Rattle.std.specs.Net.Text.{ipv4_text, ipv6_text};
 ghost use Rattle.std.specs.List.{list_all};
 ghost use Rattle.news_terms.specs.Article.{line_feed, without_outer_white};
 ghost use Rattle.news_terms.specs.Lines.{crlf};
@@ -10,6 +13,8 @@ ghost use Rattle.news_terms.specs.PlaceExamples.{eight, six, one_of_eight, eight
 ghost use Rattle.news_terms.specs.Settings.{AreSound};
 ghost use Rattle.news_terms.specs.StorageClass.{Entry};
 ghost use Rattle.std.specs.Str.{byte};
+ghost use Rattle.relay_conf.specs.AddressExamples.{bind_lines, bind_settings, mixed_lines};
+ghost use Rattle.relay_conf.specs.AddressExamples.{mixed_reaches, mixed_settings};
 ghost use Rattle.relay_conf.specs.Cycbuff.{Group, CycbuffSettings, cycbuff_of};
 ghost use Rattle.relay_conf.specs.K1.{k1_buffers, k1_entries, k1_relay};
 ghost use Rattle.relay_conf.specs.K2.{k2_buffers, k2_cycbuff};
@@ -20,7 +25,7 @@ ghost use Rattle.relay_conf.specs.Reach.{IsAddress, has_address, has_allow, is_a
 ghost use Rattle.relay_conf.specs.ReachExamples.{reach_lines, reach_settings, reaches};
 ghost use Rattle.relay_conf.specs.Readings.{RelayHasReading, StorageHasReading};
 ghost use Rattle.relay_conf.specs.Relay.{RelaySettings};
-ghost use Rattle.relay_conf.specs.RelayLines.{relay_line};
+ghost use Rattle.relay_conf.specs.RelayLines.{address_of, mapped, range_of, relay_line};
 ghost use Rattle.relay_conf.specs.RelayViews.{relay_view};
 ghost use Rattle.relay_conf.specs.RelayViews as relay;
 ghost use Rattle.relay_conf.specs.Settings.{places_of_buffers, places_of_groups};
@@ -29,7 +34,7 @@ ghost use Rattle.relay_conf.specs.Storage.{entry_view};
 ghost use Rattle.relay_conf.specs.StorageViews as storage;
 ghost use Rattle.relay_conf.specs.Words.{is_identity};
 ghost use Rattle.relay_conf.specs.declared.config.TheConstants.{K1_CYCBUFF, K1_STORAGE, K1_RELAY};
-ghost use Rattle.relay_conf.specs.declared.faults.Fault.TheVariants.{Number, Syntax};
+ghost use Rattle.relay_conf.specs.declared.faults.Fault.TheVariants.{Duplicate, Number, Syntax};
 ghost use Rattle.relay_conf.specs.declared.faults.LineFault.{LineFault};
 ghost use Rattle.relay_conf.specs.declared.reach.Allow.{Allow};
 ghost use Rattle.relay_conf.specs.declared.reach.Range.{Range};
@@ -164,6 +169,66 @@ pub fn ranges_add_up()
         ≡ (may_reach allows peer address || is_allowed more peer address) }
     ensures none { (allows : List Allow) (peer : ℕ) (address : List ℕ)
         → has_allow allows peer ≡ false → may_reach allows peer address ≡ true }
+{}
+
+/// The text of each IPv4 address is read back as its IPv4-mapped one (RFC 4291, section 2.5.5.2),
+/// and that of each IPv6 address (RFC 5952), in brackets or without, as its octets.
+pub fn texts_of_addresses()
+    ensures ipv4 { (octets : List ℕ) → length octets ≡ 4
+        → ((k : ℕ) → slice_index octets k < 2 ^ 8)
+        → address_of (ipv4_text octets) ≡ Some (mapped octets) }
+    ensures ipv6 { (segments : List ℕ) → length segments ≡ 8
+        → ((k : ℕ) → slice_index segments k < 2 ^ 16)
+        → address_of (ipv6_text segments) ≡ Some (octets_of segments) }
+    ensures bracketed { (segments : List ℕ) → length segments ≡ 8
+        → ((k : ℕ) → slice_index segments k < 2 ^ 16)
+        → address_of (codes "[" ++ ipv6_text segments ++ codes "]") ≡ Some (octets_of segments) }
+{}
+
+/// In a second example ranges are of IPv6, of IPv4, and of IPv4 written as IPv6.
+pub fn ranges_of_both_kinds()
+    ensures lines { relay.HasSettings mixed_lines mixed_settings }
+    ensures same { range_of (codes "::ffff:10.0.0.0/104") ≡ range_of (codes "10.0.0.0/8") }
+{}
+
+/// There a range of 32 bits of IPv6 ends at its second group, `::/0` has IPv4 too, `0.0.0.0/0` has
+/// IPv4 alone, and a range has no address of the other kind that only begins with the same octets.
+pub fn who_connects_of_both_kinds()
+    ensures inside { (mixed_reaches 0 (codes "2001:db8::1") ≡ Some true)
+        × (mixed_reaches 0 (codes "2001:db8:ffff:ffff:ffff:ffff:ffff:ffff") ≡ Some true) }
+    ensures outside { (mixed_reaches 0 (codes "2001:db7:ffff::") ≡ Some false)
+        × (mixed_reaches 0 (codes "2001:db9::") ≡ Some false) }
+    ensures no_ipv4 { mixed_reaches 0 (codes "32.1.13.184") ≡ Some false }
+    ensures each { (mixed_reaches 1 (codes "::") ≡ Some true)
+        × (mixed_reaches 1 (codes "10.0.0.1") ≡ Some true) }
+    ensures mapped { (mixed_reaches 2 (codes "10.255.0.1") ≡ Some true)
+        × (mixed_reaches 2 (codes "::ffff:10.255.0.1") ≡ Some true)
+        × (mixed_reaches 2 (codes "11.0.0.0") ≡ Some false) }
+    ensures no_ipv6 { mixed_reaches 2 (codes "a00::1") ≡ Some false }
+    ensures all_ipv4 { (mixed_reaches 3 (codes "255.255.255.255") ≡ Some true)
+        × (mixed_reaches 3 (codes "::") ≡ Some false) }
+{}
+
+/// Lines of `bind` add up, in their order. A second line of one address is Duplicate, however it is
+/// written.
+pub fn binds_of_examples()
+    ensures several { relay.HasSettings bind_lines bind_settings }
+    ensures again { relay.HasFault (codes "own a" ∷ codes "bind ::1" ∷ codes "bind [0:0::1]" ∷ [])
+        (record { line = 3; fault = Duplicate }) }
+    ensures mapped { relay.HasFault
+        (codes "bind ::ffff:10.0.0.1" ∷ codes "bind ::1" ∷ codes "bind 10.0.0.1" ∷ [])
+        (record { line = 3; fault = Duplicate }) }
+{}
+
+/// Number is a number of bits past those of the address, and Syntax what is no address: `::` twice,
+/// IPv4 in brackets, or one bracket.
+pub fn faults_of_addresses()
+    ensures bits { relay_line (codes "allow p 2001:db8::/129") ≡ Err Number }
+    ensures bits_of_ipv4 { relay_line (codes "allow p 10.0.0.0/33") ≡ Err Number }
+    ensures elided_twice { relay_line (codes "allow p 2001:db8::1::/8") ≡ Err Syntax }
+    ensures bracketed { relay_line (codes "bind [10.0.0.1]") ≡ Err Syntax }
+    ensures one_bracket { (relay_line (codes "bind [::") ≡ Err Syntax)
+        × (relay_line (codes "bind ::]") ≡ Err Syntax) }
 {}
 
 /// Of two faults in a line of `allow` the first from the left counts; Number is a number of bits

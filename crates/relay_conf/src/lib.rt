@@ -5,6 +5,7 @@
 //! Configuration).
 #![tactic(auto)]
 
+mod binds;
 mod choice;
 mod config;
 mod cycbuff;

@@ -1,16 +1,15 @@
 //! relay.conf: the relay itself, its peers and their feeds (docs/FORMATS.md, Configuration).
-ghost use Rattle.std.specs.Prelude.{◌≡◌, ◌≤◌, ◌∷◌, ◌++◌, [], length, bytes_eq, Ok, IfOk, OnOk};
-ghost use Rattle.std.specs.List.{list_any};
+ghost use Rattle.std.specs.Prelude.{◌≡◌, ◌≤◌, ◌∷◌, ◌++◌, [], length, Ok, OnOk};
 ghost use Rattle.relay_conf.specs.Faults.{ConfGives, LineGives};
 ghost use Rattle.relay_conf.specs.Lines.{lines_of};
-ghost use Rattle.relay_conf.specs.Relay.{RelaySettings, again_fault, peer_fault};
-ghost use Rattle.relay_conf.specs.Relay as terms;
+ghost use Rattle.relay_conf.specs.Relay.{RelaySettings, peer_fault};
 ghost use Rattle.relay_conf.specs.RelayDraft.{AddsAllow, AddsConnections, AddsFeed, AddsLine};
 ghost use Rattle.relay_conf.specs.RelayDraft.{Lists, nothing};
 ghost use Rattle.relay_conf.specs.RelayDraft.{draft_view, draft_said, with_peers};
 ghost use Rattle.relay_conf.specs.RelayViews.{relay_view, ranges_in, raw_view, RelayGives};
 ghost use Rattle.relay_conf.specs.SoundRelay.{IsSoundRelay};
 
+use crate::binds::{add_bind, binds_or_each};
 use crate::drafts::{LineByLine, read_lines, set_once};
 use crate::expressions::expression_of;
 use crate::faults::{ConfError, Fault, LineFault, Refusal};
@@ -58,9 +57,6 @@ const CUTOFF: u64 = 864_000;
 
 /// The seconds without `patience`.
 const PATIENCE: u32 = 3_600;
-
-/// The address without `bind`: 0.0.0.0, all IPv4 addresses of the machine.
-const EACH_ADDRESS: [u8; 16] = [0, 0, 0, 0, 0, 0, 0, 0, 0, 0, 255, 255, 0, 0, 0, 0];
 
 /// Reads the text of relay.conf.
 pub fn read_relay(alloc: Global, text: &[u8]) -> Result<Relay, ConfError>
@@ -266,36 +262,6 @@ impl RelayDraft {
         push_named(alloc, &mut self.named, line, name)?;
         Ok(())
     }
-}
-
-/// Adds an address to listen on; a second time it is Duplicate.
-fn add_bind(binds: &mut Vec<[u8; 16]>, address: [u8; 16]) -> Result<(), Refusal>
-    ensures fault { LineGives result (again_fault binds.old.items address) }
-    ensures kept { OnOk result (binds.new.items ≡ binds.old.items ++ address ∷ []) }
-{
-    if has_bind(binds, address) {
-        return Err(Refusal::Faulty(Fault::Duplicate));
-    }
-    binds.push(address)?;
-    Ok(())
-}
-
-/// Whether the address is one of these.
-fn has_bind(binds: &[[u8; 16]], address: [u8; 16]) -> bool
-    ensures { result ≡ list_any (bytes_eq address) binds.now }
-{
-    binds.iter().any(|bind| *bind == address)
-}
-
-/// The addresses that lines say, or the one without `bind`.
-fn binds_or_each(said: Vec<[u8; 16]>) -> Result<Vec<[u8; 16]>, AllocError>
-    ensures { IfOk result (λ binds. binds.items ≡ terms.binds_or_each said.items) }
-{
-    let mut binds = said;
-    if binds.is_empty() {
-        binds.push(EACH_ADDRESS)?;
-    }
-    Ok(binds)
 }
 
 /// Keeps a peer, one of whose connections is served at once.

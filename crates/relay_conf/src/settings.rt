@@ -78,8 +78,8 @@ pub struct Relay {
     pub sync: Option<u64>,
     /// The seconds after which an offer runs out; without it none does.
     pub offers: Option<u64>,
-    /// The addresses of the machine on which ports listen, at least one, in the order of their lines.
-    /// An IPv4 address is its IPv4-mapped one; 0.0.0.0 stands for all of IPv4, and :: for all of IPv6.
+    /// The addresses of the machine on which ports listen, at least one, in the order of their
+    /// lines. An IPv4 address is its IPv4-mapped one; 0.0.0.0 stands for all of IPv4.
     pub binds: Vec<[u8; 16]>,
     pub peers: Vec<Peer>,
     pub feeds: Vec<Feed>,

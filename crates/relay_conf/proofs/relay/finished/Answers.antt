@@ -6,7 +6,7 @@ use Rattle.relay_conf.specs.declared.relay.PeerConnections.{PeerConnections}
 use Rattle.relay_conf.specs.Relay.{connected}
 use Rattle.relay_conf.specs.RelayDraft.{Reading, draft_view, draft_said, named_said, numbered_feed}
 use Rattle.relay_conf.specs.RelayDraft.{reading_settings, numbered_allow}
-use Rattle.relay_conf.proofs.relay.finished.Goals.{After-from_octets}
+use Rattle.relay_conf.proofs.relay.finished.Goals.{After-unwrap_or-3}
 use Rattle.relay_conf.proofs.relay.finished.Goals as goal
 
 -- Where the own identity stands and each name is a peer's, a draft says settings.
@@ -15,7 +15,7 @@ settled : (r : Reading) (own : List ℕ) → r.own ≡ Some own → named_said r
 settled r own is named = grind arith
 
 -- So it is with this draft.
-says : (c : After-from_octets)
+says : (c : After-unwrap_or-3)
     → draft_said (draft_view c.args.draft)
     ≡ Ok (record (reading_settings (draft_view c.args.draft)) { own = c.in-Some.own })
 says c =
@@ -28,7 +28,7 @@ says c =
     settled r c.in-Some.own c.in-Some.is named
 
 -- the peers have their connections,
-peers : (c : After-from_octets)
+peers : (c : After-unwrap_or-3)
     → c.connect.new.peers
     ≡ map (connected c.args.draft.connections.items) c.args.draft.peers.items
 peers c =
@@ -38,7 +38,7 @@ peers c =
     c.deref-5.ensures.value
 
 -- and are as many,
-as_many : (c : After-from_octets) → length c.connect.new.peers ≡ c.args.draft.peers.len
+as_many : (c : After-unwrap_or-3) → length c.connect.new.peers ≡ c.args.draft.peers.len
 as_many c =
     let draft = c.args.draft in
     omega (
@@ -49,7 +49,7 @@ as_many c =
     )
 
 -- the ranges of addresses the numbers of theirs,
-allows : (c : After-from_octets)
+allows : (c : After-unwrap_or-3)
     → c.in_ok-allows.allows.items
     ≡ map (numbered_allow c.args.draft.peers.items) c.args.draft.allows.items
 allows c =
@@ -58,7 +58,7 @@ allows c =
     c.deref-4.ensures.value
 
 -- and the feeds the numbers of theirs.
-feeds : (c : After-from_octets)
+feeds : (c : After-unwrap_or-3)
     → c.in_ok-feeds.feeds.items
     ≡ map (numbered_feed c.args.draft.peers.items) c.args.draft.feeds.items
 feeds c =
@@ -74,8 +74,7 @@ invariant_of-result c =
         c.unwrap_or.ensures,
         c.unwrap_or-2.ensures,
         c.unwrap_or-3.ensures,
-        c.from_octets.ensures,
-        c.unwrap_or-4.ensures,
+        c.in_ok-binds.ensures,
         take_at,
         peers c,
         feeds c,
@@ -85,14 +84,13 @@ invariant_of-result c =
 
 pub returns : goal.returns
 returns c =
-    let made = (goal.at.returns c).After-from_octets in
+    let made = (goal.at.returns c).After-unwrap_or-3 in
     let long = as_many made in
     rw (
       made.unwrap_or.ensures,
       made.unwrap_or-2.ensures,
       made.unwrap_or-3.ensures,
-      made.from_octets.ensures,
-      made.unwrap_or-4.ensures,
+      made.in_ok-binds.ensures,
       take_at,
       peers made,
       feeds made,

@@ -96,13 +96,14 @@ returns-in-Offers c = λ listed.
 
 pub returns-in-Bind : goal.returns-in-Bind
 returns-in-Bind c = λ listed.
-    let set = c.set_once-in-Bind in
+    let add = c.add_bind in
     rw c.in-Bind.is
     (record {
       step = read_by _ _ (after_line c.args.number) _
-          (λ (slot : Option (List ℕ)). draft_view (record c.args.self.now { bind = slot })) _ _
-          (Bind c.in-Bind.address) set.result refl set.ensures.fault set.ensures.set refl;
-      listed = still set.result listed;
+          (λ (items : List (List ℕ)). record (draft_view c.args.self.now) { binds = items })
+          add.new.binds.items _ (Bind c.in-Bind.address) add.result refl add.ensures.fault
+          add.ensures.kept refl;
+      listed = still add.result listed;
     })
 
 pub returns-in-Peer : goal.returns-in-Peer

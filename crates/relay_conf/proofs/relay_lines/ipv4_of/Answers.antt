@@ -1,0 +1,10 @@
+use Rattle.std.proofs.Common.{◌∙◌, Some, ap, sym}
+use Rattle.relay_conf.proofs.Addresses.{ipv4_read, ipv4_unread}
+use Rattle.relay_conf.proofs.relay_lines.ipv4_of.Goals as goal
+
+pub returns-in-Ok : goal.returns-in-Ok
+returns-in-Ok c =
+    ap Some c.octets.ensures ∙ sym (ipv4_read c.args.word.now _ c.in-Ok.ensures)
+
+pub returns-in-Err : goal.returns-in-Err
+returns-in-Err c = ipv4_unread c.args.word.now c.in-Err.ensures
