@@ -68,8 +68,8 @@ impl<'a> Callers<'a> {
         }
     }
 
-    /// Counts one at the port of these listeners that was refused, and tells in one line a minute at
-    /// most how many were since the last, and whence this one came.
+    /// Counts one at the port of these listeners that was refused, and tells in one line a minute
+    /// at most how many were since the last, and whence this one came.
     pub(crate) fn refuse<R: Eprint>(
         &self,
         rt: &R,

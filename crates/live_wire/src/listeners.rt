@@ -72,8 +72,8 @@ impl Listeners {
         }
     }
 
-    /// Whether a connection has come, once one has or so many milliseconds have passed. The error is
-    /// that the wait failed, or want of memory.
+    /// Whether a connection has come, once one has or so many milliseconds have passed. The error
+    /// is that the wait failed, or want of memory.
     pub(crate) fn has_one(&self, milliseconds: i32) -> io::Result<bool> {
         let mut watched = Vec::new(self.alloc);
         for socket in &self.sockets {
@@ -90,7 +90,7 @@ impl Listeners {
         Ok(count > 0)
     }
 
-    /// A connection that has come, and the address that it comes from. Each socket is asked once, the
+    /// A connection that has come, and the address that it comes from. Each socket is asked, the
     /// one behind the last that gave one first. The error of a socket where none has come is
     /// WouldBlock.
     pub(crate) fn accept(&self) -> io::Result<(TcpStream, Ipv6Addr)> {

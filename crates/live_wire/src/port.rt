@@ -65,8 +65,8 @@ impl Drop for Port<'_> {
 }
 
 impl<'a> Port<'a> {
-    /// Listens on this port of each address that the settings name, for so many connections of these
-    /// callers, until it is told to stop. The error is the system's, or want of memory.
+    /// Listens on this port of each address that the settings name, for so many connections of
+    /// these callers, until it is told to stop. The error is the system's, or want of memory.
     pub fn listen<N: Net<Listener = TcpListener, Stream = TcpStream>>(
         net: &N,
         alloc: Global,
@@ -93,8 +93,8 @@ impl<'a> Port<'a> {
     }
 
     /// The same port for a further end, which takes as many connections as this one still does, of
-    /// the same callers. Each connection is given by one of them. The error is the system's, or want
-    /// of memory.
+    /// the same callers. Each connection is given by one of them. The error is the system's, or
+    /// want of memory.
     pub fn another(&self) -> io::Result<Port<'a>>
         ensures left { IfOk result (λ port. left_of port ≡ left_of self.now) }
         ensures callers { IfOk result (λ port. callers_of port ≡ callers_of self.now) }
