@@ -1,4 +1,5 @@
 mod Kept
+mod PeerLines
 mod PeerSources
 mod Reached
 mod Repairs

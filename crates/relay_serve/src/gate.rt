@@ -1,6 +1,8 @@
 //! The gate of a relay that is served.
-ghost use Rattle.std.specs.Prelude.{◌≡◌, Some};
-ghost use Rattle.relay_serve.specs.Gates.{finish_word, told_text};
+ghost use Rattle.std.specs.Prelude.{◌≡◌, ◌++◌, ℕ, List, Some, IfOk, OnOk, length};
+ghost use Rattle.live_wire.specs.declared.tally.Tally.{Tally};
+ghost use Rattle.relay_serve.specs.Gates.{ArePeerLines, finish_word, names_of, peer_line};
+ghost use Rattle.relay_serve.specs.Gates.{told_text};
 
 use live_session::{Command, Finish, Gate};
 use live_wire::Tally;
@@ -59,7 +61,11 @@ impl<'a> PeerCounts<'a> {
     }
 
     /// Puts the line of the peer behind a text.
-    fn put(&self, alloc: Global, text: &mut Vec<u8>) -> Result<(), AllocError> {
+    fn put(&self, alloc: Global, text: &mut Vec<u8>) -> Result<(), AllocError>
+        ensures { OnOk result ((sessions : ℕ) × (tally : Tally)
+            × (text.new.items
+            ≡ text.old.items ++ peer_line self.now.name.now sessions tally)) }
+    {
         let name = self.name;
         let open = self.open.load(Ordering::SeqCst);
         let told = self.told();
@@ -100,7 +106,9 @@ pub(crate) struct CountingGate<'a> {
 
 impl<'a> CountingGate<'a> {
     /// A gate for the sessions of these peers, before the first of them.
-    pub(crate) fn new(alloc: Global, peers: &'a [Peer]) -> Result<CountingGate<'a>, AllocError> {
+    pub(crate) fn new(alloc: Global, peers: &'a [Peer]) -> Result<CountingGate<'a>, AllocError>
+        ensures { IfOk result (λ gate. length (names_of gate) ≡ length peers.now) }
+    {
         let mut counts = Vec::new(alloc);
         for peer in peers {
             counts.push(PeerCounts::new(peer))?;
@@ -109,7 +117,10 @@ impl<'a> CountingGate<'a> {
     }
 
     /// Puts a line for each peer behind a text.
-    pub(crate) fn put_peers(&self, text: &mut Vec<u8>) -> Result<(), AllocError> {
+    pub(crate) fn put_peers(&self, text: &mut Vec<u8>) -> Result<(), AllocError>
+        ensures { OnOk result ((lines : List ℕ) × ArePeerLines (names_of self.now) lines
+            × (text.new.items ≡ text.old.items ++ lines)) }
+    {
         for counts in &self.counts {
             counts.put(self.alloc, text)?;
         }

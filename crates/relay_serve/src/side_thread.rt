@@ -1,6 +1,9 @@
 //! What goes on beside a relay that is served.
-ghost use Rattle.std.specs.Prelude.{◌≡◌, IfOk, IfSome, is_some, length};
+ghost use Rattle.std.specs.Prelude.{◌≡◌, ◌++◌, ℕ, List, IfOk, IfSome, is_some, length};
 ghost use Rattle.relay_live.specs.Making.{buffers_in};
+ghost use Rattle.relay_report.specs.Report.{text_of_figures};
+ghost use Rattle.relay_serve.specs.Filled.{sizes_text};
+ghost use Rattle.relay_serve.specs.Gates.{ArePeerLines, names_of};
 ghost use Rattle.relay_serve.specs.Syncing.{syncing_in};
 
 use crate::desk::Desk;
@@ -231,7 +234,11 @@ fn told_of(
     config: &Config,
     figures: &Figures,
     gate: &CountingGate<'_>,
-) -> Result<Vec<u8>, AllocError> {
+) -> Result<Vec<u8>, AllocError>
+    ensures { IfOk result (λ text. (peers : List ℕ) × ArePeerLines (names_of gate.now) peers
+        × (text.items ≡ text_of_figures figures.now
+        ++ (peers ++ sizes_text config.now.buffers.buffers.items figures.now.buffers.items))) }
+{
     let mut text = text_of(alloc, figures)?;
     gate.put_peers(&mut text)?;
     put_sizes(&mut text, &config.buffers.buffers, &figures.buffers)?;
