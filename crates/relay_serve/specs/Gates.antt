@@ -37,5 +37,5 @@ names_of gate = map (λ counts. counts.name.now) gate.counts.items
 abbrev pub ArePeerLines : (names : List (List ℕ)) → (text : List ℕ) → Type 0
 ArePeerLines [] text = text ≡ []
 ArePeerLines (name ∷ more) text =
-    (sessions : ℕ) × (tally : Tally) × (rest : List ℕ) × (text ≡ peer_line name sessions tally ++ rest)
-    × ArePeerLines more rest
+    (sessions : ℕ) × (tally : Tally) × (rest : List ℕ)
+    × (text ≡ peer_line name sessions tally ++ rest) × ArePeerLines more rest

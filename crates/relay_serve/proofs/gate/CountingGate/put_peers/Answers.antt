@@ -1,5 +1,5 @@
-use Rattle.std.proofs.Common.{◌≡◌, ◌∙◌, ◌++◌, ◌<◌, [], ℕ, List, ap, append_assoc, append-nil, get_or}
-use Rattle.std.proofs.Common.{length, refl, subst, sym}
+use Rattle.std.proofs.Common.{◌≡◌, ◌∙◌, ◌++◌, ◌<◌, [], ℕ, List, ap, append_assoc, append-nil}
+use Rattle.std.proofs.Common.{get_or, length, refl, subst, sym}
 use Rattle.relay_serve.specs.Gates.{ArePeerLines, peer_line}
 use Rattle.relay_serve.specs.declared.gate.PeerCounts.{PeerCounts}
 use Rattle.relay_serve.proofs.PeerLines.{line_more, name_more}
