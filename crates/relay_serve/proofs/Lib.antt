@@ -1,6 +1,7 @@
 mod Kept
 mod PeerLines
 mod PeerSources
+mod PortFaults
 mod Reached
 mod Repairs
 mod Rounds

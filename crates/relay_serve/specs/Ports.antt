@@ -1,6 +1,6 @@
 -- The ports of the peers (docs/FORMATS.md, relay.conf).
 use Rattle.std.specs.Prelude.{◌≡◌, ◌≢◌, ◌+◌, ◌==◌, ◌++◌, ℕ, List, [], ◌∷◌, Any, replicate}
-use Rattle.std.specs.Prelude.{if◌then◌else◌}
+use Rattle.std.specs.Prelude.{Bool, false, if◌then◌else◌, true}
 use Rattle.relay_conf.specs.declared.relay.Peer.{Peer}
 use Rattle.std.specs.declared.io.ErrorKind.{ErrorKind}
 use Rattle.std.specs.declared.io.ErrorKind.TheVariants as kinds
@@ -31,6 +31,13 @@ port_reason kinds.PermissionDenied = NoRight
 port_reason kinds.AddrNotAvailable = NoAddress
 port_reason kind = Refused
 
--- the fault of the port of this number, by the kind of the system's error
+-- the error is want of memory
+abbrev pub is_want_of_memory : ErrorKind → Bool
+is_want_of_memory kinds.OutOfMemory = true
+is_want_of_memory kind = false
+
+-- the fault of the port of this number, by the kind of the error: its own, or want of memory
 abbrev pub lost_port : ℕ → ErrorKind → ServeError
-lost_port number kind = faults.Port (record { number = number; reason = port_reason kind })
+lost_port number kind =
+    if is_want_of_memory kind then faults.Memory
+    else faults.Port (record { number = number; reason = port_reason kind })

@@ -159,14 +159,24 @@ fn add_further<'a>(
     Ok(())
 }
 
-/// The fault of the port of a peer.
+/// The fault of the port of a peer, or want of memory.
 fn lost(peer: &Peer, kind: ErrorKind) -> ServeError
     ensures { result ≡ lost_port peer.now.port kind }
 {
+    if is_want_of_memory(kind) {
+        return ServeError::Memory;
+    }
     ServeError::Port(LostPort {
         number: peer.port,
         reason: port_reason(kind),
     })
+}
+
+/// Whether the error is want of memory.
+fn is_want_of_memory(kind: ErrorKind) -> bool
+    ensures { result ≡ terms.is_want_of_memory kind }
+{
+    matches!(kind, ErrorKind::OutOfMemory)
 }
 
 /// Why a port can't be had.

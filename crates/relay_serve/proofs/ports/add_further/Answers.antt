@@ -6,7 +6,9 @@ use Rattle.live_wire.specs.Ports.{left_of}
 use Rattle.live_wire.specs.declared.port.Port.{Port}
 use Rattle.relay_live.specs.declared.running.PeerSource.{PeerSource}
 use Rattle.relay_serve.specs.Callers.{HasCallers, LetsIn}
+use Rattle.relay_serve.specs.Ports.{IsPortFault}
 use Rattle.relay_serve.proofs.PeerSources.{one_more}
+use Rattle.relay_serve.proofs.PortFaults.{lost_is_fault}
 use Rattle.relay_serve.proofs.ports.add_further.Goals as goal
 
 pub loop-preserved : goal.loop-preserved
@@ -40,3 +42,9 @@ loop-preserved c =
           (c.loop.invariant.callers allows lets all)
           (subst (LetsIn allows number) (sym c.in-Ok.ensures.callers) lets));
     }
+
+-- the port is that of the peer
+pub returns-in-Err-clause-fault : goal.returns-in-Err-clause-fault
+returns-in-Err-clause-fault c =
+    λ peers among. subst (IsPortFault peers) (sym c.lost.ensures)
+    (lost_is_fault peers c.args.peer.now.port c.kind.result c.requires.port among)

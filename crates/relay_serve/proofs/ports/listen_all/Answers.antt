@@ -8,6 +8,7 @@ use Rattle.relay_conf.specs.declared.relay.Peer.{Peer}
 use Rattle.relay_live.specs.declared.running.PeerSource.{PeerSource}
 use Rattle.relay_serve.specs.Callers.{LetsIn}
 use Rattle.relay_serve.specs.Ports.{IsPortFault, ends_from}
+use Rattle.relay_serve.proofs.PortFaults.{lost_is_fault}
 use Rattle.relay_serve.proofs.PeerSources.{after_peer, drop_peer, of_all, without_port}
 use Rattle.relay_live.proofs.Rooms.{below_as, no_more}
 use Rattle.relay_serve.proofs.ports.listen_all.Goals as goal
@@ -23,7 +24,7 @@ returns-in-Err-clause-fault g c =
     c.peer-item.is
     ∙ ap (λ (all : List Peer). get_or all k peer) c.deref-peer-items.ensures.value in
     subst (IsPortFault peers) (sym c.lost.ensures)
-    (c.if-peer-eq0.false, (k, peer, within, sym same, refl))
+    (lost_is_fault peers peer.port _ c.if-peer-eq0.false (k, peer, within, sym same, refl))
 
 pub returns-in_err-add_peer_sources-in-Ok-clause-fault
     : goal.returns-in_err-add_peer_sources-in-Ok-clause-fault
