@@ -10,8 +10,9 @@
 //! decided.
 #![tactic(auto)]
 
-use relay_command::{Failure, Request, exit_code, gathering, hint, print_failure, program_words};
-use relay_command::run;
+use relay_command::{
+    Failure, Request, exit_code, gathering, hint, print_failure, program_words, run,
+};
 use relay_folder::{Word, ask};
 use relay_serve::serve_on;
 use relay_startup::{add_on, stand_on};
