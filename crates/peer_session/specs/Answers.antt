@@ -38,7 +38,7 @@ SharesNone (asks.Offers transfer id) = ⊥
 SharesNone (asks.Looks part id) = ⊥
 SharesNone (asks.Reads asked token had) = ⊥
 SharesNone (asks.TakesQueue feed most) = ⊥
-SharesNone (asks.Refuses transfer id) = ⊥
+SharesNone (asks.Refuses transfer id reason) = ⊥
 SharesNone (asks.Takes transfer id article) = ⊥
 SharesNone (asks.Pushes job) = ⊥
 SharesNone (asks.LooksInSlot transfer id) = ⊥
@@ -52,7 +52,7 @@ IsStepOf (steps.Look id) ask = (part : Part) × (ask ≡ asks.Looks part id)
 IsStepOf (steps.Read token k) ask =
     (asked : model.Asked) × (ask ≡ asks.Reads asked (token_view token) k)
 IsStepOf (steps.TakeQueue feed most) ask = ask ≡ asks.TakesQueue feed most
-IsStepOf (steps.Refuse id) ask = (transfer : model.Transfer) × (ask ≡ asks.Refuses transfer id)
+IsStepOf (steps.Refuse id) ask = (transfer : model.Transfer) × (ask ≡ asks.Refuses transfer id reason)
 IsStepOf (steps.Take id) ask =
     (transfer : model.Transfer) × (article : Accepted) × (ask ≡ asks.Takes transfer id article)
 IsStepOf (steps.Push group) ask =
@@ -75,7 +75,7 @@ AsksOf w m gathered asks.Ends = Unit {0}
 AsksOf w m gathered (asks.Offers transfer id) = Unit {0}
 AsksOf w m gathered (asks.Looks part id) = Unit {0}
 AsksOf w m gathered (asks.TakesQueue feed most) = feed < length w.feeds
-AsksOf w m gathered (asks.Refuses transfer id) = Unit {0}
+AsksOf w m gathered (asks.Refuses transfer id reason) = Unit {0}
 AsksOf w m gathered (asks.Takes transfer id article) = Unit {0}
 AsksOf w m gathered (asks.LooksInSlot transfer id) = Unit {0}
 AsksOf w m gathered (asks.Releases id) = Unit {0}
@@ -113,7 +113,7 @@ IsAnswerTo (asks.Pushes job) gathered answer told =
 IsAnswerTo (asks.LooksInSlot transfer id) gathered answer told =
     (outcome : Option Outcome) × (answer ≡ answers.Slot outcome)
     × (told ≡ shares.InSlot (option_map outcome_view outcome))
-IsAnswerTo (asks.Refuses transfer id) gathered answer told = answer ≡ answers.Nothing
+IsAnswerTo (asks.Refuses transfer id reason) gathered answer told = answer ≡ answers.Nothing
 IsAnswerTo (asks.Releases id) gathered answer told = answer ≡ answers.Nothing
 IsAnswerTo asks.Rests gathered answer told = answer ≡ answers.Nothing
 IsAnswerTo asks.GoesOn gathered answer told = answer ≡ answers.Nothing

@@ -69,7 +69,7 @@ ask_fits w x n m gathered well there front (asks.Leaves reply) of = tt
 ask_fits w x n m gathered well there front asks.Ends of = tt
 ask_fits w x n m gathered well there front (asks.Offers transfer id) of = tt
 ask_fits w x n m gathered well there front (asks.Looks part id) of = tt
-ask_fits w x n m gathered well there front (asks.Refuses transfer id) of = tt
+ask_fits w x n m gathered well there front (asks.Refuses transfer id reason) of = tt
 ask_fits w x n m gathered well there front (asks.Takes transfer id article) of = tt
 ask_fits w x n m gathered well there front (asks.LooksInSlot transfer id) of = tt
 ask_fits w x n m gathered well there front (asks.Releases id) of = tt
@@ -97,7 +97,7 @@ kept_stays w x n now asks.Ends told y h = ap (λ (z : World). z.state.kept) h.1
 kept_stays w x n now (asks.Offers transfer id) told y h = ap (λ (z : World). z.state.kept) h.1
 kept_stays w x n now (asks.Looks part id) told y h = ap (λ (z : World). z.state.kept) h.1
 kept_stays w x n now (asks.TakesQueue feed most) told y h = ap (λ (z : World). z.state.kept) h.1
-kept_stays w x n now (asks.Refuses transfer id) told y h = ap (λ (z : World). z.state.kept) h.1
+kept_stays w x n now (asks.Refuses transfer id reason) told y h = ap (λ (z : World). z.state.kept) h.1
 kept_stays w x n now (asks.Takes transfer id article) told y h =
     ap (λ (z : World). z.state.kept) h.1
 kept_stays w x n now (asks.LooksInSlot transfer id) told y h =

@@ -75,7 +75,7 @@ one_share w x s now (Reads asked token had) a b y z one other c d =
     record { answer = first.answer ∙ sym second.answer; world = first.world ∙ sym second.world }
 one_share w x s now (TakesQueue feed most) a b y z one other c d =
     record { answer = one.0 ∙ sym other.0; world = one.1 ∙ sym other.1 }
-one_share w x s now (Refuses transfer id) a b y z one other c d =
+one_share w x s now (Refuses transfer id reason) a b y z one other c d =
     record { answer = one.0 ∙ sym other.0; world = one.1 ∙ sym other.1 }
 one_share w x s now (Takes transfer id article) a b y z one other c d =
     record { answer = one.0 ∙ sym other.0; world = one.1 ∙ sym other.1 }
@@ -164,7 +164,7 @@ one_heard s session (TakesQueue feed most) answer a b one other =
     let tokens : items ≡ items' = cc in
     one.3 ∙ ap (λ n. says session (QueueFollows n items)) numbers
     ∙ ap (λ list. says session (QueueFollows missed' list)) tokens ∙ sym other.3
-one_heard s session (Refuses transfer id) answer a b one other = one ∙ sym other
+one_heard s session (Refuses transfer id reason) answer a b one other = one ∙ sym other
 one_heard s session (Takes transfer id article) answer a b one other =
     let told : TakeAnswer = one.0 in
     let told' : TakeAnswer = other.0 in
