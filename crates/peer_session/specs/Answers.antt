@@ -1,8 +1,9 @@
 -- What the step of a session's plan is in the definitions, and what its answer is.
 use Rattle.std.specs.Prelude.{◌≡◌, ◌≢◌, ◌⊎◌, ℕ, ◌≤◌, ◌<◌, Bool, true, false, List, []}
-use Rattle.std.specs.Prelude.{length, map, option_map, Option, Some}
+use Rattle.std.specs.Prelude.{length, map, option_map, Option, None, Some}
 use Rattle.article_fetch.specs.Fetch.{Fetch, FoundAs}
 use Rattle.article_fetch.specs.declared.chunk.Chunk.{Chunk}
+use Rattle.article_verdict.specs.Verdict.{reason_view}
 use Rattle.cyc_token.specs.Token.{token_view}
 use Rattle.cyc_token.specs.declared.Token.{Token}
 use Rattle.feed_queue.specs.declared.desk.Taken.{Taken}
@@ -17,7 +18,7 @@ use Rattle.relay_model.specs.Claims.{Accepted}
 use Rattle.relay_model.specs.Fetches.{Fetched}
 use Rattle.relay_model.specs.Shares as shares
 use Rattle.relay_model.specs.State as model
-use Rattle.relay_model.specs.Terms.{Terms}
+use Rattle.relay_model.specs.Terms.{Terms, Reason}
 use Rattle.peer_session.specs.Session.{outcome_view}
 use Rattle.peer_session.specs.declared.phase.Todo.{Todo}
 use Rattle.peer_session.specs.declared.phase.Todo.TheVariants as todos
@@ -52,7 +53,8 @@ IsStepOf (steps.Look id) ask = (part : Part) × (ask ≡ asks.Looks part id)
 IsStepOf (steps.Read token k) ask =
     (asked : model.Asked) × (ask ≡ asks.Reads asked (token_view token) k)
 IsStepOf (steps.TakeQueue feed most) ask = ask ≡ asks.TakesQueue feed most
-IsStepOf (steps.Refuse id) ask = (transfer : model.Transfer) × (ask ≡ asks.Refuses transfer id reason)
+IsStepOf (steps.Refuse id reason) ask =
+    (transfer : model.Transfer) × (ask ≡ asks.Refuses transfer id (reason_view reason))
 IsStepOf (steps.Take id) ask =
     (transfer : model.Transfer) × (article : Accepted) × (ask ≡ asks.Takes transfer id article)
 IsStepOf (steps.Push group) ask =
@@ -60,6 +62,11 @@ IsStepOf (steps.Push group) ask =
 IsStepOf steps.Slot ask =
     (transfer : model.Transfer) × (id : List ℕ) × (ask ≡ asks.LooksInSlot transfer id)
 IsStepOf (steps.Release id) ask = ask ≡ asks.Releases id
+
+-- the reason for which a step refuses an article, if it does
+abbrev pub reason_in : Step → Option Reason
+reason_in (steps.Refuse id reason) = Some (reason_view reason)
+reason_in other = None
 
 -- what is asked is of the session's phase and hand, and of the terms: a fetch that is under way, or
 -- one that begins; the job in hand; a feed that is there

@@ -13,7 +13,7 @@ use Rattle.news_terms.specs.Ring as rings
 use Rattle.news_terms.specs.Token.{Token}
 use Rattle.relay_model.specs.Asks.{Ask, Rests, GoesOn, Says, Leaves, Offers, Looks, Reads}
 use Rattle.relay_model.specs.Asks.{TakesQueue, Refuses, Takes, Pushes, LooksInSlot, Releases, Ends}
-use Rattle.relay_model.specs.Asks.{Due}
+use Rattle.relay_model.specs.Asks.{Due, reason_of}
 use Rattle.relay_model.specs.Claims.{offer_answer, after_offer, take_answer, after_take}
 use Rattle.relay_model.specs.Claims.{after_refuse, after_release, look_answer}
 use Rattle.relay_model.specs.Fetches.{Fetched, Gone, NotKnown, NotRead, fetched}
@@ -305,7 +305,7 @@ abbrev played_due : Terms → World → (s now : ℕ) → Article → Due → Pl
 played_due w x s now a due =
     let heard = heard_of w x s now a due.after due.ask in
     record {
-      output = output_of s heard.said;
+      output = output_of s heard.said (reason_of due.ask);
       world = with_session (world_after w x s now due.ask) s heard.session;
     }
 

@@ -54,6 +54,11 @@ pub data Ask : Type 0 where
   -- nothing is left to give up: the session is closed
   Ends : Ask
 
+-- why an article is refused, where that is asked
+abbrev pub reason_of : Ask → Option Reason
+reason_of (Refuses transfer id reason) = Some reason
+reason_of other = None
+
 -- what a session asks, and the session once what it read counts as read
 pub record Due : Type 0 where
   pub ask : Ask
