@@ -111,7 +111,7 @@ returns-in_ok-path-in-Log c = λ listed.
     })
 
 pub returns-in_err-path-in-Log : goal.returns-in_err-path-in-Log
-returns-in_err-path-in-Log c = λ listed. no_memory _ c.from_residual-in-Log.ensures.1
+returns-in_err-path-in-Log c = λ listed. no_memory _ c.from_residual-in_err-path-in-Log.ensures.1
 
 pub returns-in-Bind : goal.returns-in-Bind
 returns-in-Bind c = λ listed.
