@@ -138,24 +138,12 @@ fn line_of(
     let name = peer.as_bytes();
     match remark {
         Remark::Refused(id, reason) => {
-            refused_line(
-                alloc,
-                moment,
-                name,
-                id.as_bytes(),
-                code_of(reply),
-                reason.name(),
-            )
+            let why = reason.name();
+            refused_line(alloc, moment, name, id.as_bytes(), code_of(reply), why)
         }
         Remark::Known(id) => {
-            refused_line(
-                alloc,
-                moment,
-                name,
-                id.as_bytes(),
-                code_of(reply),
-                "Duplicate",
-            )
+            let why = "Duplicate";
+            refused_line(alloc, moment, name, id.as_bytes(), code_of(reply), why)
         }
         Remark::Stored(Some(taken)) => stored_line(alloc, relay, moment, name, taken),
         Remark::Stored(None) => Err(AllocError),
