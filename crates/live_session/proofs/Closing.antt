@@ -51,7 +51,7 @@ FitsDue before (Offers transfer id) after = is_running after.phase ≡ true
 FitsDue before (Looks part id) after = is_running after.phase ≡ true
 FitsDue before (Reads asked token had) after = is_running after.phase ≡ true
 FitsDue before (TakesQueue feed most) after = is_running after.phase ≡ true
-FitsDue before (Refuses transfer id) after = is_running after.phase ≡ true
+FitsDue before (Refuses transfer id reason) after = is_running after.phase ≡ true
 FitsDue before (Takes transfer id article) after = is_running after.phase ≡ true
 FitsDue before (Pushes job) after = is_running after.phase ≡ true
 FitsDue before (LooksInSlot transfer id) after = is_running after.phase ≡ true
@@ -137,7 +137,7 @@ module _ (before : Session) where
   judged_fits one transfer id runs (Ok article) d e =
       due_is before (Takes transfer id article) one runs d e
   judged_fits one transfer id runs (Err reason) d e =
-      due_is before (Refuses transfer id) one runs d e
+      due_is before (Refuses transfer id reason) one runs d e
 
   -- a block
   block_fits : (w : Terms) (one : Session) (transfer : Transfer) (id : Option (List ℕ)) (now : ℕ)
@@ -278,7 +278,7 @@ heard_ends s before after (Reads asked token had) told heard ends fits e =
     read_ends after fits heard asked token had e.0 (goes_on asked token had e.0) e.2
 heard_ends s before after (TakesQueue feed most) told heard ends fits e =
     heard_is heard _ e.3 (runs_on after fits)
-heard_ends s before after (Refuses transfer id) told heard ends fits e =
+heard_ends s before after (Refuses transfer id reason) told heard ends fits e =
     heard_is heard _ e (runs_on after fits)
 heard_ends s before after (Takes transfer id article) told heard ends fits e =
     heard_is heard _ e.2
@@ -317,8 +317,8 @@ any_ends s before after (Looks part id) told heard ends fits e =
     heard_ends s before after (Looks part id) told heard ends fits e
 any_ends s before after (TakesQueue feed most) told heard ends fits e =
     heard_ends s before after (TakesQueue feed most) told heard ends fits e
-any_ends s before after (Refuses transfer id) told heard ends fits e =
-    heard_ends s before after (Refuses transfer id) told heard ends fits e
+any_ends s before after (Refuses transfer id reason) told heard ends fits e =
+    heard_ends s before after (Refuses transfer id reason) told heard ends fits e
 any_ends s before after (Takes transfer id article) told heard ends fits e =
     heard_ends s before after (Takes transfer id article) told heard ends fits e
 any_ends s before after (Pushes job) told heard ends fits e =

@@ -33,7 +33,7 @@ reads_block (asks.Leaves reply) = false
 reads_block (asks.Offers transfer id) = false
 reads_block (asks.Looks part id) = false
 reads_block (asks.TakesQueue feed most) = false
-reads_block (asks.Refuses transfer id) = false
+reads_block (asks.Refuses transfer id reason) = false
 reads_block (asks.Takes transfer id article) = false
 reads_block (asks.Pushes job) = false
 reads_block (asks.LooksInSlot transfer id) = false
@@ -52,7 +52,7 @@ plain_answer (asks.Leaves reply) gathered answer told plain is = is
 plain_answer (asks.Offers transfer id) gathered answer told plain is = is
 plain_answer (asks.Looks part id) gathered answer told plain is = is
 plain_answer (asks.TakesQueue feed most) gathered answer told plain is = is
-plain_answer (asks.Refuses transfer id) gathered answer told plain is = is
+plain_answer (asks.Refuses transfer id reason) gathered answer told plain is = is
 plain_answer (asks.Takes transfer id article) gathered answer told plain is = is
 plain_answer (asks.Pushes job) gathered answer told plain is = is
 plain_answer (asks.LooksInSlot transfer id) gathered answer told plain is = is
@@ -76,7 +76,7 @@ none_read (asks.Leaves reply) none = refl
 none_read (asks.Offers transfer id) none = refl
 none_read (asks.Looks part id) none = refl
 none_read (asks.TakesQueue feed most) none = refl
-none_read (asks.Refuses transfer id) none = refl
+none_read (asks.Refuses transfer id reason) none = refl
 none_read (asks.Takes transfer id article) none = refl
 none_read (asks.Pushes job) none = refl
 none_read (asks.LooksInSlot transfer id) none = refl
@@ -94,7 +94,7 @@ none_gathered (asks.Leaves reply) read told gathered plain = refl
 none_gathered (asks.Offers transfer id) read told gathered plain = refl
 none_gathered (asks.Looks part id) read told gathered plain = refl
 none_gathered (asks.TakesQueue feed most) read told gathered plain = refl
-none_gathered (asks.Refuses transfer id) read told gathered plain = refl
+none_gathered (asks.Refuses transfer id reason) read told gathered plain = refl
 none_gathered (asks.Takes transfer id article) read told gathered plain = refl
 none_gathered (asks.Pushes job) read told gathered plain = refl
 none_gathered (asks.LooksInSlot transfer id) read told gathered plain = refl
@@ -139,7 +139,7 @@ read_or_not (asks.Leaves reply) = inr refl
 read_or_not (asks.Offers transfer id) = inr refl
 read_or_not (asks.Looks part id) = inr refl
 read_or_not (asks.TakesQueue feed most) = inr refl
-read_or_not (asks.Refuses transfer id) = inr refl
+read_or_not (asks.Refuses transfer id reason) = inr refl
 read_or_not (asks.Takes transfer id article) = inr refl
 read_or_not (asks.Pushes job) = inr refl
 read_or_not (asks.LooksInSlot transfer id) = inr refl
@@ -263,8 +263,8 @@ module _ (s : ℕ) (old : Session) (answer : Answer) (said : List ℕ) (new : Se
       heard_other (asks.Looks part id) at (λ a. a) (λ heard a. a) is
   heard_any (asks.TakesQueue feed most) at is =
       heard_other (asks.TakesQueue feed most) at (λ a. a) (λ heard a. a) is
-  heard_any (asks.Refuses transfer id) at is =
-      heard_other (asks.Refuses transfer id) at (λ a. a) (λ heard a. a) is
+  heard_any (asks.Refuses transfer id reason) at is =
+      heard_other (asks.Refuses transfer id reason) at (λ a. a) (λ heard a. a) is
   heard_any (asks.Takes transfer id article) at is =
       heard_other (asks.Takes transfer id article) at (λ a. a) (λ heard a. a) is
   heard_any (asks.Pushes job) at is =

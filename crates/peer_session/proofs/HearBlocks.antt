@@ -8,6 +8,7 @@ use Rattle.relay_model.specs.Asks as asks
 use Rattle.relay_model.specs.Asks.{Due, due_as}
 use Rattle.relay_model.specs.Hears as hears
 use Rattle.relay_model.specs.Hears.{Heard, says, take_heard}
+use Rattle.relay_model.specs.Terms.{Reason}
 use Rattle.peer_session.specs.Hearing.{HeardIs, Heeds}
 use Rattle.peer_session.specs.Planning.{block_passed}
 use Rattle.peer_session.specs.Session.{transfer_view}
@@ -31,11 +32,13 @@ refuses s old new answer said planned read room todo arm = λ w m d gathered tol
     let had = has_other w old m d gathered answer (todos.Refuse room) read todo (λ e. cc) h in
     let transfer : Transfer = had.due_is.0 in
     let id : List ℕ = had.due_is.1 in
-    let due : Due = due_as (asks.Refuses (transfer_view transfer) id) (block_passed read old id) in
-    by_due w s d due gathered answer told said new had.due_is.3
+    let reason : Reason = had.due_is.2 in
+    let due : Due =
+    due_as (asks.Refuses (transfer_view transfer) id reason) (block_passed read old id) in
+    by_due w s d due gathered answer told said new had.due_is.4
     (λ is. let heard : Heard = says due.after (hears.rejected (transfer_view transfer) id) in
     heard_of w s due told said (with_planned old planned) new heard (refl {a = heard})
-    (arm transfer id is had.due_is.2) had.stands.limit)
+    (arm transfer id is had.due_is.3) had.stands.limit)
 
 -- an accepted article was answered
 pub takes : (s : ℕ) (old new : Session) (answer : Answer) (said : List ℕ)

@@ -4,6 +4,7 @@ use Rattle.std.proofs.Common.{Some, Ok, Err}
 use Rattle.buffer_group.specs.Jobs.{article_view}
 use Rattle.news_terms.specs.Blocks.{NextBlock, Unfinished, next_block}
 use Rattle.news_terms.specs.Reply.{SyntaxError}
+use Rattle.article_verdict.specs.Verdict.{reason_view}
 use Rattle.relay_model.specs.Asks.{Due, IsDue, IsDueIn, IsDueOfBlock, IsDueWhereOwing, due_as}
 use Rattle.relay_model.specs.Asks as asks
 use Rattle.relay_model.specs.State as model
@@ -113,10 +114,11 @@ plans_judged w session now read transfer id text one owes text_at
     subst (λ one. PlanFor w (session_view session) (gathered_of session.phase) now
     (record { todo = one.0; read = read; step = one.1 }) session) (sym is) (record {
       stands = stands_so w session limit has_all;
-      due = due_as (asks.Refuses (transfer_view transfer) id) (block_passed read session id);
+      due = due_as (asks.Refuses (transfer_view transfer) id (reason_view reason))
+          (block_passed read session id);
       is_due = due_of_block w session now read transfer (Some id) text _ owes limit text_at
-          (Err reason, judges, refl);
-      due_is = (transfer, id, owes, refl);
+          (Err (reason_view reason), judges, refl);
+      due_is = (transfer, id, reason_view reason, owes, refl);
       fits = tt;
       is_step = (transfer_view transfer, refl);
       asks_of = tt;

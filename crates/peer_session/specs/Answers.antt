@@ -1,8 +1,9 @@
 -- What the step of a session's plan is in the definitions, and what its answer is.
 use Rattle.std.specs.Prelude.{◌≡◌, ◌≢◌, ◌⊎◌, ℕ, ◌≤◌, ◌<◌, Bool, true, false, List, []}
-use Rattle.std.specs.Prelude.{length, map, option_map, Option, Some}
+use Rattle.std.specs.Prelude.{length, map, option_map, Option, None, Some}
 use Rattle.article_fetch.specs.Fetch.{Fetch, FoundAs}
 use Rattle.article_fetch.specs.declared.chunk.Chunk.{Chunk}
+use Rattle.article_verdict.specs.Verdict.{reason_view}
 use Rattle.cyc_token.specs.Token.{token_view}
 use Rattle.cyc_token.specs.declared.Token.{Token}
 use Rattle.feed_queue.specs.declared.desk.Taken.{Taken}
@@ -17,7 +18,7 @@ use Rattle.relay_model.specs.Claims.{Accepted}
 use Rattle.relay_model.specs.Fetches.{Fetched}
 use Rattle.relay_model.specs.Shares as shares
 use Rattle.relay_model.specs.State as model
-use Rattle.relay_model.specs.Terms.{Terms}
+use Rattle.relay_model.specs.Terms.{Terms, Reason}
 use Rattle.peer_session.specs.Session.{outcome_view}
 use Rattle.peer_session.specs.declared.phase.Todo.{Todo}
 use Rattle.peer_session.specs.declared.phase.Todo.TheVariants as todos
@@ -38,7 +39,7 @@ SharesNone (asks.Offers transfer id) = ⊥
 SharesNone (asks.Looks part id) = ⊥
 SharesNone (asks.Reads asked token had) = ⊥
 SharesNone (asks.TakesQueue feed most) = ⊥
-SharesNone (asks.Refuses transfer id) = ⊥
+SharesNone (asks.Refuses transfer id reason) = ⊥
 SharesNone (asks.Takes transfer id article) = ⊥
 SharesNone (asks.Pushes job) = ⊥
 SharesNone (asks.LooksInSlot transfer id) = ⊥
@@ -52,7 +53,8 @@ IsStepOf (steps.Look id) ask = (part : Part) × (ask ≡ asks.Looks part id)
 IsStepOf (steps.Read token k) ask =
     (asked : model.Asked) × (ask ≡ asks.Reads asked (token_view token) k)
 IsStepOf (steps.TakeQueue feed most) ask = ask ≡ asks.TakesQueue feed most
-IsStepOf (steps.Refuse id) ask = (transfer : model.Transfer) × (ask ≡ asks.Refuses transfer id)
+IsStepOf (steps.Refuse id reason) ask =
+    (transfer : model.Transfer) × (ask ≡ asks.Refuses transfer id (reason_view reason))
 IsStepOf (steps.Take id) ask =
     (transfer : model.Transfer) × (article : Accepted) × (ask ≡ asks.Takes transfer id article)
 IsStepOf (steps.Push group) ask =
@@ -60,6 +62,11 @@ IsStepOf (steps.Push group) ask =
 IsStepOf steps.Slot ask =
     (transfer : model.Transfer) × (id : List ℕ) × (ask ≡ asks.LooksInSlot transfer id)
 IsStepOf (steps.Release id) ask = ask ≡ asks.Releases id
+
+-- the reason for which a step refuses an article, if it does
+abbrev pub reason_in : Step → Option Reason
+reason_in (steps.Refuse id reason) = Some (reason_view reason)
+reason_in other = None
 
 -- what is asked is of the session's phase and hand, and of the terms: a fetch that is under way, or
 -- one that begins; the job in hand; a feed that is there
@@ -75,7 +82,7 @@ AsksOf w m gathered asks.Ends = Unit {0}
 AsksOf w m gathered (asks.Offers transfer id) = Unit {0}
 AsksOf w m gathered (asks.Looks part id) = Unit {0}
 AsksOf w m gathered (asks.TakesQueue feed most) = feed < length w.feeds
-AsksOf w m gathered (asks.Refuses transfer id) = Unit {0}
+AsksOf w m gathered (asks.Refuses transfer id reason) = Unit {0}
 AsksOf w m gathered (asks.Takes transfer id article) = Unit {0}
 AsksOf w m gathered (asks.LooksInSlot transfer id) = Unit {0}
 AsksOf w m gathered (asks.Releases id) = Unit {0}
@@ -113,7 +120,7 @@ IsAnswerTo (asks.Pushes job) gathered answer told =
 IsAnswerTo (asks.LooksInSlot transfer id) gathered answer told =
     (outcome : Option Outcome) × (answer ≡ answers.Slot outcome)
     × (told ≡ shares.InSlot (option_map outcome_view outcome))
-IsAnswerTo (asks.Refuses transfer id) gathered answer told = answer ≡ answers.Nothing
+IsAnswerTo (asks.Refuses transfer id reason) gathered answer told = answer ≡ answers.Nothing
 IsAnswerTo (asks.Releases id) gathered answer told = answer ≡ answers.Nothing
 IsAnswerTo asks.Rests gathered answer told = answer ≡ answers.Nothing
 IsAnswerTo asks.GoesOn gathered answer told = answer ≡ answers.Nothing

@@ -4,6 +4,8 @@ use Rattle.std.specs.Prelude.{Option, None, Some, Result, Ok, Err, vec_capacity,
 use Rattle.std.specs.declared.alloc.AllocError.{AllocError}
 use Rattle.std.specs.Global.{Vec}
 use Rattle.article_fetch.specs.Fetch.{Fetch, prepared_fetch}
+use Rattle.article_verdict.specs.Verdict.{reason_view}
+use Rattle.article_verdict.specs.declared.reasons.Reason.{Reason}
 use Rattle.buffer_group.specs.Jobs.{article_view}
 use Rattle.buffer_group.specs.declared.job.Accepted.{Accepted}
 use Rattle.buffer_group.specs.declared.job.Job.{Job}
@@ -20,7 +22,7 @@ use Rattle.relay_model.specs.Asks as asks
 use Rattle.relay_model.specs.Judging.{Judges}
 use Rattle.relay_model.specs.State as model
 use Rattle.relay_model.specs.State.{OpenOffer}
-use Rattle.relay_model.specs.Terms.{Terms, Reason}
+use Rattle.relay_model.specs.Terms.{Terms}
 use Rattle.stream_cut.specs.Stream.{Stream}
 use Rattle.peer_session.specs.Answers.{AsksOf, IsStepOf}
 use Rattle.peer_session.specs.Planning.{DueIs, FitsPhase, Plans, block_passed}
@@ -117,8 +119,8 @@ TextAt read text stream =
 -- what is asked of a text that was judged: it is refused, or taken; the reply has room for no items
 pub data IsJudged (w : Terms) (from now : ℕ) (id : List ℕ) (text : Option (List ℕ))
     (one : Todo × Step) : Type 0 where
-  IsRefused : (reason : Reason) → Judges w from id now text (Err reason)
-      → one ≡ (todos.Refuse 0, steps.Refuse id) → IsJudged w from now id text one
+  IsRefused : (reason : Reason) → Judges w from id now text (Err (reason_view reason))
+      → one ≡ (todos.Refuse 0, steps.Refuse id reason) → IsJudged w from now id text one
   IsAccepted : (article : Accepted) → Judges w from id now text (Ok (article_view article))
       → one ≡ (todos.Take id article 0, steps.Take id) → IsJudged w from now id text one
 

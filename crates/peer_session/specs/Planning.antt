@@ -10,7 +10,7 @@ use Rattle.relay_model.specs.Asks as asks
 use Rattle.relay_model.specs.Asks.{Due, IsDue, due_as, is_full, with_offer, without_offer}
 use Rattle.relay_model.specs.State as model
 use Rattle.relay_model.specs.State.{OpenOffer, in_phase, with_offers}
-use Rattle.relay_model.specs.Terms.{Terms}
+use Rattle.relay_model.specs.Terms.{Terms, Reason}
 use Rattle.peer_session.specs.Answers.{AsksOf, IsStepOf}
 use Rattle.peer_session.specs.Said.{IsReply}
 use Rattle.peer_session.specs.Session.{HasReadNone, Stands, passed, session_view, transfer_view}
@@ -63,8 +63,9 @@ DueIs todos.ReadOn read session d =
 DueIs (todos.Queue room) read session d =
     (feed : ℕ) × (d ≡ due_as (asks.TakesQueue feed room) (passed read session))
 DueIs (todos.Refuse room) read session d =
-    (transfer : Transfer) × (id : List ℕ) × (session.phase ≡ phases.AwaitsBlock transfer (Some id))
-    × (d ≡ due_as (asks.Refuses (transfer_view transfer) id) (block_passed read session id))
+    (transfer : Transfer) × (id : List ℕ) × (reason : Reason)
+    × (session.phase ≡ phases.AwaitsBlock transfer (Some id))
+    × (d ≡ due_as (asks.Refuses (transfer_view transfer) id reason) (block_passed read session id))
 DueIs (todos.Take copy article room) read session d =
     (transfer : Transfer) × (session.phase ≡ phases.AwaitsBlock transfer (Some copy))
     × (d ≡ due_as (asks.Takes (transfer_view transfer) copy (article_view article))

@@ -223,7 +223,7 @@ fn owed_asked(
                 Err(error)
             }
         },
-        Err(_) => Ok((Todo::Refuse(room), Step::Refuse(asked))),
+        Err(reason) => Ok((Todo::Refuse(room), Step::Refuse(asked, reason))),
     }
 }
 

@@ -1,5 +1,6 @@
 //! The session: what it plans, what it makes of an answer, and what comes to it.
 ghost use Rattle.std.specs.Prelude.{◌≡◌, ◌≢◌, ◌≤◌, [], length, IfOk, IsOk, OnErr};
+ghost use Rattle.std.specs.Option.{option_copied};
 ghost use Rattle.article_verdict.specs.Config.{terms_of};
 ghost use Rattle.news_terms.specs.Reply.{Reply};
 ghost use Rattle.relay_model.specs.Hears.{parts, says, silent};
@@ -140,6 +141,23 @@ impl Session {
             Phase::Holds(_, _, _) => true,
             _ => false,
         }
+    }
+
+    /// The job that it has accepted and hasn't pushed yet, if there is one.
+    pub fn in_hand(&self) -> Option<&Job>
+        ensures { option_copied result ≡ self.now.hand }
+    {
+        match &self.hand {
+            Some(job) => Some(job),
+            None => None,
+        }
+    }
+
+    /// How many offers it has open.
+    pub fn open_offers(&self) -> usize
+        ensures { result ≡ length (session_view self.now).offers }
+    {
+        self.offers.len()
     }
 
     /// Whether the plan is that nothing is due.

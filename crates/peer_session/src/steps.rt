@@ -1,5 +1,10 @@
 //! What a session asks of what is shared, and what it is answered.
+ghost use Rattle.std.specs.Prelude.{◌≡◌, option_map};
+ghost use Rattle.article_verdict.specs.Verdict.{reason_view};
+ghost use Rattle.peer_session.specs.Answers.{reason_in};
+
 use article_fetch::Chunk;
+use article_verdict::Reason;
 use cyc_token::Token;
 use feed_queue::Taken;
 use id_history::{Offer, Take};
@@ -18,8 +23,8 @@ pub enum Step {
     Read(Token, u32),
     /// At most so many tokens are taken of this feed's ring.
     TakeQueue(u16, usize),
-    /// The article of the id was refused.
-    Refuse(MsgId),
+    /// The article of the id was refused, for this reason.
+    Refuse(MsgId, Reason),
     /// The article of the id was accepted.
     Take(MsgId),
     /// The job in hand is pushed to the queue of this group, if that has room: then
@@ -29,6 +34,18 @@ pub enum Step {
     Slot,
     /// The session's own offer of the id is released.
     Release(MsgId),
+}
+
+impl Step {
+    /// The reason for which an article was refused, where the step is that.
+    pub fn reason(&self) -> Option<Reason>
+        ensures { option_map reason_view result ≡ reason_in self.now }
+    {
+        match self {
+            Step::Refuse(_, reason) => Some(*reason),
+            _ => None,
+        }
+    }
 }
 
 /// How the storing of an article ended.

@@ -7,6 +7,7 @@ use Rattle.std.specs.Prelude.{slice_get, slice_index}
 use Rattle.std.specs.declared.alloc.AllocError.{AllocError}
 use Rattle.article_verdict.specs.Config.{terms_of}
 use Rattle.cyc_block.specs.declared.store.BlockStore.{Ghosts}
+use Rattle.article_verdict.specs.declared.reasons.Reason.{Reason}
 use Rattle.cyc_token.specs.Token.{token_view}
 use Rattle.cyc_token.specs.declared.Token.{Token}
 use Rattle.feed_queue.specs.Feeds.{KeepsFeeds, ring_count}
@@ -43,6 +44,7 @@ use Rattle.relay_core.specs.Peers.{peer_at}
 use Rattle.relay_core.specs.declared.peers.Peer.{Peer}
 use Rattle.relay_core.proofs.Dispatch.{never}
 use Rattle.relay_core.proofs.Feeds.{ring_at}
+use Rattle.article_verdict.specs.declared.reasons.Reason.{Reason}
 use Rattle.relay_core.specs.Agreement.{AgreesBut, PeerIs, ring_sizes}
 use Rattle.relay_core.specs.Sharing.{AskFits, Gives, LeavesAll, SharesStep, queue_answer}
 use Rattle.relay_core.specs.declared.system.System.{System}
@@ -62,7 +64,7 @@ none_gives w x n now gathered (asks.Offers transfer id) none = absurd none
 none_gives w x n now gathered (asks.Looks part id) none = absurd none
 none_gives w x n now gathered (asks.Reads asked token had) none = absurd none
 none_gives w x n now gathered (asks.TakesQueue feed most) none = absurd none
-none_gives w x n now gathered (asks.Refuses transfer id) none = absurd none
+none_gives w x n now gathered (asks.Refuses transfer id reason) none = absurd none
 none_gives w x n now gathered (asks.Takes transfer id article) none = absurd none
 none_gives w x n now gathered (asks.Pushes job) none = absurd none
 none_gives w x n now gathered (asks.LooksInSlot transfer id) none = absurd none
@@ -181,9 +183,9 @@ module _ {S : Type 0} {g : Ghosts S} (n now : ℕ) (old : System S g) (peer : Pe
   pub refuse_shared : (id : List ℕ) (new : Shards)
       → ChangesClaim (KeepsAll old.shards) (KeepsAll new) id
       (λ claim. claims.after_refuse n now (claims.standing w.offers now claim))
-      → (step : Step) → step ≡ steps.Refuse id
+      → (reason : Reason) (step : Step) → step ≡ steps.Refuse id reason
       → SharesStep n now step old peer answers.Nothing (record old { shards = new }) peer
-  refuse_shared id new changes step e = λ leaving x m d gathered but slot fits planned asked some.
+  refuse_shared id new changes reason step e = λ leaving x m d gathered but slot fits planned asked some.
       let one = subst (λ (s : Step). IsStepOf s d.ask) e asked in
       let P : Ask → Type 0 = λ ask. Gives leaving w n now ask gathered x answers.Nothing
       (record old { shards = new }) peer.slot in (

@@ -1,5 +1,6 @@
 -- What a session says is the output.
-use Rattle.std.proofs.Common.{◌≡◌, ◌≢◌, ◌≤◌, ℕ, Bool, true, false, List, [], refl, sym, ap}
+use Rattle.std.proofs.Common.{◌≡◌, ◌≢◌, ◌≤◌, ℕ, Bool, true, false, List, [], Option}
+use Rattle.std.proofs.Common.{refl, sym, ap}
 use Rattle.std.proofs.Common.{◌∙◌, arith, true≢false, Vec}
 use Rattle.std.proofs.lemmas.Bool.{eqb-true}
 use Rattle.std.specs.Prelude.{length, vec_len, nat_eq}
@@ -11,24 +12,27 @@ use Rattle.peer_session.specs.declared.session.Session.{Session}
 use Rattle.peer_session.specs.declared.steps.Answer.{Answer}
 use Rattle.peer_session.specs.declared.steps.Answer.TheVariants as answers
 use Rattle.relay_model.specs.World as world
-use Rattle.relay_model.specs.World.{Fault, Said, output_of}
+use Rattle.relay_model.specs.Terms.{Reason}
+use Rattle.relay_model.specs.World.{Fault, Said, output_of, spoken}
 use Rattle.relay_core.specs.Turns.{HeardAs, HearsMemory}
 use Rattle.relay_core.specs.Views.{output_view}
 use Rattle.relay_core.specs.declared.event.Output.{Output}
 use Rattle.relay_core.specs.declared.event.Output.TheVariants as outputs
 
 -- what was heard is told, where the output shows whatever is said
-pub voiced : (n : ℕ) (old new : Session) (answer : Answer) (said : List ℕ) (output : Output)
+pub voiced : (n : ℕ) (why : Option Reason) (old new : Session) (answer : Answer) (said : List ℕ)
+    (output : Output)
     → Heeds n old answer said new
-    → ((s : Said) → IsSaid said (has_parted new) s → output_view output ≡ output_of n s)
-    → HeardAs n old answer output new
-voiced n old new answer said output heeds shows = λ w m d gathered told some planned is_answer.
+    → ((s : Said) → IsSaid said (has_parted new) s → output_view output ≡ output_of n s why)
+    → HeardAs n why old answer output new
+voiced n why old new answer said output heeds shows =
+    λ w m d gathered told for some planned is_answer.
     let h = heeds w m d gathered told planned is_answer in
     record {
       heard = h.heard;
       later = h.later;
       hears = h.hears;
-      output_is = shows h.heard.said h.is_said;
+      output_is = shows h.heard.said h.is_said ∙ ap (output_of n h.heard.said) (sym for);
       stands = h.stands;
       gathers = h.gathers;
     }
@@ -46,28 +50,32 @@ something_said said h none =
     true≢false (sym (ap (λ k. nat_eq k 0) size) ∙ h)
 
 -- nothing was said
-pub quiet : (n : ℕ) (said : Vec ℕ Global) (parted : Bool) → nat_eq (vec_len said) 0 ≡ true
-    → (s : Said) → IsSaid said.items parted s → output_view outputs.Quiet ≡ output_of n s
-quiet n said parted h world.Silent is = refl
-quiet n said parted h (world.Speaks reply) is = absurd (nothing_said said h is.0.some)
-quiet n said parted h (world.Parts reply) is = absurd (nothing_said said h is.0.some)
+pub quiet : (n : ℕ) (why : Option Reason) (said : Vec ℕ Global) (parted : Bool)
+    → nat_eq (vec_len said) 0 ≡ true
+    → (s : Said) → IsSaid said.items parted s → output_view outputs.Quiet ≡ output_of n s why
+quiet n why said parted h world.Silent is = refl
+quiet n why said parted h (world.Speaks reply) is = absurd (nothing_said said h is.0.some)
+quiet n why said parted h (world.Parts reply) is = absurd (nothing_said said h is.0.some)
 
 -- a last reply was said
-pub ended : (n : ℕ) (said : Vec ℕ Global) (parted : Bool) → nat_eq (vec_len said) 0 ≡ false
+pub ended : (n : ℕ) (why : Option Reason) (said : Vec ℕ Global) (parted : Bool)
+    → nat_eq (vec_len said) 0 ≡ false
     → parted ≡ true → (s : Said) → IsSaid said.items parted s
-    → output_view (outputs.Ended n said.items) ≡ output_of n s
-ended n said parted h right world.Silent is = absurd (something_said said h is)
-ended n said parted h right (world.Speaks reply) is =
+    → output_view (outputs.Ended n said.items) ≡ output_of n s why
+ended n why said parted h right world.Silent is = absurd (something_said said h is)
+ended n why said parted h right (world.Speaks reply) is =
     absurd (true≢false (sym right ∙ is.1))
-ended n said parted h right (world.Parts reply) is = ap (world.Ended n) is.0.text
+ended n why said parted h right (world.Parts reply) is = ap (world.Ended n) is.0.text
 
 -- another reply was said
-pub sent : (n : ℕ) (said : Vec ℕ Global) (parted : Bool) → nat_eq (vec_len said) 0 ≡ false
+pub sent : (n : ℕ) (why : Option Reason) (said : Vec ℕ Global) (parted : Bool)
+    → nat_eq (vec_len said) 0 ≡ false
     → parted ≡ false → (s : Said) → IsSaid said.items parted s
-    → output_view (outputs.Sent n said.items) ≡ output_of n s
-sent n said parted h wrong world.Silent is = absurd (something_said said h is)
-sent n said parted h wrong (world.Speaks reply) is = ap (world.Sent n) is.0.text
-sent n said parted h wrong (world.Parts reply) is =
+    → spoken n said.items why ≡ output_of n s why
+sent n why said parted h wrong world.Silent is = absurd (something_said said h is)
+sent n why said parted h wrong (world.Speaks reply) is =
+    ap (λ (octets : List ℕ). spoken n octets why) is.0.text
+sent n why said parted h wrong (world.Parts reply) is =
     absurd (true≢false (sym is.1 ∙ wrong))
 
 -- an answer that isn't want of memory isn't told so

@@ -8,7 +8,7 @@ use Rattle.cyc_block.specs.declared.store.BlockStore.{Ghosts}
 use Rattle.relay_model.specs.Run as run
 use Rattle.relay_model.specs.Run.{Event, first_of_two, is_reading, is_running, is_taken, is_there}
 use Rattle.relay_model.specs.Run.{refusal, takes_memory}
-use Rattle.relay_model.specs.Terms.{last_moment}
+use Rattle.relay_model.specs.Terms.{Reason, last_moment}
 use Rattle.relay_model.specs.World as world
 use Rattle.relay_model.specs.World.{Fault, World}
 use Rattle.relay_core.specs.Refusals.{IsInOrder, HasGroupWriters, RefusesRightly, seen}
@@ -37,6 +37,7 @@ none_some e = cc
 abbrev pub is_refusal : world.Output → Bool
 is_refusal world.Quiet = false
 is_refusal (world.Sent session octets) = false
+is_refusal (world.Rejects session octets reason) = false
 is_refusal (world.Ended session octets) = false
 is_refusal (world.Refuses fault) = true
 
@@ -44,6 +45,12 @@ is_refusal (world.Refuses fault) = true
 pub never_refuses : (output : world.Output) (fault : Fault) → output ≡ world.Refuses fault
     → is_refusal output ≡ false → ⊥
 never_refuses output fault is other = true≢false (sym (ap is_refusal is) ∙ other)
+
+-- what is said refuses no event
+pub spoken_is_said : (s : ℕ) (octets : List ℕ) (why : Option Reason)
+    → is_refusal (world.spoken s octets why) ≡ false
+spoken_is_said s octets None = refl
+spoken_is_said s octets (Some reason) = refl
 
 module _ {S : Type 0} {g : Ghosts S} (s : System S g) where
   -- the first reason to refuse the event by what is seen

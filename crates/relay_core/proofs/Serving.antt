@@ -1,6 +1,6 @@
 -- A Turn with its peer taken out: plan, share and hear are one Turn of the definitions.
 use Rattle.std.proofs.Common.{◌≡◌, ◌≢◌, ◌<◌, ◌+◌, ℕ, Bool, true, false, List}
-use Rattle.std.proofs.Common.{Option, Some, refl, sym, ap, subst, ◌∙◌, ⊎_elim, arith}
+use Rattle.std.proofs.Common.{Option, None, Some, refl, sym, ap, subst, ◌∙◌, ⊎_elim, arith}
 use Rattle.std.proofs.lemmas.Bool.Decides.{nat_tests}
 use Rattle.std.proofs.lemmas.Option.{slice_get_within}
 use Rattle.std.specs.Prelude.{length, nat_lt}
@@ -9,15 +9,16 @@ use Rattle.cyc_block.specs.declared.store.BlockStore.{Ghosts}
 use Rattle.news_terms.specs.Command as commands
 use Rattle.news_terms.specs.Places.{size_of}
 use Rattle.news_terms.specs.Token as terms
-use Rattle.peer_session.specs.Answers.{AsksOf}
+use Rattle.peer_session.specs.Answers.{AsksOf, IsStepOf, SharesNone, reason_in}
 use Rattle.peer_session.specs.Hearing.{Gathers}
 use Rattle.peer_session.specs.Planning.{DueGiven, Planned}
 use Rattle.peer_session.specs.declared.session.Session.{Session}
 use Rattle.peer_session.specs.declared.steps.Answer.TheVariants as answers
 use Rattle.peer_session.specs.declared.steps.Outcome.{Outcome}
 use Rattle.peer_session.specs.declared.steps.Step.{Step}
+use Rattle.peer_session.specs.declared.steps.Step.TheVariants as steps
 use Rattle.relay_model.specs.Asks as asks
-use Rattle.relay_model.specs.Asks.{Ask, Due, IsDue}
+use Rattle.relay_model.specs.Asks.{Ask, Due, IsDue, reason_of}
 use Rattle.relay_model.specs.Claims as claims
 use Rattle.relay_model.specs.Fetches as fetches
 use Rattle.relay_model.specs.Fetches.{Fetched, text_under}
@@ -69,7 +70,7 @@ ask_fits w x n m gathered well there front (asks.Leaves reply) of = tt
 ask_fits w x n m gathered well there front asks.Ends of = tt
 ask_fits w x n m gathered well there front (asks.Offers transfer id) of = tt
 ask_fits w x n m gathered well there front (asks.Looks part id) of = tt
-ask_fits w x n m gathered well there front (asks.Refuses transfer id) of = tt
+ask_fits w x n m gathered well there front (asks.Refuses transfer id reason) of = tt
 ask_fits w x n m gathered well there front (asks.Takes transfer id article) of = tt
 ask_fits w x n m gathered well there front (asks.LooksInSlot transfer id) of = tt
 ask_fits w x n m gathered well there front (asks.Releases id) of = tt
@@ -97,7 +98,7 @@ kept_stays w x n now asks.Ends told y h = ap (λ (z : World). z.state.kept) h.1
 kept_stays w x n now (asks.Offers transfer id) told y h = ap (λ (z : World). z.state.kept) h.1
 kept_stays w x n now (asks.Looks part id) told y h = ap (λ (z : World). z.state.kept) h.1
 kept_stays w x n now (asks.TakesQueue feed most) told y h = ap (λ (z : World). z.state.kept) h.1
-kept_stays w x n now (asks.Refuses transfer id) told y h = ap (λ (z : World). z.state.kept) h.1
+kept_stays w x n now (asks.Refuses transfer id reason) told y h = ap (λ (z : World). z.state.kept) h.1
 kept_stays w x n now (asks.Takes transfer id article) told y h =
     ap (λ (z : World). z.state.kept) h.1
 kept_stays w x n now (asks.LooksInSlot transfer id) told y h =
@@ -201,6 +202,36 @@ fronts_after w x n now m d told y heard later due shares hears (model.Waits tran
 fronts_after w x n now m d told y heard later due shares hears model.Leaving at gathers = gathers
 fronts_after w x n now m d told y heard later due shares hears model.Ended at gathers = gathers
 
+-- what a step that shares nothing asks refuses no article
+none_refused : (ask : Ask) → SharesNone ask → reason_of ask ≡ None
+none_refused asks.Rests none = refl
+none_refused asks.GoesOn none = refl
+none_refused (asks.Says reply) none = refl
+none_refused (asks.Leaves reply) none = refl
+none_refused asks.Ends none = refl
+none_refused (asks.Offers transfer id) none = absurd none
+none_refused (asks.Looks part id) none = absurd none
+none_refused (asks.Reads asked token had) none = absurd none
+none_refused (asks.TakesQueue feed most) none = absurd none
+none_refused (asks.Refuses transfer id reason) none = absurd none
+none_refused (asks.Takes transfer id article) none = absurd none
+none_refused (asks.Pushes job) none = absurd none
+none_refused (asks.LooksInSlot transfer id) none = absurd none
+none_refused (asks.Releases id) none = absurd none
+
+-- a step refuses an article for the reason that is asked
+reason_is : (step : Step) (ask : Ask) → IsStepOf step ask → reason_of ask ≡ reason_in step
+reason_is steps.Nothing ask is = none_refused ask is
+reason_is (steps.Offer id) ask is = ap reason_of is.1
+reason_is (steps.Look id) ask is = ap reason_of is.1
+reason_is (steps.Read token k) ask is = ap reason_of is.1
+reason_is (steps.TakeQueue feed most) ask is = ap reason_of is
+reason_is (steps.Refuse id reason) ask is = ap reason_of is.1
+reason_is (steps.Take id) ask is = ap reason_of is.2
+reason_is (steps.Push group) ask is = ap reason_of is.1
+reason_is steps.Slot ask is = ap reason_of is.2
+reason_is (steps.Release id) ask is = ap reason_of is
+
 module _ {S : Type 0} {g : Ghosts S} (n now : ℕ) (old : System S g) (peer : Peer)
     (session : Session) (step : Step) (new : System S g) (peer' : Peer) (output : Output) where
   -- a plan and its step make a Turn
@@ -216,7 +247,8 @@ module _ {S : Type 0} {g : Ghosts S} (n now : ℕ) (old : System S g) (peer : Pe
       let s = taken.shared leaving x m p.due stands.gathered but stands.slot_is fits p.planned
       p.is_step some in
       let gives = s.0 in
-      let v = taken.heard w m p.due stands.gathered gives.told some s.1 gives.answers in
+      let v = taken.heard w m p.due stands.gathered gives.told
+      (reason_is step p.due.ask p.is_step) some s.1 gives.answers in
       record {
         between = gives.between;
         session = v.heard.session;

@@ -138,6 +138,7 @@ by_memory : {A : Type 0} (output : Output) → (output ≡ outputs.Refused fault
     → (output ≢ outputs.Refused faults.Memory → A) → A
 by_memory outputs.Quiet memory other = other (λ e. cc)
 by_memory (outputs.Sent s octets) memory other = other (λ e. cc)
+by_memory (outputs.Rejected s octets reason) memory other = other (λ e. cc)
 by_memory (outputs.Ended s octets) memory other = other (λ e. cc)
 by_memory (outputs.Refused faults.Memory) memory other = memory refl
 by_memory (outputs.Refused faults.NoSession) memory other = other (λ e. cc)

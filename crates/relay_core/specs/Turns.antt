@@ -1,8 +1,8 @@
 -- What a Turn does with its session's peer taken out.
-use Rattle.std.specs.Prelude.{◌≡◌, ◌≢◌, ℕ, Bool, true, false, List, Some}
+use Rattle.std.specs.Prelude.{◌≡◌, ◌≢◌, ℕ, Bool, true, false, List, Option, Some}
 use Rattle.article_verdict.specs.Config.{terms_of}
 use Rattle.cyc_block.specs.declared.store.BlockStore.{Ghosts}
-use Rattle.peer_session.specs.Answers.{IsAnswerTo, handed}
+use Rattle.peer_session.specs.Answers.{IsAnswerTo, handed, reason_in}
 use Rattle.peer_session.specs.Hearing.{Forgets, Gathers}
 use Rattle.peer_session.specs.Planning.{Planned}
 use Rattle.peer_session.specs.Session.{Stands, session_view}
@@ -10,13 +10,13 @@ use Rattle.peer_session.specs.declared.session.Session.{Session}
 use Rattle.peer_session.specs.declared.steps.Answer.{Answer}
 use Rattle.peer_session.specs.declared.steps.Answer.TheVariants as answers
 use Rattle.peer_session.specs.declared.steps.Step.{Step}
-use Rattle.relay_model.specs.Asks.{Due}
+use Rattle.relay_model.specs.Asks.{Due, reason_of}
 use Rattle.relay_model.specs.Hears.{Heard, Hears}
 use Rattle.relay_model.specs.Invariants.{IsWell}
 use Rattle.relay_model.specs.Run.{Turns, is_running}
 use Rattle.relay_model.specs.Shares as shares
 use Rattle.relay_model.specs.State as model
-use Rattle.relay_model.specs.Terms.{Terms}
+use Rattle.relay_model.specs.Terms.{Terms, Reason}
 use Rattle.relay_model.specs.World.{Fault, Refuses, World, with_session, output_of}
 use Rattle.relay_core.specs.Peers.{ClosesPeer, GivesPeer}
 use Rattle.relay_core.specs.declared.peers.Peer.{Peer}
@@ -37,15 +37,16 @@ pub record Voiced (w : Terms) (n : ℕ) (d : Due) (told : shares.Answer) (output
   pub heard : Heard
   pub later : List ℕ
   pub hears : Hears n d.after d.ask told heard
-  pub output_is : output_view output ≡ output_of n heard.said
+  pub output_is : output_view output ≡ output_of n heard.said (reason_of d.ask)
   pub stands : Stands w new heard.session later
   pub gathers : Gathers d.ask told heard.session.phase later
 
--- the session heard an answer that isn't want of memory
-abbrev pub HeardAs : ℕ → Session → Answer → Output → Session → Type 0
-HeardAs n old answer output new =
+-- the session heard an answer that isn't want of memory; an article is refused for this reason,
+-- where there is one
+abbrev pub HeardAs : ℕ → (why : Option Reason) → Session → Answer → Output → Session → Type 0
+HeardAs n why old answer output new =
     (w : Terms) (m : model.Session) (d : Due) (gathered : List ℕ) (told : shares.Answer)
-    → answer ≢ answers.Memory → Planned w old m d gathered (handed answer)
+    → reason_of d.ask ≡ why → answer ≢ answers.Memory → Planned w old m d gathered (handed answer)
     → IsAnswerTo d.ask gathered answer told → Voiced w n d told output new
 
 -- want of memory is told as it is, and forgets what was planned; nothing else is told so
@@ -63,7 +64,7 @@ pub record StepTaken {S : Type 0} {g : Ghosts S} (n now : ℕ) (step : Step) (ol
   pub between : Peer
   pub shared : SharesStep n now step old peer answer new between
   pub left : answer ≡ answers.Memory → LeavesAll n old peer new between
-  pub heard : HeardAs n between.session answer output peer'.session
+  pub heard : HeardAs n (reason_in step) between.session answer output peer'.session
   pub memory : HearsMemory between.session answer output peer'.session
   pub same_slot : peer'.slot ≡ between.slot
   pub frame : KeepsFrame old new

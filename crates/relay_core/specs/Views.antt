@@ -1,5 +1,6 @@
 -- Events and outputs of the code as the definitions have them (docs/PROTOCOL.md, Events and
 -- outputs).
+use Rattle.article_verdict.specs.Verdict.{reason_view}
 use Rattle.relay_model.specs.Run as run
 use Rattle.relay_model.specs.World as world
 use Rattle.relay_core.specs.declared.event.CoreError.{CoreError}
@@ -35,5 +36,7 @@ fault_view faults.NotRestarted = world.NotRestarted
 abbrev pub output_view : Output → world.Output
 output_view outputs.Quiet = world.Quiet
 output_view (outputs.Sent session octets) = world.Sent session octets
+output_view (outputs.Rejected session octets reason) =
+    world.Rejects session octets (reason_view reason)
 output_view (outputs.Ended session octets) = world.Ended session octets
 output_view (outputs.Refused error) = world.Refuses (fault_view error)

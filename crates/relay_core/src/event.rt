@@ -1,4 +1,5 @@
 //! What happens to the relay, and what it answers.
+use article_verdict::Reason;
 use line_words::Octets;
 
 /// What happens to the relay (docs/PROTOCOL.md, Events and outputs). Sessions, peers and groups are
@@ -28,6 +29,8 @@ pub enum Output {
     Quiet,
     /// These octets go to the session.
     Sent(u64, Octets),
+    /// These octets go to the session, whose article is refused for this reason.
+    Rejected(u64, Octets, Reason),
     /// These octets go to the session, which leaves.
     Ended(u64, Octets),
     /// The event is refused, and nothing that is kept changed.

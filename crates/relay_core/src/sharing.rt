@@ -43,7 +43,7 @@ impl<S: BlockStore> System<S> {
             Step::Look(id) => Answer::Look(self.shards.look(id)),
             Step::Read(_, _) => unreachable!(),
             Step::TakeQueue(feed, most) => queue_answer(self.desk.take(self.alloc, *feed, *most)),
-            Step::Refuse(id) => match self.shards.refuse(id, number, now, lasting) {
+            Step::Refuse(id, _) => match self.shards.refuse(id, number, now, lasting) {
                 Ok(()) => Answer::Nothing,
                 Err(_) => Answer::Memory,
             },

@@ -1,15 +1,19 @@
 //! A Turn: a session plans, its step is done, and it hears the answer.
-ghost use Rattle.std.specs.Prelude.{◌≤◌};
+ghost use Rattle.std.specs.Prelude.{◌≡◌, ◌≤◌, option_map};
+ghost use Rattle.article_verdict.specs.Verdict.{reason_view};
 ghost use Rattle.peer_session.specs.Session.{session_view};
 ghost use Rattle.relay_core.specs.Turns.{HearsMemory, HeardAs, PutsBack};
 ghost use Rattle.relay_model.specs.Run.{is_running};
+ghost use Rattle.relay_model.specs.World as world;
 ghost use Rattle.relay_core.specs.Peers.{HasPlace};
+ghost use Rattle.relay_core.specs.Views.{output_view};
 ghost use Rattle.relay_model.specs.Terms.{last_moment};
 
 use crate::event::{CoreError, Output};
 use crate::peers::{Peer, Peers};
 use crate::reading::read_chunk;
 use crate::system::System;
+use article_verdict::Reason;
 use cyc_block::{BlockStore, CHUNK_OCTETS};
 use cyc_token::Token;
 use id_history::LAST_MOMENT;
@@ -76,9 +80,10 @@ impl<S: BlockStore> System<S> {
                 self.take_read(peer, number, token, k)
             }
             _ => {
+                let why = step.reason();
                 let answer = self.share(peer, number, &step, now);
                 drop(step);
-                hear(&mut peer.session, number, answer)
+                hear(&mut peer.session, number, answer, why)
             }
         }
     }
@@ -91,7 +96,7 @@ impl<S: BlockStore> System<S> {
     {
         let mut room = [0; CHUNK_OCTETS];
         let chunk = read_chunk(&mut self.buffer_set, &token, k, &mut room);
-        hear(&mut peer.session, number, Answer::Chunk(chunk))
+        hear(&mut peer.session, number, Answer::Chunk(chunk), None)
     }
 }
 
@@ -108,9 +113,11 @@ fn take_back(peers: &mut Peers, number: u64, peer: Peer)
     }
 }
 
-/// A session hears the answer to what it planned.
-fn hear(session: &mut Session, number: u64, answer: Answer<'_>) -> Output
-    ensures heard { HeardAs number session.old answer.entry result session.new }
+/// A session hears the answer to what it planned: that an article was refused for this reason, where
+/// there is one.
+fn hear(session: &mut Session, number: u64, answer: Answer<'_>, why: Option<Reason>) -> Output
+    ensures heard { HeardAs number (option_map reason_view why) session.old answer.entry result
+        session.new }
     ensures memory { HearsMemory session.old answer.entry result session.new }
 {
     if let Answer::Memory = answer {
@@ -123,6 +130,16 @@ fn hear(session: &mut Session, number: u64, answer: Answer<'_>) -> Output
     } else if session.has_parted() {
         Output::Ended(number, Octets::new(said))
     } else {
-        Output::Sent(number, Octets::new(said))
+        spoken(number, Octets::new(said), why)
+    }
+}
+
+/// These octets go to a session that doesn't leave.
+fn spoken(number: u64, octets: Octets, why: Option<Reason>) -> Output
+    ensures { output_view result ≡ world.spoken number octets (option_map reason_view why) }
+{
+    match why {
+        Some(reason) => Output::Rejected(number, octets, reason),
+        None => Output::Sent(number, octets),
     }
 }

@@ -86,7 +86,7 @@ AskOwn (Offers transfer id) = Unit {0}
 AskOwn (Looks part id) = Unit {0}
 AskOwn (Reads asked token had) = Unit {0}
 AskOwn (TakesQueue feed most) = Unit {0}
-AskOwn (Refuses transfer id) = Unit {0}
+AskOwn (Refuses transfer id reason) = Unit {0}
 AskOwn (Takes transfer id article) = IsOf id article.text
 AskOwn (Pushes job) = Unit {0}
 AskOwn (LooksInSlot transfer id) = Unit {0}
@@ -179,7 +179,7 @@ article_own w sound one own transfer id now text peer inside (Ok article) d judg
     due_is (Takes transfer id article) one
     (judged_own w sound peer inside id now text article judges) own d e
 article_own w sound one own transfer id now text peer inside (Err reason) d judges e =
-    due_is (Refuses transfer id) one tt own d e
+    due_is (Refuses transfer id reason) one tt own d e
 
 -- a block
 block_own : (w : Terms) → IsSound w → (one : Session) → one.peer < length w.peers

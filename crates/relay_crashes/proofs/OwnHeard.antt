@@ -79,7 +79,7 @@ hears_own s session (Looks part id) answer heard asks own is =
 hears_own s session (Reads asked token had) answer heard asks own is =
     read_own session asked token had is.0 (goes_on asked token had is.0) heard own is.2
 hears_own s session (TakesQueue feed most) answer heard asks own is = heard_own heard _ is.3 own
-hears_own s session (Refuses transfer id) answer heard asks own is = heard_own heard _ is own
+hears_own s session (Refuses transfer id reason) answer heard asks own is = heard_own heard _ is own
 hears_own s session (Takes transfer id article) answer heard asks own is =
     heard_own heard _ is.2 (taken_own s session transfer id article is.0 asks own)
 hears_own s session (Pushes job) answer heard asks own is =

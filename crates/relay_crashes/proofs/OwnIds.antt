@@ -135,7 +135,7 @@ shared_own w x s now (Reads asked token had) answer y asks own is =
     claims_own x y (reading_claims w x token answer y is) own
 shared_own w x s now (TakesQueue feed most) answer y asks own is =
     claims_own x y (ap claims_in is.1) own
-shared_own w x s now (Refuses transfer id) answer y asks own is =
+shared_own w x s now (Refuses transfer id reason) answer y asks own is =
     alike_owns x y id (after_refuse s now (known_at w x now id)) (ap claims_in is.1)
     (refuse_alike w.offers s now (x.state.claim id)) own
 shared_own w x s now (Takes transfer id article) answer y asks own is =

@@ -133,7 +133,7 @@ shares_counted w x s now (Reads asked token had) answer y shares counted =
 shares_counted w x s now (TakesQueue feed most) answer y shares counted =
     subst (IsCounted w) (sym shares.1)
     (take_counted w x (ring_of (slice_get w.feeds feed)) feed most counted)
-shares_counted w x s now (Refuses transfer id) answer y shares counted =
+shares_counted w x s now (Refuses transfer id reason) answer y shares counted =
     subst (IsCounted w) (sym shares.1)
     (counted_still w x _ (λ g. refl) refl refl (λ f. refl) (λ g. refl) counted)
 shares_counted w x s now (Takes transfer id article) answer y shares counted =

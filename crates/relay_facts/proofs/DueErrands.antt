@@ -35,7 +35,7 @@ AskAwaits x s (Offers transfer id) = IsFree x s
 AskAwaits x s (Looks part id) = IsFree x s
 AskAwaits x s (Reads asked token had) = IsFree x s
 AskAwaits x s (TakesQueue feed most) = Unit {0}
-AskAwaits x s (Refuses transfer id) = Unit {0}
+AskAwaits x s (Refuses transfer id reason) = Unit {0}
 AskAwaits x s (Takes transfer id article) = IsFree x s
 AskAwaits x s (Pushes job) = Unit {0}
 AskAwaits x s (LooksInSlot transfer id) = WaitsFor x s id
@@ -123,7 +123,7 @@ judged_asks : (x : World) (s : ℕ) (one : Session) → Awaits x s one.phase →
 judged_asks x s one a free transfer id (Ok article) d e =
     due_is x s one (Takes transfer id article) a free d e
 judged_asks x s one a free transfer id (Err reason) d e =
-    due_is x s one (Refuses transfer id) a tt d e
+    due_is x s one (Refuses transfer id reason) a tt d e
 
 -- a block
 block_asks : (w : Terms) (x : World) (s : ℕ) (one : Session) → IsFree x s

@@ -47,7 +47,7 @@ AskFits w after (Offers transfer id) = after.hand ≡ None
 AskFits w after (Looks part id) = after.hand ≡ None
 AskFits w after (Reads asked token had) = after.hand ≡ None
 AskFits w after (TakesQueue feed most) = Unit {0}
-AskFits w after (Refuses transfer id) = Unit {0}
+AskFits w after (Refuses transfer id reason) = Unit {0}
 AskFits w after (Takes transfer id article) = (after.hand ≡ None) × IsSoundArticle w article
 AskFits w after (Pushes job) = after.hand ≡ Some job
 AskFits w after (LooksInSlot transfer id) = after.hand ≡ None
@@ -169,7 +169,7 @@ judged_fits w sound old s f none transfer id now text peer inside (Ok article) d
     due_is w old s (Takes transfer id article) f
     (none, judged_sound w sound peer inside id now text article judges) d e
 judged_fits w sound old s f none transfer id now text peer inside (Err reason) d judges e =
-    due_is w old s (Refuses transfer id) f tt d e
+    due_is w old s (Refuses transfer id reason) f tt d e
 
 -- a block
 block_fits : (w : Terms) → IsSound w → (old s : Session) → Follows w old s → s.hand ≡ None

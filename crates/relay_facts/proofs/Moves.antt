@@ -146,7 +146,7 @@ shared_same w x s now timed (Reads asked token had) answer y reads =
 shared_same w x s now timed (TakesQueue feed most) answer y e =
     moved x.state y (queue_taken x (ring_of (slice_get w.feeds feed)) feed most) e.1
     (queue_same x (ring_of (slice_get w.feeds feed)) feed most)
-shared_same w x s now timed (Refuses transfer id) answer y e =
+shared_same w x s now timed (Refuses transfer id reason) answer y e =
     moved x.state y (with_claim x id (after_refuse s now (known_at w x now id))) e.1
     (claim_changes x id (after_refuse s now (known_at w x now id))
     (refuse_goes w.offers s now timed (x.state.claim id)))

@@ -330,7 +330,7 @@ asked_awaited w x s now after is a (TakesQueue feed most) asks answer y heard sh
     settle x s is (queue_taken x (ring_of (slice_get w.feeds feed)) feed most) y after heard
     shares.1 (session_of hears.3)
     (leaves_feed x s (ring_of (slice_get w.feeds feed)) feed most after) (λ t. refl) a
-asked_awaited w x s now after is a (Refuses transfer id) asks answer y heard shares hears =
+asked_awaited w x s now after is a (Refuses transfer id reason) asks answer y heard shares hears =
     settle x s is (with_claim x id (after_refuse s now (known_at w x now id))) y after heard
     shares.1
     (session_of hears)

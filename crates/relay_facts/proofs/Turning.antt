@@ -314,7 +314,7 @@ asked_orderly w x s now old after there is f (TakesQueue feed most) fits answer 
     settle w x s old there is (queue_taken x (ring_of (slice_get w.feeds feed)) feed most) y after
     heard shares.1
     (session_of hears.3) f (leaves_feed x s (ring_of (slice_get w.feeds feed)) feed most after)
-asked_orderly w x s now old after there is f (Refuses transfer id) fits answer y heard shares
+asked_orderly w x s now old after there is f (Refuses transfer id reason) fits answer y heard shares
     hears =
     settle w x s old there is (with_claim x id (after_refuse s now (known_at w x now id))) y after
     heard shares.1 (session_of hears) f

@@ -56,7 +56,7 @@ reading (Offers transfer id) = None
 reading (Looks part id) = None
 reading (Reads asked token had) = by_id asked token
 reading (TakesQueue feed most) = None
-reading (Refuses transfer id) = None
+reading (Refuses transfer id reason) = None
 reading (Takes transfer id article) = None
 reading (Pushes job) = None
 reading (LooksInSlot transfer id) = None
@@ -301,7 +301,7 @@ heard_comes s after (Reads asked token had) answer heard none h other is =
     is)
 heard_comes s after (TakesQueue feed most) answer heard none h token is =
     never heard _ (session_of h.3) none is
-heard_comes s after (Refuses transfer id) answer heard none h token is =
+heard_comes s after (Refuses transfer id reason) answer heard none h token is =
     never heard _ (session_of h) none is
 heard_comes s after (Takes transfer id article) answer heard none h token is =
     never heard _ (session_of h.2) (take_phase s after none transfer id article h.0) is

@@ -37,6 +37,7 @@ mod Premises
 pub mod ReadFronts
 pub mod Reasons
 mod Recording
+mod RefusalDues
 pub mod Remembered
 mod RingArticles
 pub mod Runs

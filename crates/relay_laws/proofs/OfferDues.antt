@@ -35,7 +35,7 @@ DueOffers now before (Offers transfer id) after = after ≡ with_offer before id
 DueOffers now before (Looks part id) after = after ≡ before
 DueOffers now before (Reads asked token had) after = after ≡ before
 DueOffers now before (TakesQueue feed most) after = after ≡ before
-DueOffers now before (Refuses transfer id) after = after ≡ without_offer before id
+DueOffers now before (Refuses transfer id reason) after = after ≡ without_offer before id
 DueOffers now before (Takes transfer id article) after =
     (after ≡ without_offer before id) ⊎ (after ≡ before)
 DueOffers now before (Pushes job) after = after ≡ before
@@ -122,7 +122,7 @@ judged_offers : (now : ℕ) (before : List OpenOffer) (one : Session) (transfer 
 judged_offers now before one transfer id ends (Ok article) d e =
     due_is now before (Takes transfer id article) one (inl ends) d e
 judged_offers now before one transfer id ends (Err reason) d e =
-    due_is now before (Refuses transfer id) one ends d e
+    due_is now before (Refuses transfer id reason) one ends d e
 
 -- a block
 block_offers : (w : Terms) (one : Session) (transfer : Transfer) (id : Option (List ℕ)) (now : ℕ)

@@ -136,7 +136,7 @@ asked_offers w x s now before after (Reads asked token had) due answer y heard s
     ∙ due)
 asked_offers w x s now before after (TakesQueue feed most) due answer y heard shares hears =
     Same (claims_of x y _ shares.1 (λ k. refl)) (offers_of heard _ hears.3 ∙ due)
-asked_offers w x s now before after (Refuses transfer id) due answer y heard shares hears =
+asked_offers w x s now before after (Refuses transfer id reason) due answer y heard shares hears =
     One id (after_refuse s now (known_at w x now id))
     (λ k. ap (λ (one : World). one.state.claim k) shares.1)
     (steps.Refuses w.offers now refl (offers_of heard _ hears ∙ due))
@@ -197,7 +197,7 @@ shared_sessions w x s now (Reads asked token had) answer y e t =
     reading_sessions w x token answer y e t
 shared_sessions w x s now (TakesQueue feed most) answer y e t =
     ap (λ (one : World). one.state.session t) e.1
-shared_sessions w x s now (Refuses transfer id) answer y e t =
+shared_sessions w x s now (Refuses transfer id reason) answer y e t =
     ap (λ (one : World). one.state.session t) e.1
 shared_sessions w x s now (Takes transfer id article) answer y e t =
     ap (λ (one : World). one.state.session t) e.1

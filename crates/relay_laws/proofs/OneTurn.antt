@@ -11,7 +11,7 @@ use Rattle.news_terms.specs.Token.{Token}
 use Rattle.news_terms.proofs.ArticleReadings.{one_article}
 use Rattle.relay_model.specs.Asks.{Ask, Rests, GoesOn, Says, Leaves, Offers, Looks, Reads}
 use Rattle.relay_model.specs.Asks.{TakesQueue, Refuses, Takes, Pushes, LooksInSlot, Releases, Ends}
-use Rattle.relay_model.specs.Asks.{Due, IsDue}
+use Rattle.relay_model.specs.Asks.{Due, IsDue, reason_of}
 use Rattle.relay_model.specs.Claims.{OfferAnswer, TakeAnswer}
 use Rattle.relay_model.specs.Fetches.{Fetched, Gone, NotKnown, NotRead, fetched}
 use Rattle.relay_model.specs.Fetches as fetches
@@ -75,7 +75,7 @@ one_share w x s now (Reads asked token had) a b y z one other c d =
     record { answer = first.answer ∙ sym second.answer; world = first.world ∙ sym second.world }
 one_share w x s now (TakesQueue feed most) a b y z one other c d =
     record { answer = one.0 ∙ sym other.0; world = one.1 ∙ sym other.1 }
-one_share w x s now (Refuses transfer id) a b y z one other c d =
+one_share w x s now (Refuses transfer id reason) a b y z one other c d =
     record { answer = one.0 ∙ sym other.0; world = one.1 ∙ sym other.1 }
 one_share w x s now (Takes transfer id article) a b y z one other c d =
     record { answer = one.0 ∙ sym other.0; world = one.1 ∙ sym other.1 }
@@ -164,7 +164,7 @@ one_heard s session (TakesQueue feed most) answer a b one other =
     let tokens : items ≡ items' = cc in
     one.3 ∙ ap (λ n. says session (QueueFollows n items)) numbers
     ∙ ap (λ list. says session (QueueFollows missed' list)) tokens ∙ sym other.3
-one_heard s session (Refuses transfer id) answer a b one other = one ∙ sym other
+one_heard s session (Refuses transfer id reason) answer a b one other = one ∙ sym other
 one_heard s session (Takes transfer id article) answer a b one other =
     let told : TakeAnswer = one.0 in
     let told' : TakeAnswer = other.0 in
@@ -218,7 +218,8 @@ one_turn w x y z s now one other t u c d =
     (subst (λ (v : Answer). Hears s u.due.after u.due.ask v t.heard) shared.answer
     (subst (λ (v : Due). Hears s v.after v.ask t.answer t.heard) due t.hears)) u.hears in
     record {
-      output = t.output_is ∙ ap (λ (h : Heard). output_of s h.said) heard ∙ sym u.output_is;
+      output = t.output_is ∙ ap (λ (h : Heard). output_of s h.said (reason_of t.due.ask)) heard
+          ∙ ap (λ (d : Due). output_of s u.heard.said (reason_of d.ask)) due ∙ sym u.output_is;
       world = t.after ∙ ap (λ (v : World). with_session v s t.heard.session) shared.world
           ∙ ap (λ (h : Heard). with_session u.between s h.session) heard ∙ sym u.after;
     }

@@ -190,6 +190,7 @@ wants world.NotRestarted = false
 abbrev wants_memory : Output → Bool
 wants_memory Quiet = false
 wants_memory (Sent s octets) = false
+wants_memory (world.Rejects s octets reason) = false
 wants_memory (world.Ended s octets) = false
 wants_memory (Refuses fault) = wants fault
 

@@ -134,7 +134,7 @@ shared_rests w x s now (Reads asked token had) answer y reads =
     reading_rests w x token answer y reads
 shared_rests w x s now (TakesQueue feed most) answer y e =
     moved x y (queue_taken x (ring_of (slice_get w.feeds feed)) feed most) e.1 (λ id. Stays refl)
-shared_rests w x s now (Refuses transfer id) answer y e =
+shared_rests w x s now (Refuses transfer id reason) answer y e =
     moved x y (with_claim x id (after_refuse s now (known_at w x now id))) e.1
     (put_rests x.state.claim id _ (refuse_rests w.offers s now (x.state.claim id)))
 shared_rests w x s now (Takes transfer id article) answer y e =

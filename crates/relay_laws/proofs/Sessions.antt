@@ -39,7 +39,7 @@ shared_sessions w x s now (Looks part id) answer y e = ap sessions e.1
 shared_sessions w x s now (Reads asked token had) answer y reads =
     reading_sessions w x token answer y reads
 shared_sessions w x s now (TakesQueue feed most) answer y e = ap sessions e.1
-shared_sessions w x s now (Refuses transfer id) answer y e = ap sessions e.1
+shared_sessions w x s now (Refuses transfer id reason) answer y e = ap sessions e.1
 shared_sessions w x s now (Takes transfer id article) answer y e = ap sessions e.1
 shared_sessions w x s now (Pushes job) answer y e =
     pushing_sessions x job (nat_lt (length (x.work.queue job.article.group)) queue_limit) answer y e

@@ -13,7 +13,7 @@ use Rattle.news_terms.specs.Ring as rings
 use Rattle.news_terms.specs.Token.{Token}
 use Rattle.relay_model.specs.Asks.{Ask, Rests, GoesOn, Says, Leaves, Offers, Looks, Reads}
 use Rattle.relay_model.specs.Asks.{TakesQueue, Refuses, Takes, Pushes, LooksInSlot, Releases, Ends}
-use Rattle.relay_model.specs.Asks.{Due}
+use Rattle.relay_model.specs.Asks.{Due, reason_of}
 use Rattle.relay_model.specs.Claims.{offer_answer, after_offer, take_answer, after_take}
 use Rattle.relay_model.specs.Claims.{after_refuse, after_release, look_answer}
 use Rattle.relay_model.specs.Fetches.{Fetched, Gone, NotKnown, NotRead, fetched}
@@ -52,7 +52,7 @@ answer_to w x s now (TakesQueue feed most) =
     let ring = ring_of (slice_get w.feeds feed) in
     ToTakeQueue (rings.missed ring (as_ring (x.state.feed feed)))
     (rings.taken_items ring most (as_ring (x.state.feed feed)))
-answer_to w x s now (Refuses transfer id) = Nothing
+answer_to w x s now (Refuses transfer id reason) = Nothing
 answer_to w x s now (Takes transfer id article) = ToTake (take_answer s (x.state.claim id))
 answer_to w x s now (Pushes job) = ToPush (has_room x job)
 answer_to w x s now (LooksInSlot transfer id) = InSlot (x.work.slot s)
@@ -76,7 +76,7 @@ world_after w x s now (Looks part id) = x
 world_after w x s now (Reads asked token had) = x
 world_after w x s now (TakesQueue feed most) =
     queue_taken x (ring_of (slice_get w.feeds feed)) feed most
-world_after w x s now (Refuses transfer id) =
+world_after w x s now (Refuses transfer id reason) =
     with_claim x id (after_refuse s now (known_at w x now id))
 world_after w x s now (Takes transfer id article) =
     with_claim x id (after_take s article (x.state.claim id))
@@ -103,7 +103,7 @@ shares w x s now (Looks part id) = (refl, refl)
 shares w x s now (Reads asked token had) =
     IsFound x.work.failures (λ buffer. le_refl (x.work.failures buffer)) refl refl
 shares w x s now (TakesQueue feed most) = (refl, refl)
-shares w x s now (Refuses transfer id) = (refl, refl)
+shares w x s now (Refuses transfer id reason) = (refl, refl)
 shares w x s now (Takes transfer id article) = (refl, refl)
 shares w x s now (Pushes job) = pushes x job (has_room x job)
 shares w x s now (LooksInSlot transfer id) = (refl, refl)
@@ -127,7 +127,7 @@ share_calm w x s now (Offers transfer id) = refl
 share_calm w x s now (Looks part id) = refl
 share_calm w x s now (Reads asked token had) = refl
 share_calm w x s now (TakesQueue feed most) = refl
-share_calm w x s now (Refuses transfer id) = refl
+share_calm w x s now (Refuses transfer id reason) = refl
 share_calm w x s now (Takes transfer id article) = refl
 share_calm w x s now (Pushes job) = push_calm x job (has_room x job)
 share_calm w x s now (LooksInSlot transfer id) = refl
@@ -235,7 +235,7 @@ heard_of w x s now a session (TakesQueue feed most) =
     says session
     (QueueFollows (rings.missed ring (as_ring (x.state.feed feed)))
     (rings.taken_items ring most (as_ring (x.state.feed feed))))
-heard_of w x s now a session (Refuses transfer id) = says session (rejected transfer id)
+heard_of w x s now a session (Refuses transfer id reason) = says session (rejected transfer id)
 heard_of w x s now a session (Takes transfer id article) =
     take_heard s session transfer id article (take_answer s (x.state.claim id))
 heard_of w x s now a session (Pushes job) = push_heard session (has_room x job)
@@ -256,7 +256,7 @@ ask_premise w x a (Reads asked token had) =
     read_premise asked a (fetched w x.state token)
     (goes_on asked token had (fetched w x.state token))
 ask_premise w x a (TakesQueue feed most) = Free
-ask_premise w x a (Refuses transfer id) = Free
+ask_premise w x a (Refuses transfer id reason) = Free
 ask_premise w x a (Takes transfer id article) = Free
 ask_premise w x a (Pushes job) = Free
 ask_premise w x a (LooksInSlot transfer id) = Free
@@ -287,7 +287,7 @@ hears w x s now a session (TakesQueue feed most) knows =
       refl,
       refl,
     )
-hears w x s now a session (Refuses transfer id) knows = refl
+hears w x s now a session (Refuses transfer id reason) knows = refl
 hears w x s now a session (Takes transfer id article) knows =
     (take_answer s (x.state.claim id), refl, refl)
 hears w x s now a session (Pushes job) knows = (has_room x job, refl, refl)
@@ -305,7 +305,7 @@ abbrev played_due : Terms → World → (s now : ℕ) → Article → Due → Pl
 played_due w x s now a due =
     let heard = heard_of w x s now a due.after due.ask in
     record {
-      output = output_of s heard.said;
+      output = output_of s heard.said (reason_of due.ask);
       world = with_session (world_after w x s now due.ask) s heard.session;
     }
 

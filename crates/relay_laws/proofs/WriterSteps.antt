@@ -51,7 +51,7 @@ shared_writers w x s now (Looks part id) answer y e = ap writers e.1
 shared_writers w x s now (Reads asked token had) answer y reads =
     reading_writers w x token answer y reads
 shared_writers w x s now (TakesQueue feed most) answer y e = ap writers e.1
-shared_writers w x s now (Refuses transfer id) answer y e = ap writers e.1
+shared_writers w x s now (Refuses transfer id reason) answer y e = ap writers e.1
 shared_writers w x s now (Takes transfer id article) answer y e = ap writers e.1
 shared_writers w x s now (Pushes job) answer y e =
     pushing_writers x job (nat_lt (length (x.work.queue job.article.group)) queue_limit) answer y e

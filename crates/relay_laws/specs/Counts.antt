@@ -4,7 +4,7 @@ use Rattle.std.specs.Prelude.{Some, if◌then◌else◌}
 use Rattle.relay_model.specs.Run.{Event, Open, Bytes, Turn, Write, Break, Expire, Restart, Step}
 use Rattle.relay_model.specs.Terms.{Terms}
 use Rattle.relay_model.specs.World.{World, Writer, Idle, Popped, Writing, Finished, Failed, Settled}
-use Rattle.relay_model.specs.World.{Forgotten, Output, Quiet, Sent, Ended, Refuses}
+use Rattle.relay_model.specs.World.{Forgotten, Output, Quiet, Sent, Rejects, Ended, Refuses}
 use Rattle.relay_model.specs.Writers.{Writes, job_size}
 
 -- the Writes that are left where no fault is found: after the pop the begin, one for each block,
@@ -54,6 +54,7 @@ IsOther g Restart = ⊥
 abbrev pub is_quiet : Output → Bool
 is_quiet Quiet = true
 is_quiet (Sent session octets) = false
+is_quiet (Rejects session octets reason) = false
 is_quiet (Ended session octets) = false
 is_quiet (Refuses fault) = false
 

@@ -4,7 +4,9 @@ use Rattle.std.specs.Prelude.{ℕ, ◌+◌, List, [], ◌∷◌, ◌++◌, codes
 use Rattle.std.specs.Str.{byte}
 use Rattle.news_terms.specs.Article.{article_text, worked_article}
 use Rattle.relay_model.specs.Run.{Event, Open, Bytes, Turn, Write, Break}
-use Rattle.relay_model.specs.World.{Output, Quiet, Sent, Ended, Refuses, NoSession, SessionTaken}
+use Rattle.relay_model.specs.Terms.{Reason, Grammar, Size}
+use Rattle.relay_model.specs.World.{Output, Quiet, Sent, Rejects, Ended, Refuses, NoSession}
+use Rattle.relay_model.specs.World.{SessionTaken}
 use Rattle.relay_model.specs.World.{NoGroup, NoPeer, BadMoment, NoShard}
 use Rattle.relay_model.specs.Run as runs
 use Rattle.relay_laws.specs.Terms.{now}
@@ -163,8 +165,9 @@ abbrev pub refused_block_replies : List Output
 refused_block_replies =
     both_greeted ++ quiet 4
     ++ Sent 2 (codes "238 <f@x>\r\n") ∷ Sent 1 (codes "238 <e@x>\r\n") ∷ Quiet
-    ∷ Sent 1 (codes "439 <e@x>\r\n") ∷ Quiet ∷ Sent 1 (codes "439 <f@x>\r\n")
-    ∷ Sent 1 (codes "335 Send it\r\n") ∷ Sent 1 (codes "437 Rejected\r\n")
+    ∷ Rejects 1 (codes "439 <e@x>\r\n") Grammar ∷ Quiet
+    ∷ Rejects 1 (codes "439 <f@x>\r\n") Grammar ∷ Sent 1 (codes "335 Send it\r\n")
+    ∷ Rejects 1 (codes "437 Rejected\r\n") Size
     ∷ Sent 1 (codes "438 <e@x>\r\n") ∷ Sent 1 (codes "431 <f@x>\r\n")
     ∷ Sent 1 (codes "435 Not wanted\r\n") ∷ Sent 1 (codes "430 No such article\r\n") ∷ []
 
@@ -274,7 +277,7 @@ refused_stays =
 abbrev pub refused_stays_replies : List Output
 refused_stays_replies =
     greeted 1 ∷ quiet 2
-    ++ Sent 1 (codes "439 <a@x>\r\n") ∷ Quiet ∷ Sent 1 (codes "439 <a@x>\r\n") ∷ []
+    ++ Rejects 1 (codes "439 <a@x>\r\n") Grammar ∷ Quiet ∷ Sent 1 (codes "439 <a@x>\r\n") ∷ []
 
 -- an article whose session breaks off before its job is pushed
 abbrev pub broken_off : List Event
@@ -394,9 +397,9 @@ one_article k =
     Open 1 0 ∷ Bytes 1 (codes "TAKETHIS <a@x>\r\n" ++ article_text (worked_article (byte "a") k))
     ∷ Bytes 1 (codes ".\r\n") ∷ turns 1 2
 
--- 439
-abbrev pub one_refused : List Output
-one_refused = greeted 1 ∷ quiet 3 ++ Sent 1 (codes "439 <a@x>\r\n") ∷ []
+-- 439, for this reason
+abbrev pub one_refused : Reason → List Output
+one_refused reason = greeted 1 ∷ quiet 3 ++ Rejects 1 (codes "439 <a@x>\r\n") reason ∷ []
 
 -- nothing yet: it is being stored
 abbrev pub one_stored : List Output

@@ -5,7 +5,8 @@ use Rattle.news_terms.specs.Article.{article_text, worked_article}
 use Rattle.news_terms.specs.Reply.{TokenFollows, reply_text}
 use Rattle.news_terms.specs.Token.{Token}
 use Rattle.relay_model.specs.Run.{Event, Open, Bytes, Turn, Write, Break}
-use Rattle.relay_model.specs.World.{Output, Quiet, Sent, Ended, Refuses, NoSession}
+use Rattle.relay_model.specs.Terms.{IdMismatch, Date}
+use Rattle.relay_model.specs.World.{Output, Quiet, Sent, Rejects, Ended, Refuses, NoSession}
 use Rattle.relay_laws.specs.Judgements.{stored_plain}
 use Rattle.relay_laws.specs.Rows.{block_of, greeted, turns, writes, quiet, both_open}
 use Rattle.relay_laws.specs.Rows.{both_greeted}
@@ -21,7 +22,7 @@ another_id =
 abbrev pub another_id_replies : List Output
 another_id_replies =
     greeted 1 ∷ quiet 3
-    ++ Sent 1 (codes "439 <b@x>\r\n") ∷ Sent 1 (codes "238 <a@x>\r\n")
+    ++ Rejects 1 (codes "439 <b@x>\r\n") IdMismatch ∷ Sent 1 (codes "238 <a@x>\r\n")
     ∷ Sent 1 (codes "438 <b@x>\r\n") ∷ []
 
 -- an article whose block is read at a moment of its own
@@ -34,9 +35,9 @@ read_at moment =
 abbrev pub taken_replies : List Output
 taken_replies = greeted 1 ∷ quiet 3
 
--- 439
+-- 439, by its date
 abbrev pub refused_replies : List Output
-refused_replies = greeted 1 ∷ quiet 2 ++ Sent 1 (codes "439 <a@x>\r\n") ∷ []
+refused_replies = greeted 1 ∷ quiet 2 ++ Rejects 1 (codes "439 <a@x>\r\n") Date ∷ []
 
 -- session 1 is told to send by IHAVE, and before it does session 2's article is stored
 abbrev pub ihave_comes_late : List Event

@@ -6,7 +6,8 @@ use Rattle.news_terms.specs.Overview.{overview_line}
 use Rattle.news_terms.specs.Reply.{ArticleFollows, HeaderFollows, BodyFollows, OverviewFollows}
 use Rattle.news_terms.specs.Reply.{TokenFollows, reply_text}
 use Rattle.relay_model.specs.Run.{Event, Bytes, Turn, Break, Expire}
-use Rattle.relay_model.specs.World.{Output, Quiet, Sent, Ended, Refuses, NoSession}
+use Rattle.relay_model.specs.Terms.{Grammar}
+use Rattle.relay_model.specs.World.{Output, Quiet, Sent, Rejects, Ended, Refuses, NoSession}
 use Rattle.relay_laws.specs.Rows.{block_of, turns, writes, quiet}
 use Rattle.relay_laws.specs.Terms.{now}
 use Rattle.relay_laws.specs.Worlds.{three_blocks_at}
@@ -281,7 +282,8 @@ sent_is_no_offer =
 -- 431, 439; the offer has ended, and the new one has room
 abbrev pub sent_is_no_offer_replies : List Output
 sent_is_no_offer_replies =
-    Quiet ∷ Sent 1 (codes "431 <n@x>\r\n") ∷ Quiet ∷ Sent 1 (codes "439 <3@x>\r\n")
+    Quiet ∷ Sent 1 (codes "431 <n@x>\r\n") ∷ Quiet
+    ∷ Rejects 1 (codes "439 <3@x>\r\n") Grammar
     ∷ Sent 1 (codes "238 <n@x>\r\n") ∷ []
 
 -- the same by IHAVE
@@ -293,7 +295,7 @@ sent_by_ihave =
 abbrev pub sent_by_ihave_replies : List Output
 sent_by_ihave_replies =
     Quiet ∷ Sent 1 (codes "431 <n@x>\r\n") ∷ Sent 1 (codes "335 Send it\r\n")
-    ∷ Sent 1 (codes "437 Rejected\r\n") ∷ Sent 1 (codes "238 <n@x>\r\n") ∷ []
+    ∷ Rejects 1 (codes "437 Rejected\r\n") Grammar ∷ Sent 1 (codes "238 <n@x>\r\n") ∷ []
 
 -- the same by TAKETHIS, with an article that can be stored
 abbrev pub stored_is_no_offer : List Event
@@ -321,4 +323,4 @@ kept_from_others_replies =
     Ended 1 [] ∷ quiet 10
     ++ Sent 2 (codes "431 <o@x>\r\n") ∷ Sent 2 (codes "431 <3@x>\r\n")
     ∷ Sent 2 (codes "431 <4@x>\r\n") ∷ Quiet ∷ Sent 2 (codes "223 0 <2@x>\r\n") ∷ Quiet
-    ∷ Sent 2 (codes "439 <2@x>\r\n") ∷ Quiet ∷ Sent 2 (codes "223 0 <2@x>\r\n") ∷ []
+    ∷ Rejects 2 (codes "439 <2@x>\r\n") Grammar ∷ Quiet ∷ Sent 2 (codes "223 0 <2@x>\r\n") ∷ []

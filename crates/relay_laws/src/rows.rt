@@ -1,5 +1,6 @@
 //! The worked rows from the empty world.
 ghost use Rattle.std.specs.Prelude.{ℕ};
+ghost use Rattle.relay_model.specs.Terms.{Loop, Size, TooLarge};
 ghost use Rattle.relay_model.specs.World.{empty_world};
 ghost use Rattle.relay_laws.specs.Answered.{AreAnswered};
 ghost use Rattle.relay_laws.specs.LineRows as lines;
@@ -137,7 +138,8 @@ pub fn classed()
 /// An article whose Path has the own identity: 439.
 pub fn looping()
     ensures { (failures : ℕ → ℕ)
-        → AreAnswered own_is_first (empty_world failures) (rows.one_article 1) rows.one_refused }
+        → AreAnswered own_is_first (empty_world failures) (rows.one_article 1)
+        (rows.one_refused Loop) }
 {}
 
 /// The updated text has to fit: 480 octets do, 481 do not, where there is one block.
@@ -145,7 +147,8 @@ pub fn sizes()
     ensures fits { (failures : ℕ → ℕ)
         → AreAnswered one_block (empty_world failures) (rows.one_article 317) rows.one_stored }
     ensures not { (failures : ℕ → ℕ)
-        → AreAnswered one_block (empty_world failures) (rows.one_article 318) rows.one_refused }
+        → AreAnswered one_block (empty_world failures) (rows.one_article 318)
+        (rows.one_refused TooLarge) }
 {}
 
 /// An article whose text is as long as a block may be is taken, one that is an octet longer isn't:
@@ -155,7 +158,7 @@ pub fn longest_block()
         → AreAnswered (of_at_most 149) (empty_world failures) (rows.one_article 1) rows.one_stored }
     ensures not { (failures : ℕ → ℕ)
         → AreAnswered
-        (of_at_most 148) (empty_world failures) (rows.one_article 1) rows.one_refused }
+        (of_at_most 148) (empty_world failures) (rows.one_article 1) (rows.one_refused Size) }
 {}
 
 /// A line of 512 octets is read, one of 513 isn't: 501, and the session leaves.

@@ -24,10 +24,10 @@ ghost use Rattle.relay_model.specs.Shares.{Reading, ToRead};
 ghost use Rattle.relay_model.specs.State.{State, Session, Transfer, Job, Waits, Leaving, Ended};
 ghost use Rattle.relay_model.specs.Terms.{Terms, FeedTerms, Reason};
 ghost use Rattle.relay_model.specs.World.{World, Output, Outcome, IsKept, Speaks};
-ghost use Rattle.relay_model.specs.World.{Refuses, Fault, Memory, NoSession};
+ghost use Rattle.relay_model.specs.World.{Refuses, Rejects, Fault, Memory, NoSession};
 ghost use Rattle.relay_model.specs.Writers.{Stores, Fails, Accepts, Abandons};
 ghost use Rattle.relay_laws.specs.Calm.{IsCalm, CalmRun};
-ghost use Rattle.relay_laws.specs.Rules.{IsNotOf, IsLiveToken};
+ghost use Rattle.relay_laws.specs.Rules.{IsNotOf, IsLiveToken, WasJudged};
 ghost use Rattle.relay_model.specs.Fetches.{IsGoneToken};
 
 /// What is not this session's stays as it is when the session's article is refused, its open offer
@@ -209,6 +209,13 @@ pub fn memory_is_wanted_by_some()
 pub fn refused_changes_nothing()
     ensures { (w : Terms) (x y : World) (event : Event) (fault : Fault) → event ≢ Restart
         → Step w x event (Refuses fault) y → y ≡ x }
+{}
+
+/// An article is refused for the reason by which it was judged, from the session's peer at that
+/// moment, and nothing else is said to be refused.
+pub fn refusals_are_judged()
+    ensures { (w : Terms) (x y : World) (s now to : ℕ) (octets : List ℕ) (reason : Reason)
+        → Step w x (Turn s now) (Rejects to octets reason) y → WasJudged w x s now reason }
 {}
 
 /// No front moves where a text becomes whole, fails, is accepted or is given up: a begin alone

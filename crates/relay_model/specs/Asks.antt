@@ -41,8 +41,8 @@ pub data Ask : Type 0 where
   Reads : (asked : Asked) (token : Token) (had : ℕ) → Ask
   -- at most so many tokens are taken of this feed's queue
   TakesQueue : (feed most : ℕ) → Ask
-  -- the article of an id was refused
-  Refuses : (transfer : Transfer) (id : List ℕ) → Ask
+  -- the article of an id was refused, for this reason
+  Refuses : (transfer : Transfer) (id : List ℕ) (reason : Reason) → Ask
   -- the article of an id was accepted
   Takes : (transfer : Transfer) (id : List ℕ) (article : Accepted) → Ask
   -- the job in hand is pushed
@@ -53,6 +53,11 @@ pub data Ask : Type 0 where
   Releases : (id : List ℕ) → Ask
   -- nothing is left to give up: the session is closed
   Ends : Ask
+
+-- why an article is refused, where that is asked
+abbrev pub reason_of : Ask → Option Reason
+reason_of (Refuses transfer id reason) = Some reason
+reason_of other = None
 
 -- what a session asks, and the session once what it read counts as read
 pub record Due : Type 0 where
@@ -159,7 +164,7 @@ IsDueAtCommand w session now (Some ended) d =
 -- by the judgement of an article
 abbrev pub judged_asked : Session → Transfer → List ℕ → Result Accepted Reason → Due
 judged_asked session transfer id (Ok article) = due_as (Takes transfer id article) session
-judged_asked session transfer id (Err reason) = due_as (Refuses transfer id) session
+judged_asked session transfer id (Err reason) = due_as (Refuses transfer id reason) session
 
 -- by a block's text, None where it was oversize: the open offer of its id ends, and it is judged at
 -- this moment; where the command named no message-id, that is the fault (RFC 4644 section 2.5)

@@ -5,7 +5,7 @@ use Rattle.std.specs.Prelude.{true, false, List, [], ◌∷◌, length, slice_ge
 use Rattle.std.specs.Prelude.{option_map, if◌then◌else◌}
 use Rattle.news_terms.specs.Places.{Buffer}
 use Rattle.news_terms.specs.Reply.{Greeting, reply_text}
-use Rattle.relay_model.specs.Asks.{Due, IsDue}
+use Rattle.relay_model.specs.Asks.{Due, IsDue, reason_of}
 use Rattle.relay_model.specs.Claims.{Claim, Passed, after_expire, after_restart, is_storing}
 use Rattle.relay_model.specs.Fetches.{front_of}
 use Rattle.relay_model.specs.Hears.{Heard, Hears}
@@ -114,7 +114,7 @@ pub record Turns (w : Terms) (x : World) (s now : ℕ) (output : Output) (x' : W
   pub shares : Shares w x s now due.ask answer between
   pub heard : Heard
   pub hears : Hears s due.after due.ask answer heard
-  pub output_is : output ≡ output_of s heard.said
+  pub output_is : output ≡ output_of s heard.said (reason_of due.ask)
   pub after : x' ≡ with_session between s heard.session
 
 -- the shard of a message-id: the sum of its octets modulo 16 (docs/PROTOCOL.md, Claims)

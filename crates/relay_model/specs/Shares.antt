@@ -103,7 +103,7 @@ Shares w x s now (TakesQueue feed most) answer y =
     (answer ≡ ToTakeQueue (rings.missed ring (as_ring (x.state.feed feed)))
     (rings.taken_items ring most (as_ring (x.state.feed feed))))
     × (y ≡ queue_taken x ring feed most)
-Shares w x s now (Refuses transfer id) answer y =
+Shares w x s now (Refuses transfer id reason) answer y =
     (answer ≡ Nothing) × (y ≡ with_claim x id (after_refuse s now (known_at w x now id)))
 Shares w x s now (Takes transfer id article) answer y =
     (answer ≡ ToTake (take_answer s (x.state.claim id)))

@@ -6,6 +6,7 @@ use Rattle.news_terms.specs.Reply.{Reply, reply_text}
 use Rattle.news_terms.specs.Token.{Token}
 use Rattle.relay_model.specs.Claims.{Claim, Passed}
 use Rattle.relay_model.specs.State.{State, Session, Job, put_id, put_at, empty_state}
+use Rattle.relay_model.specs.Terms.{Reason}
 
 -- how the storing of an article ended: it was accepted, or given up
 pub data Outcome : Type 0 where
@@ -100,6 +101,8 @@ pub data Output : Type 0 where
   Quiet : Output
   -- these octets go to the session
   Sent : (session : ℕ) (octets : List ℕ) → Output
+  -- these octets go to the session, whose article is refused for this reason
+  Rejects : (session : ℕ) (octets : List ℕ) (reason : Reason) → Output
   -- these octets go to the session, which leaves
   Ended : (session : ℕ) (octets : List ℕ) → Output
   -- the event is refused, and nothing changed
@@ -114,11 +117,16 @@ pub data Said : Type 0 where
   -- this reply, and it leaves
   Parts : (reply : Reply) → Said
 
+-- octets go to a session that doesn't leave: its article is refused for this reason, or none is
+abbrev pub spoken : ℕ → List ℕ → (why : Option Reason) → Output
+spoken s octets None = Sent s octets
+spoken s octets (Some reason) = Rejects s octets reason
+
 -- the same as an output
-abbrev pub output_of : ℕ → Said → Output
-output_of s Silent = Quiet
-output_of s (Speaks reply) = Sent s (reply_text reply)
-output_of s (Parts reply) = Ended s (reply_text reply)
+abbrev pub output_of : ℕ → Said → (why : Option Reason) → Output
+output_of s Silent why = Quiet
+output_of s (Speaks reply) why = spoken s (reply_text reply) why
+output_of s (Parts reply) why = Ended s (reply_text reply)
 
 -- the world with this claim on the id
 abbrev pub with_claim : World → List ℕ → Claim → World

@@ -2,7 +2,7 @@ use Rattle.std.proofs.Common.{◌∙◌, ap, subst, sym}
 use Rattle.std.specs.Option.{option_copied}
 use Rattle.relay_model.specs.Judging.{Judges}
 use Rattle.article_verdict.specs.Config.{terms_of}
-use Rattle.article_verdict.specs.Verdict.{reason_view, verdict_view}
+use Rattle.article_verdict.specs.Verdict.{verdict_view}
 use Rattle.peer_session.specs.Asking as asking
 use Rattle.peer_session.specs.Asking.{IsOwedAsked}
 use Rattle.peer_session.specs.declared.phase.Todo.TheVariants as todos
@@ -33,9 +33,12 @@ returns-in-Err c =
     let text = option_copied c.args.text in
     let id = c.in-Some.id in
     subst (λ owed. IsOwedAsked w c.args.peer c.args.now owed text
-    (todos.Refuse c.in_ok-room.room, steps.Refuse c.in_ok-room.asked)) (sym c.in-Some.is)
-    (asking.IsRefused (reason_view c.in-Err.field-0)
+    (todos.Refuse c.in_ok-room.room, steps.Refuse c.in_ok-room.asked c.in-Err.reason))
+    (sym c.in-Some.is)
+    (asking.IsRefused c.in-Err.reason
     (subst (λ verdict. Judges w c.args.peer id c.args.now text (verdict_view verdict)) c.in-Err.is
     c.in_ok-article.ensures)
-    (ap (λ room. (todos.Refuse room, steps.Refuse c.in_ok-room.asked)) c.in_ok-room.ensures.room
-    ∙ ap (λ copy. (todos.Refuse 0, steps.Refuse copy)) c.in_ok-room.ensures.copy))
+    (ap (λ room. (todos.Refuse room, steps.Refuse c.in_ok-room.asked c.in-Err.reason))
+    c.in_ok-room.ensures.room
+    ∙ ap (λ copy. (todos.Refuse 0, steps.Refuse copy c.in-Err.reason))
+    c.in_ok-room.ensures.copy))

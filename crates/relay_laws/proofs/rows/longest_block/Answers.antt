@@ -1,6 +1,7 @@
 use Rattle.std.proofs.Common.{[], ◌∷◌, refl}
 use Rattle.std.specs.Str.{byte}
 use Rattle.news_terms.specs.Article.{worked_article}
+use Rattle.relay_model.specs.Terms.{Size}
 use Rattle.relay_model.specs.World.{empty_world}
 use Rattle.relay_laws.specs.OtherTerms.{of_at_most}
 use Rattle.relay_laws.specs.Rows as rows
@@ -16,4 +17,4 @@ returns-clause-taken c = λ failures. are_answered (of_at_most 149) (empty_world
 
 pub returns-clause-not : goal.returns-clause-not
 returns-clause-not c = λ failures. are_answered (of_at_most 148) (empty_world failures) []
-    (rows.one_article 1) rows.one_refused tt refl refl
+    (rows.one_article 1) (rows.one_refused Size) tt refl refl

@@ -73,7 +73,8 @@ pub returns-in-Ok-refuse : goal.returns-in-Ok-refuse
 returns-in-Ok-refuse g c =
     record {
       shared = refuse_shared c.args.number c.args.now c.args.self.now c.args.peer.now
-          c.in-Refuse.id c.refuse.new.self c.in-Ok-refuse.ensures.claims c.args.step.now
+          c.in-Refuse.id c.refuse.new.self c.in-Ok-refuse.ensures.claims c.in-Refuse.field-1
+          c.args.step.now
           c.in-Refuse.is;
       memory = never answers.Nothing refl;
       wants = never answers.Nothing refl;

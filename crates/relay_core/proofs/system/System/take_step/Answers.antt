@@ -1,6 +1,7 @@
-use Rattle.std.proofs.Common.{refl, subst, sym}
+use Rattle.std.proofs.Common.{Option, refl, subst, sym}
 use Rattle.peer_session.specs.declared.steps.Step.{Step}
-use Rattle.relay_core.specs.Turns.{StepTaken}
+use Rattle.relay_model.specs.Terms.{Reason}
+use Rattle.relay_core.specs.Turns.{HeardAs, StepTaken}
 use Rattle.relay_core.proofs.system.System.take_step.Goals as goal
 
 -- a block is read
@@ -18,7 +19,9 @@ returns-in_default g c =
       between = c.share-answer.new.peer;
       shared = c.share-answer.ensures.shared;
       left = c.share-answer.ensures.memory;
-      heard = c.hear.ensures.heard;
+      heard = subst (λ (why : Option Reason). HeardAs c.args.number why
+          c.share-answer.new.peer.session c.share-answer.result c.hear.result c.hear.new.session)
+          c.reason-why.ensures c.hear.ensures.heard;
       memory = c.hear.ensures.memory;
       same_slot = refl;
       frame = c.share-answer.ensures.frame;
