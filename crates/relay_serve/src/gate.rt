@@ -189,7 +189,8 @@ impl<'a> CountingGate<'a> {
     {
         self.put_counts(text)?;
         self.put_refusals(text)?;
-        self.put_addresses(rt, text)
+        self.put_addresses(rt, text)?;
+        Ok(())
     }
 
     /// Puts a line for each peer behind a text.

@@ -110,11 +110,8 @@ impl Display for Refused {
         } = self;
         write!(
             formatter,
-            "Size={size} Grammar={grammar} IdMismatch={id_mismatch} BadPath={bad_path} ",
-        )?;
-        write!(
-            formatter,
-            "Loop={loops} Date={date} NoClass={no_class} TooLarge={too_large}",
+            "Size={} Grammar={} IdMismatch={} BadPath={} Loop={} Date={} NoClass={} TooLarge={}",
+            size, grammar, id_mismatch, bad_path, loops, date, no_class, too_large,
         )
     }
 }
