@@ -6,8 +6,8 @@ use Rattle.relay_serve.specs.Gates.{AreLinesOf}
 use Rattle.relay_serve.specs.declared.gate.PeerCounts.{PeerCounts}
 
 -- A line more stands behind those of the peers so far.
-pub line_more : (IsLine : List ℕ → List ℕ → Type 0) (names : List (List ℕ)) (text name line : List ℕ)
-    → IsLine name line → AreLinesOf IsLine names text
+pub line_more : (IsLine : List ℕ → List ℕ → Type 0) (names : List (List ℕ))
+    (text name line : List ℕ) → IsLine name line → AreLinesOf IsLine names text
     → AreLinesOf IsLine (names ++ name ∷ []) (text ++ line)
 line_more IsLine [] text name line own is = (
   line,

@@ -289,8 +289,8 @@ impl<S: BlockStore + Drop, J: StorePremises, L: Ledger, C: live_session::Clock> 
     }
 }
 
-/// What is told of these figures: the report of them, what is told of each peer, and a line for each
-/// buffer's size, by the front that the buffer's line has.
+/// What is told of these figures: the report of them, what is told of each peer, and a line for
+/// each buffer's size, by the front that the buffer's line has.
 fn told_of<R: Wait>(
     rt: &R,
     alloc: Global,
