@@ -1,5 +1,6 @@
--- The month in the digits of a moment. No public contract cites it.
-use Rattle.std.specs.Prelude.{ℕ, ◌+◌, ◌-◌, ◌*◌, ◌≤◌, List, [], get_or, slice_index}
+-- The month and the day in the digits of a moment. No public contract cites it.
+use Rattle.std.specs.Prelude.{ℕ, ◌+◌, ◌-◌, ◌*◌, ◌≤◌, ◌==◌, List, [], get_or, if◌then◌else◌}
+use Rattle.std.specs.Prelude.{slice_index}
 use Rattle.std.specs.Str.{byte}
 use Rattle.news_log.specs.Lines.{month_names}
 
@@ -19,3 +20,7 @@ HasMonth digits = IsMonth (slice_index digits 4) (slice_index digits 5)
 abbrev pub month_of : (tens ones : ℕ) → List ℕ
 month_of tens ones =
     get_or month_names ((tens - byte "0") * 10 + (ones - byte "0") - 1) []
+
+-- a digit, or a space where it is a zero
+abbrev pub spaced_digit : ℕ → ℕ
+spaced_digit digit = if digit == byte "0" then byte " " else digit

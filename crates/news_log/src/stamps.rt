@@ -30,11 +30,18 @@ fn stamp_of(digits: [u8; 14], millis: u32) -> [u8; 19]
 {
     let [_, _, _, _, m1, m2, d1, d2, h1, h2, n1, n2, s1, s2] = digits;
     let [a, b, c] = month_name(m1, m2);
-    let day = if d1 == b'0' { b' ' } else { d1 };
+    let day = with_space(d1);
     let [t1, t2, t3] = three_digits(millis);
     [
         a, b, c, b' ', day, d2, b' ', h1, h2, b':', n1, n2, b':', s1, s2, b'.', t1, t2, t3,
     ]
+}
+
+/// The first digit of two, a space in place of a zero.
+fn with_space(first: u8) -> u8
+    ensures { result ≡ digits_terms.spaced_digit first }
+{
+    if first == b'0' { b' ' } else { first }
 }
 
 /// The name of the month of this number, of two digits.
