@@ -1,6 +1,15 @@
-//! Worked lines, computed. Nothing of the code stands on them.
-ghost use Rattle.std.specs.Prelude.{codes};
+//! Laws of the lines: worked ones, computed, and that a moment has one text. Nothing of the code
+//! stands on them.
+ghost use Rattle.std.specs.Prelude.{◌≡◌, ℕ, List, codes};
 ghost use Rattle.news_log.specs.Examples as examples;
+ghost use Rattle.news_log.specs.Lines.{IsNewsStamp};
+ghost use Rattle.news_log.specs.declared.moments.Moment.{Moment};
+
+/// A moment begins a line in one way alone.
+pub fn one_text()
+    ensures { (moment : Moment) (one other : List ℕ) → IsNewsStamp moment one
+        → IsNewsStamp moment other → one ≡ other }
+{}
 
 /// An article that was refused, of a day with two digits.
 pub fn worked_refusal()

@@ -9,7 +9,7 @@
 
 mod feeds;
 mod host_news;
-mod laws;
+pub mod laws;
 mod lines;
 mod moments;
 mod news_file;
@@ -21,7 +21,6 @@ mod writer;
 mod writing;
 
 pub use host_news::HostNews;
-pub use laws::{first_moment, worked_acceptance, worked_last_day, worked_refusal};
 pub use lines::{accepted_line, refused_line};
 pub use moments::{Moment, moment_of};
 pub use news_file::NewsFile;
