@@ -1,10 +1,9 @@
 -- How a line begins with the digits of a moment.
-use Rattle.std.proofs.Common.{◌≡◌, ◌∙◌, ◌∷◌, ◌++◌, [], ◌+◌, ◌*◌, ◌-◌, ◌/◌, ◌%◌, ◌<◌, ◌≤◌, ℕ, suc}
+use Rattle.std.proofs.Common.{◌≡◌, ◌∙◌, ◌∷◌, ◌++◌, [], ◌+◌, ◌*◌, ◌-◌, ◌<◌, ℕ, suc}
 use Rattle.std.proofs.Common.{zero, List, ap, arith, codes, drop, length, refl, slice_index_or}
 use Rattle.std.proofs.Common.{get_or, subst, sym, take}
 use Rattle.std.proofs.lemmas.Grind.{common_steps}
 use Rattle.std.specs.Str.Parse.{digits_value}
-use Rattle.news_terms.specs.Dates.{fourteen_digits}
 use Rattle.news_terms.specs.Stamps.{IsStamp}
 use Rattle.news_log.specs.Digits.{HasMonth, month_of, spaced_digit}
 use Rattle.news_log.specs.Lines.{clock_text, month_names, month_text, news_stamp, three_digits}

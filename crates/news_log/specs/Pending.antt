@@ -1,5 +1,5 @@
 -- Lines that wait to be written.
-use Rattle.std.specs.Prelude.{◌≡◌, ℕ, ◌+◌, ◌-◌, ◌^◌, min, Bool, nat_le, List, [], ◌++◌, length}
+use Rattle.std.specs.Prelude.{ℕ, ◌+◌, ◌-◌, ◌^◌, min, Bool, nat_le, List, [], ◌++◌, length}
 use Rattle.std.specs.Prelude.{if◌then◌else◌}
 
 -- lines that wait: their octets, how many octets have room, and how many lines were lost since

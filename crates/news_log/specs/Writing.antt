@@ -1,6 +1,6 @@
 -- How lines that wait are written.
 use Rattle.std.specs.Prelude.{◌≡◌, ℕ, zero, suc, ◌==◌, ◌++◌, ◌∷◌, Bool, false, true, List, []}
-use Rattle.std.specs.Prelude.{count_by, if◌then◌else◌}
+use Rattle.std.specs.Prelude.{count_by}
 use Rattle.std.specs.Str.{byte}
 use Rattle.news_log.specs.Growing.{IsFrontBehind}
 use Rattle.news_log.specs.Pending.{counted_with}

@@ -1,4 +1,4 @@
-use Rattle.std.proofs.Common.{ap, codes, ℕ, refl, subst, sym}
+use Rattle.std.proofs.Common.{ap, codes, ℕ, subst, sym}
 use Rattle.news_terms.proofs.Moments.{is_first}
 use Rattle.news_terms.specs.Stamps.{IsStamp}
 use Rattle.news_log.specs.Lines.{news_stamp}
