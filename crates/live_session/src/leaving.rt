@@ -65,14 +65,16 @@ fn last_turn<S: Shares<J, R>, C: Clock, G: Gate<R>, J: StorePremises, H: Hears, 
 {
     let mut commands = Commands::of(talk.live.number);
     let mut remarks = Remarks::new(false);
-    match turn(
+    let turned = turn(
         rt,
         alloc,
         context,
         &mut talk.live,
         &mut commands,
         &mut remarks,
-    ) {
+    );
+    drop(remarks);
+    match turned {
         Turned::Says(said) => say(talk, said, false),
         Turned::Rests | Turned::Held => {}
         Turned::Memory => thread::yield_now(),
