@@ -223,7 +223,7 @@ class Soak:
         asked = subprocess.run([PROGRAM, "report", str(self.folder)], capture_output=True, text=True, timeout=600)
         if asked.returncode:
             raise Wrong(f"report ended with {asked.returncode}: {asked.stderr}")
-        return [row for row in asked.stdout.splitlines() if not row.startswith("peer ")]
+        return [row for row in asked.stdout.splitlines() if not row.startswith(("peer ", "refused ", "from "))]
 
     def live(self, number, before):
         """A life: started, looked at, let at by peers for a while, and stopped. Its report at the end."""

@@ -59,7 +59,10 @@ EVENT = re.compile(r"(serving|recovering|recovered|starting|closed|failed|left|w
 
 # The lines that say what of a file.
 FILES = ("file", "folder", "pipe", "link", "symlink", "mode", "cut", "poke", "remove", "missing",
-         "holds")
+         "holds", "news")
+
+# How a line of a news log begins: with a moment.
+MOMENT = re.compile(rb"[A-Z][a-z]{2} [ 123]\d \d\d:\d\d:\d\d\.\d{3} ")
 
 # The lines that set something of the program while it runs.
 SHARES = ("clock", "later", "pause", "pauses", "stall", "stalled", "release", "fails", "peers",
@@ -81,8 +84,8 @@ class Row:
         self.set_before = set()
         self.numbers, self.counts = {}, {}
         self.calls, self.most = {}, None
-        # How many flushes lines have spoken of.
-        self.flushed = 0
+        # How many flushes lines have spoken of, and how many lines of each news log.
+        self.flushed, self.news = 0, {}
         # By their names; the relay has none.
         self.clients, self.programs = {}, {}
         self.started = []
@@ -201,8 +204,28 @@ class Row:
             with open(path, "r+b") as file:
                 file.seek(int(at))
                 file.write(self.octets(octets))
+        elif word == "news":
+            self.read_news(path, more)
         else:
             self.compare(path, more)
+
+    def read_news(self, path, wanted):
+        """The next line of a news log has to be this behind its moment, or there may be none."""
+        at = self.news.get(path.name, 0)
+        end = time.monotonic() + (self.given.patience if wanted else 0.5)
+        while True:
+            lines = path.read_bytes().split(b"\n") if path.exists() else [b""]
+            if len(lines) > at + 1 or time.monotonic() > end:
+                break
+            time.sleep(0.01)
+        if len(lines) <= at + 1:
+            if wanted:
+                raise Wrong(f"{path.name} has no line {at + 1}")
+            return
+        began = MOMENT.match(lines[at])
+        if not began or lines[at][began.end() :] != self.octets(wanted):
+            raise Wrong(f"{path.name} has {cut_to(lines[at])}, not {wanted}")
+        self.news[path.name] = at + 1
 
     def compare(self, path, more):
         """A file has to hold these octets at this place, or as many, or to be so open to others."""

@@ -1,5 +1,5 @@
 -- Verdicts on articles, as the program's values show them (docs/PROTOCOL.md, Judging).
-use Rattle.std.specs.Prelude.{ℕ, List, length, map, not, is_some}
+use Rattle.std.specs.Prelude.{ℕ, List, codes, length, map, not, is_some}
 use Rattle.std.specs.Prelude.{Option, None, Some, Result, Ok, Err}
 use Rattle.std.specs.Prelude.{if◌then◌else◌}
 use Rattle.std.specs.List.{list_all}
@@ -29,6 +29,17 @@ reason_view reasons.Loop = terms.Loop
 reason_view reasons.Date = terms.Date
 reason_view reasons.NoClass = terms.NoClass
 reason_view reasons.TooLarge = terms.TooLarge
+
+-- the name of a reason, as it is told
+abbrev pub reason_name : terms.Reason → List ℕ
+reason_name terms.Size = codes "Size"
+reason_name terms.Grammar = codes "Grammar"
+reason_name terms.IdMismatch = codes "IdMismatch"
+reason_name terms.BadPath = codes "BadPath"
+reason_name terms.Loop = codes "Loop"
+reason_name terms.Date = codes "Date"
+reason_name terms.NoClass = codes "NoClass"
+reason_name terms.TooLarge = codes "TooLarge"
 
 -- a verdict as the definitions have it
 abbrev pub verdict_view : Result Accepted Reason → Result claims.Accepted terms.Reason

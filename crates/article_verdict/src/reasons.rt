@@ -2,7 +2,7 @@
 ghost use Rattle.std.specs.Prelude.{◌≡◌, is_some, IfOk};
 ghost use Rattle.std.specs.Option.{option_map};
 ghost use Rattle.article_parse.specs.Article.{article_view};
-ghost use Rattle.article_verdict.specs.Verdict.{path_reason, reason_view};
+ghost use Rattle.article_verdict.specs.Verdict.{path_reason, reason_name, reason_view};
 ghost use Rattle.date_rules.specs.Seconds.{second_of};
 ghost use Rattle.news_terms.specs.Dates.{date_fault, judged_date};
 
@@ -31,6 +31,24 @@ pub enum Reason {
     NoClass,
     /// It takes more blocks than the smallest buffer of its group has.
     TooLarge,
+}
+
+impl Reason {
+    /// Its name.
+    pub fn name(&self) -> &'static str
+        ensures { result.now ≡ reason_name (reason_view self.now) }
+    {
+        match self {
+            Reason::Size => "Size",
+            Reason::Grammar => "Grammar",
+            Reason::IdMismatch => "IdMismatch",
+            Reason::BadPath => "BadPath",
+            Reason::Loop => "Loop",
+            Reason::Date => "Date",
+            Reason::NoClass => "NoClass",
+            Reason::TooLarge => "TooLarge",
+        }
+    }
 }
 
 /// The reason that a Path gives, if any; `own` is the own identity. It takes no memory.

@@ -17,6 +17,8 @@ use Rattle.cyc_buffer.specs.declared.answers.Fault.{Fault}
 use Rattle.cyc_buffer.specs.declared.answers.Found.{Found}
 use Rattle.cyc_buffer.specs.declared.answers.Found.TheVariants as found
 use Rattle.cyc_buffer.specs.declared.answers.Front.{Front}
+use Rattle.article_verdict.specs.Verdict.{reason_view}
+use Rattle.article_verdict.specs.declared.reasons.Reason.{Reason}
 use Rattle.cyc_token.specs.Token.{token_view}
 use Rattle.cyc_token.specs.declared.Token as codes
 use Rattle.feed_queue.specs.declared.desk.Taken.{Taken}
@@ -217,9 +219,11 @@ module _ {J : Type 0} {g : Ghosts J} (w : Terms) (live : LiveSession J g) where
       (asks.TakesQueue feed most) is refl (taken, refl, few, refl) tt tt
       (λ held article holds e. cc) refl planned
 
-  pub refused : (id : List ℕ) → SharesFor w (steps.Refuse id) live answers.Nothing live
-  refused id honest trust m d gathered planned is fits some =
-      answered honest live answers.Nothing shares.Nothing m d gathered (asks.Refuses is.0 id) is.1
+  pub refused : (id : List ℕ) (reason : Reason)
+      → SharesFor w (steps.Refuse id reason) live answers.Nothing live
+  refused id reason honest trust m d gathered planned is fits some =
+      answered honest live answers.Nothing shares.Nothing m d gathered
+      (asks.Refuses is.0 id (reason_view reason)) is.1
       refl refl tt tt (λ held article holds e. cc) refl planned
 
   -- who holds an article isn't answered that another session stores one

@@ -19,6 +19,10 @@ untold_in counts = counts.untold
 abbrev pub turns_in : Counts → ℕ
 turns_in counts = counts.turns
 
+-- the open offers of which the gate was told last
+abbrev pub offers_in : Counts → ℕ
+offers_in counts = counts.offers
+
 -- octets of replies wait to be written only where they are fewer
 abbrev pub most_waiting : ℕ
 most_waiting = 65536

@@ -3,5 +3,6 @@ pub mod Going
 pub mod Carried
 pub mod Commands
 pub mod Counts
+pub mod Remarks
 pub mod Turns
 pub mod Waiting

@@ -1,8 +1,10 @@
 //! What is counted of a session, and told to the gate.
 ghost use Rattle.std.specs.Prelude.{◌≡◌, ◌<◌, ◌+◌, ◌^◌};
-ghost use Rattle.live_session.specs.Counts.{counted_in, is_of, turns_in, untold_in};
+ghost use Rattle.live_session.specs.Counts.{counted_in, is_of, offers_in, turns_in, untold_in};
+ghost use Rattle.live_session.specs.Remarks.{is_known};
 ghost use Rattle.live_wire.specs.Tally.{after_octets, after_reply, no_tally, tally_sum};
 
+use crate::remarks::Remark;
 use crate::shares::Gate;
 use live_wire::Tally;
 
@@ -14,6 +16,8 @@ pub(crate) struct Counts {
     told: Tally,
     untold: Tally,
     turns: u64,
+    /// The open offers of which the gate was told last.
+    offers: usize,
 }
 
 impl Counts {
@@ -22,12 +26,14 @@ impl Counts {
         ensures peer { is_of result ≡ peer }
         ensures none { (counted_in result ≡ no_tally) × (untold_in result ≡ no_tally) }
         ensures turns { turns_in result ≡ 0 }
+        ensures offers { offers_in result ≡ 0 }
     {
         Counts {
             peer,
             told: Tally::none(),
             untold: Tally::none(),
             turns: 0,
+            offers: 0,
         }
     }
 
@@ -49,14 +55,35 @@ impl Counts {
         self.turns
     }
 
-    /// This was said.
-    pub(crate) fn say(&mut self, said: &[u8])
-        ensures untold { untold_in self.new ≡ after_reply said.now (untold_in self.old) }
+    /// This was said; it was of an article that was known when it was sent, or not.
+    pub(crate) fn say(&mut self, said: &[u8], was_known: bool)
+        ensures untold { untold_in self.new ≡ after_reply was_known said.now (untold_in self.old) }
         ensures rest { (is_of self.new ≡ is_of self.old)
             × (counted_in self.new ≡ counted_in self.old)
             × (turns_in self.new ≡ turns_in self.old) }
     {
-        self.untold.add_reply(said);
+        self.untold.add_reply(said, was_known);
+    }
+
+    /// Tells the gate what became of an article, where something is remarked of it, with the reply
+    /// to it: whether it was known.
+    pub(crate) fn remark<G: Gate<R>, R>(
+        &self,
+        rt: &R,
+        gate: &G,
+        said: &[u8],
+        remark: Option<Remark>,
+    ) -> bool
+        ensures { result ≡ is_known remark }
+    {
+        let Some(remark) = remark else {
+            return false;
+        };
+        gate.remarked(rt, self.peer, said, &remark);
+        match remark {
+            Remark::Known(_) => true,
+            _ => false,
+        }
     }
 
     /// So many octets were read.
@@ -69,14 +96,18 @@ impl Counts {
         self.untold.add_octets(octets);
     }
 
-    /// Tells the gate what was counted since it was told last.
-    pub(crate) fn tell<G: Gate<R>, R>(&mut self, rt: &R, gate: &G)
+    /// Tells the gate what was counted since it was told last, and that the session has so many
+    /// offers open.
+    pub(crate) fn tell<G: Gate<R>, R>(&mut self, rt: &R, gate: &G, offers: usize)
         ensures untold { untold_in self.new ≡ no_tally }
         ensures all { counted_in self.new ≡ tally_sum (counted_in self.old) (untold_in self.old) }
         ensures rest { (is_of self.new ≡ is_of self.old)
             × (turns_in self.new ≡ turns_in self.old) }
+        ensures offers { offers_in self.new ≡ offers }
     {
         gate.counted(rt, self.peer, &self.untold);
+        gate.offers(rt, self.peer, self.offers, offers);
+        self.offers = offers;
         self.told.add(&self.untold);
         self.untold = Tally::none();
     }

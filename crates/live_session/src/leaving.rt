@@ -8,6 +8,7 @@ ghost use Rattle.relay_model.specs.Terms.{Terms};
 
 use crate::commands::Commands;
 use crate::live::{Conversation, LiveSession, SessionContext, Turned};
+use crate::remarks::Remarks;
 use crate::shares::{Clock, Gate, Shares};
 use crate::turn::turn;
 use crate::wire::say;
@@ -63,8 +64,18 @@ fn last_turn<S: Shares<J, R>, C: Clock, G: Gate<R>, J: StorePremises, H: Hears, 
         talk.new.wire.outbox talk.new.wire.finish) talk.old.counts talk.new.counts }
 {
     let mut commands = Commands::of(talk.live.number);
-    match turn(rt, alloc, context, &mut talk.live, &mut commands) {
-        Turned::Says(said) => say(talk, said),
+    let mut remarks = Remarks::new(false);
+    let turned = turn(
+        rt,
+        alloc,
+        context,
+        &mut talk.live,
+        &mut commands,
+        &mut remarks,
+    );
+    drop(remarks);
+    match turned {
+        Turned::Says(said) => say(talk, said, false),
         Turned::Rests | Turned::Held => {}
         Turned::Memory => thread::yield_now(),
     }

@@ -8,6 +8,7 @@ mod counts;
 mod leaving;
 mod live;
 mod pushing;
+mod remarks;
 mod serve;
 mod shares;
 mod sharing;
@@ -16,6 +17,7 @@ mod wire;
 
 pub use commands::Command;
 pub use live::{Connection, Served, SessionContext};
+pub use remarks::{Remark, Taken};
 pub use serve::serve_session;
 pub use shares::{Clock, Gate, Shares};
 pub use wire::Finish;

@@ -20,6 +20,7 @@ use crate::commands::{Command, Commands};
 use crate::counts::Counts;
 use crate::leaving::{break_off, leave};
 use crate::live::{Connection, Conversation, LiveSession, Served, SessionContext, Turned};
+use crate::remarks::Remarks;
 use crate::shares::{Clock, Gate, Shares};
 use crate::turn::turn;
 use crate::wire::{Finish, Wire, flush, say, stop};
@@ -180,7 +181,7 @@ fn serve_through<
     leave(rt, alloc, context, talk);
     flush(&mut talk.wire);
     stop(&mut talk.wire, Finish::TurnsSpent);
-    talk.counts.tell(rt, context.gate);
+    talk.counts.tell(rt, context.gate, 0);
 }
 
 /// What is left of a connection that is broken before its greeting.
@@ -276,12 +277,13 @@ fn converse<S: Shares<J, R>, C: Clock, G: Gate<R>, J: StorePremises, H: Hears, W
     ensures turns { talk.new.wire.finish ≡ None → turns_in talk.new.counts ≡ most_turns }
 {
     let mut commands = Commands::of(talk.live.number);
+    let mut remarks = Remarks::new(context.gate.wants_stored());
     for _ in 0..TURNS {
         if talk.wire.finish.is_some() {
             break;
         }
         talk.counts.turn();
-        round(rt, alloc, context, talk, &mut commands);
+        round(rt, alloc, context, talk, &mut commands, &mut remarks);
     }
 }
 
@@ -292,6 +294,7 @@ fn round<S: Shares<J, R>, C: Clock, G: Gate<R>, J: StorePremises, H: Hears, W: S
     context: &SessionContext<S, C, G>,
     talk: &mut Conversation<J, H, W>,
     commands: &mut Commands,
+    remarks: &mut Remarks,
 )
     requires register { context.now.register.now ≡ J.register }
     requires seat { IsSeatOf context.now.channels.now talk.old.live.seat }
@@ -303,13 +306,15 @@ fn round<S: Shares<J, R>, C: Clock, G: Gate<R>, J: StorePremises, H: Hears, W: S
         (carried (H.heard talk.new.wire.reader) (W.said talk.new.wire.writer)
         talk.new.wire.outbox talk.new.wire.finish) talk.old.counts talk.new.counts commands.new }
 {
-    match turn(rt, alloc, context, &mut talk.live, commands) {
+    match turn(rt, alloc, context, &mut talk.live, commands, remarks) {
         Turned::Says(said) => {
-            say(talk, said);
+            let was_known = talk.counts.remark(rt, context.gate, &said, remarks.take());
+            say(talk, said, was_known);
             write_on(rt, context.gate, &mut talk.wire, commands.newest());
         }
         Turned::Rests => {
-            talk.counts.tell(rt, context.gate);
+            let offers = talk.live.session.open_offers();
+            talk.counts.tell(rt, context.gate, offers);
             flush(&mut talk.wire);
             receive(talk);
         }

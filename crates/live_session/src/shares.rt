@@ -9,6 +9,7 @@ ghost use Rattle.live_store.specs.Steps.{IsRecordAfter, ones_found};
 ghost use Rattle.relay_model.specs.Terms.{last_moment};
 
 use crate::commands::Command;
+use crate::remarks::Remark;
 use crate::wire::Finish;
 use cyc_block::CHUNK_OCTETS;
 use cyc_buffer::Fault;
@@ -135,8 +136,21 @@ pub trait Gate<R> {
     fn leave(&self, rt: &R, command: Command)
         requires { ∥ admits self.now command ∥₁ };
 
-    /// A session of a peer begins.
-    fn opened(&self, _rt: &R, _peer: usize, _session: u64) {}
+    /// A session of a peer begins, connected from this address.
+    fn opened(&self, _rt: &R, _peer: usize, _session: u64, _from: Ipv6Addr) {}
+
+    /// Whether it wants to be told of articles that are stored.
+    fn wants_stored(&self) -> bool {
+        false
+    }
+
+    /// This became of an article that a session of a peer was sent, and this is the reply to it; of
+    /// one that is stored only where that is wanted.
+    fn remarked(&self, _rt: &R, _peer: usize, _reply: &[u8], _remark: &Remark) {}
+
+    /// A session of a peer has so many offers open, of which it was told to have so many before: it
+    /// is told before the session waits for its peer, and once it has ended.
+    fn offers(&self, _rt: &R, _peer: usize, _had: usize, _has: usize) {}
 
     /// A session of a peer has said and read this much more: it is told before the session waits
     /// for its peer, and once it has ended.

@@ -52,7 +52,13 @@ pub(crate) fn share<'a, S: Shares<J, R>, J: StorePremises, R: Wait>(
             Ok(taken) => Answer::Queue(taken),
             Err(_) => Answer::Memory,
         },
-        Step::Refuse(id) => match shares.refuse(rt, id, session, context.moment, context.lasting) {
+        Step::Refuse(id, _) => match shares.refuse(
+            rt,
+            id,
+            session,
+            context.moment,
+            context.lasting,
+        ) {
             Ok(()) => Answer::Nothing,
             Err(_) => Answer::Memory,
         },

@@ -6,6 +6,7 @@ ghost use Rattle.live_session.specs.Carried.{Refusal};
 ghost use Rattle.live_session.specs.Commands.{WasAsked, WasLetIn, newest_in};
 ghost use Rattle.live_session.specs.Going.{KeepsButSession, LetsGo};
 ghost use Rattle.live_session.specs.Going.{TakesPlanned, said_in};
+ghost use Rattle.live_session.specs.Remarks.{RemarksOn};
 ghost use Rattle.live_session.specs.Turns.{HadTurn, HasHeard};
 ghost use Rattle.live_session.specs.declared.live.Turned.TheVariants as turns;
 ghost use Rattle.peer_session.specs.declared.steps.Step.TheVariants as steps;
@@ -13,6 +14,7 @@ ghost use Rattle.relay_model.specs.Terms.{Terms, last_moment};
 
 use crate::commands::Commands;
 use crate::live::{LiveSession, SessionContext, StepContext, Turned};
+use crate::remarks::Remarks;
 use crate::shares::{Clock, Gate, Shares};
 use crate::sharing::{share, share_read};
 use cyc_block::CHUNK_OCTETS;
@@ -29,6 +31,7 @@ pub(crate) fn turn<S: Shares<J, R>, C: Clock, G: Gate<R>, J: StorePremises, R: W
     context: &SessionContext<S, C, G>,
     live: &mut LiveSession<J>,
     commands: &mut Commands,
+    remarks: &mut Remarks,
 ) -> Turned
     requires register { context.now.register.now ≡ J.register }
     requires seat { IsSeatOf context.now.channels.now live.old.seat }
@@ -58,15 +61,17 @@ pub(crate) fn turn<S: Shares<J, R>, C: Clock, G: Gate<R>, J: StorePremises, R: W
         moment: now,
         lasting: context.config.relay.offers,
     };
-    take_planned(rt, &context, live, step)
+    take_planned(rt, &context, live, step, remarks)
 }
 
-/// The step that the session planned at the moment is done, and it hears the answer.
+/// The step that the session planned at the moment is done, and it hears the answer; what is
+/// remarked is of that.
 fn take_planned<S: Shares<J, R>, J: StorePremises, R: Wait>(
     rt: &R,
     context: &StepContext<S>,
     live: &mut LiveSession<J>,
     step: Step,
+    remarks: &mut Remarks,
 ) -> Turned
     requires register { context.now.register.now ≡ J.register }
     requires seat { IsSeatOf context.now.channels.now live.old.seat }
@@ -76,6 +81,8 @@ fn take_planned<S: Shares<J, R>, J: StorePremises, R: Wait>(
     ensures went { (w : Terms) → TakesPlanned w context.now.moment step live.old
         (said_in result) live.new }
     ensures let_in { result ≢ turns.Held }
+    ensures remark { RemarksOn context.now.channels.now step live.old result live.new remarks.old
+        remarks.new }
 {
     match step {
         Step::Read(token, k) => {
@@ -83,8 +90,9 @@ fn take_planned<S: Shares<J, R>, J: StorePremises, R: Wait>(
             take_read(rt, context, live, token, k)
         }
         _ => {
+            remarks.prepare(context.alloc, &step, live.session.in_hand());
             let answer = share(rt, context, live, &step);
-            drop(step);
+            remarks.note(step, &answer);
             hear(live, answer)
         }
     }

@@ -3,8 +3,9 @@ ghost use Rattle.std.specs.Prelude.{◌≡◌, [], Some, true, false, is_some, u
 ghost use Rattle.live_session.specs.Carried.{CarriesOn, CarriesSame, Lasts, carried, finish_of};
 ghost use Rattle.live_session.specs.Carried.{is_break, part_finish};
 ghost use Rattle.live_session.specs.Carried as words;
-ghost use Rattle.live_session.specs.Counts.{turns_in};
+ghost use Rattle.live_session.specs.Counts.{turns_in, untold_in};
 ghost use Rattle.live_session.specs.declared.wire.Finish.TheVariants as finishes;
+ghost use Rattle.live_wire.specs.Tally.{after_reply};
 ghost use Rattle.peer_session.specs.Session.{has_parted};
 
 use crate::live::Conversation;
@@ -85,10 +86,12 @@ fn put<H: Hears, W: Says>(wire: &mut Wire<H, W>, said: Vec<u8>, leaves: bool)
     append(wire, said);
 }
 
-/// What a session said is counted, and is to be written.
+/// What a session said is counted, of an article that was known when it was sent or not, and is to
+/// be written.
 pub(crate) fn say<J: StorePremises, H: Hears, W: Says>(
     talk: &mut Conversation<J, H, W>,
     said: Vec<u8>,
+    was_known: bool,
 )
     ensures on { CarriesOn
         (carried (H.heard talk.old.wire.reader) (W.said talk.old.wire.writer)
@@ -99,8 +102,10 @@ pub(crate) fn say<J: StorePremises, H: Hears, W: Says>(
     ensures ends { Lasts talk.old.wire.finish talk.new.wire.finish }
     ensures live { talk.new.live ≡ talk.old.live }
     ensures turns { turns_in talk.new.counts ≡ turns_in talk.old.counts }
+    ensures counted { untold_in talk.new.counts
+        ≡ after_reply was_known said.items (untold_in talk.old.counts) }
 {
-    talk.counts.say(&said);
+    talk.counts.say(&said, was_known);
     put(&mut talk.wire, said, talk.live.session.has_parted());
 }
 

@@ -1,5 +1,5 @@
 -- Replies and octets, counted.
-use Rattle.std.specs.Prelude.{ℕ, ◌||◌, List, codes, cond, take}
+use Rattle.std.specs.Prelude.{ℕ, ◌||◌, Bool, true, false, List, codes, cond, take}
 use Rattle.std.specs.Hash.DefaultHasher.{wrapping_add}
 use Rattle.std.specs.Str.{bytes_eq}
 use Rattle.live_wire.specs.declared.tally.Tally.{Tally}
@@ -17,9 +17,11 @@ abbrev pub on_code : (one other said : List ℕ) → ℕ → ℕ
 on_code one other said n = wrapping_add n (worth_of (take 3 said) one other)
 
 -- what is counted once this was said: 239 and 235 take an article, 438 and 435 know it, 439 and 437
--- refuse it, 431 and 436 ask for it later (RFC 4644 section 2, RFC 3977 section 6.3.2)
-abbrev pub after_reply : (said : List ℕ) → Tally → Tally
-after_reply said tally =
+-- refuse it, 431 and 436 ask for it later (RFC 4644 section 2, RFC 3977 section 6.3.2); one that
+-- was known when it was sent is known, by the code that refuses it too
+abbrev pub after_reply : (was_known : Bool) → (said : List ℕ) → Tally → Tally
+after_reply true said tally = record tally { known = wrapping_add tally.known 1 }
+after_reply false said tally =
     record tally {
       accepted = on_code (codes "239") (codes "235") said tally.accepted;
       known = on_code (codes "438") (codes "435") said tally.known;

@@ -9,9 +9,9 @@ ghost use Rattle.live_wire.specs.Tally.{after_octets, after_reply, no_tally, tal
 pub struct Tally {
     /// Articles that were taken: 239, 235.
     pub accepted: u64,
-    /// Articles that were there: 438, 435.
+    /// Articles that were there, when they were offered (438, 435) or sent (439, 437).
     pub known: u64,
-    /// Articles that were refused: 439, 437.
+    /// Articles that were refused: 439, 437 otherwise.
     pub refused: u64,
     /// Articles that are to be offered later: 431, 436.
     pub later: u64,
@@ -33,10 +33,15 @@ impl Tally {
         }
     }
 
-    /// Counts a reply by its code (RFC 4644 section 2, RFC 3977 section 6.3.2).
-    pub fn add_reply(&mut self, said: &[u8])
-        ensures { self.new ≡ after_reply said.now self.old }
+    /// Counts a reply by its code (RFC 4644 section 2, RFC 3977 section 6.3.2), but one to an
+    /// article that was known when it was sent, whatever its code.
+    pub fn add_reply(&mut self, said: &[u8], was_known: bool)
+        ensures { self.new ≡ after_reply was_known said.now self.old }
     {
+        if was_known {
+            self.known = self.known.wrapping_add(1);
+            return;
+        }
         let code = &said[..said.len().min(3)];
         self.accepted = self.accepted.wrapping_add(worth(code, b"239", b"235"));
         self.known = self.known.wrapping_add(worth(code, b"438", b"435"));

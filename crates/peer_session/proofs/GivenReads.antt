@@ -212,7 +212,7 @@ no_block (todos.Look part id room) read old d none is = ap (λ (one : Due). read
 no_block (todos.Fetch reading) read old d none is = cc
 no_block todos.ReadOn read old d none is = cc
 no_block (todos.Queue room) read old d none is = ap (λ (one : Due). reads_block one.ask) is.1
-no_block (todos.Refuse room) read old d none is = ap (λ (one : Due). reads_block one.ask) is.3
+no_block (todos.Refuse room) read old d none is = ap (λ (one : Due). reads_block one.ask) is.4
 no_block (todos.Take copy article room) read old d none is =
     ap (λ (one : Due). reads_block one.ask) is.2
 no_block (todos.TakeHeld copy) read old d none is = ap (λ (one : Due). reads_block one.ask) is.3

@@ -56,7 +56,7 @@ is_push todos.ReadOn read old d job due ask = absurd (no_push d _ _ job due.3 (�
 is_push (todos.Queue room) read old d job due ask =
     absurd (no_push d _ _ job due.1 (λ e. cc) ask)
 is_push (todos.Refuse room) read old d job due ask =
-    absurd (no_push d _ _ job due.3 (λ e. cc) ask)
+    absurd (no_push d _ _ job due.4 (λ e. cc) ask)
 is_push (todos.Take copy article room) read old d job due ask =
     absurd (no_push d _ _ job due.2 (λ e. cc) ask)
 is_push (todos.TakeHeld copy) read old d job due ask =

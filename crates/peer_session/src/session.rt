@@ -1,6 +1,6 @@
 //! The session: what it plans, what it makes of an answer, and what comes to it.
-ghost use Rattle.std.specs.Prelude.{◌≡◌, ◌≢◌, ◌≤◌, [], length, IfOk, IsOk, OnErr, MatchOption};
-ghost use Rattle.std.specs.Prelude.{None, Some};
+ghost use Rattle.std.specs.Prelude.{◌≡◌, ◌≢◌, ◌≤◌, [], length, IfOk, IsOk, OnErr};
+ghost use Rattle.std.specs.Option.{option_copied};
 ghost use Rattle.article_verdict.specs.Config.{terms_of};
 ghost use Rattle.news_terms.specs.Reply.{Reply};
 ghost use Rattle.relay_model.specs.Hears.{parts, says, silent};
@@ -145,7 +145,7 @@ impl Session {
 
     /// The job that it has accepted and hasn't pushed yet, if there is one.
     pub fn in_hand(&self) -> Option<&Job>
-        ensures { MatchOption result (self.now.hand ≡ None) (λ job. self.now.hand ≡ Some job.now) }
+        ensures { option_copied result ≡ self.now.hand }
     {
         match &self.hand {
             Some(job) => Some(job),

@@ -1,5 +1,5 @@
 -- What lines of relay.conf say is as it may be configured: identities, and numbers in their ranges.
-use Rattle.std.proofs.Common.{◌≡◌, ℕ, ◌+◌, ◌≤◌, true, List, [], ◌∷◌, All, Option, None, Some}
+use Rattle.std.proofs.Common.{◌≡◌, ℕ, ◌+◌, ◌≤◌, Bool, true, List, [], ◌∷◌, All, Option, None, Some}
 use Rattle.std.proofs.Common.{Result, Ok, Err, sym, subst, arith}
 use Rattle.std.specs.Prelude.{◌&&◌, filter_map, flat_map, codes, bytes_eq, option_map, IsTrue}
 use Rattle.std.proofs.lemmas.Bool.{and_parts, cond_both}
@@ -20,6 +20,7 @@ use Rattle.relay_conf.specs.RelayLines.{RelayLine, RawLine, SaidLine, Own, MaxAr
 use Rattle.relay_conf.specs.RelayLines.{Remember, Patience, Sync, Offers, PeerLine, ConnectionsLine}
 use Rattle.relay_conf.specs.RelayLines.{FeedLine}
 use Rattle.relay_conf.specs.RelayLines.{RawSays, LineSays, own_line, number_line, number_or_fault}
+use Rattle.relay_conf.specs.RelayLines.{log_line, log_in, logs_all}
 use Rattle.relay_conf.specs.RelayLines.{with_number, bind_line, peer_ported, peer_line}
 use Rattle.relay_conf.specs.RelayLines.{connections_numbered, connections_line, allow_line}
 use Rattle.relay_conf.specs.RelayLines.{allow_ranged}
@@ -30,6 +31,7 @@ use Rattle.relay_conf.specs.RelayLines.{feed_line, relay_words, relay_line}
 use Rattle.relay_conf.specs.Relay.{own_of, max_article_of, cutoff_of, remember_of, patience_of}
 use Rattle.relay_conf.specs.Relay.{sync_of, offers_of, peer_of, connections_of, feed_of, allow_of}
 use Rattle.relay_conf.specs.Relay.{allows_of}
+use Rattle.relay_conf.specs.Cycbuff.{is_file}
 use Rattle.relay_conf.specs.Words.{words, is_name, is_identity}
 use Rattle.relay_conf.proofs.FaultlessLines.{all_given, all_listed, all_said, within_range}
 use Rattle.relay_conf.proofs.PathIdentities.{identity_is_agent}
@@ -57,9 +59,17 @@ of_number line least most None h = tt
 of_number line least most (Some word) h =
     within_range IsRanged (λ o. with_number line (number_or_fault o)) least most word tt h
 
--- with what follows `own`, `bind`, `peer`, `connections`, `allow` and `feed`,
+-- with what follows `own`, `log`, `bind`, `peer`, `connections`, `allow` and `feed`,
 of_own : (word : Option (List ℕ)) → IsRanged (own_line word)
 of_own word = grind arith
+
+of_log : (two : Option (List ℕ × List ℕ)) → IsRanged (log_line two)
+of_log None = tt
+of_log (Some two) = by_word (logs_all two.0)
+  where
+    by_word : (all : Option Bool) → IsRanged (log_in all two.1)
+    by_word None = tt
+    by_word (Some all) = cond_both (is_file two.1) _ _ IsRanged (λ e. tt) (λ e. tt)
 
 of_bind : (word : Option (List ℕ)) → IsRanged (bind_line word)
 of_bind word = grind arith
@@ -156,13 +166,14 @@ of_words (word ∷ after) =
     (λ e. of_number Sync 1 86400 (one_of after) (λ n least most. (least, most)))
     (λ e. cond_both (bytes_eq word (codes "offers")) _ _ IsRanged
     (λ e. of_number Offers 1 86400 (one_of after) (λ n least most. (least, most)))
+    (λ e. cond_both (bytes_eq word (codes "log")) _ _ IsRanged (λ e. of_log (two_of after))
     (λ e. cond_both (bytes_eq word (codes "bind")) _ _ IsRanged (λ e. of_bind (one_of after))
     (λ e. cond_both (bytes_eq word (codes "peer")) _ _ IsRanged (λ e. of_peer (three_of after))
     (λ e. cond_both (bytes_eq word (codes "connections")) _ _ IsRanged
     (λ e. of_connections (two_of after))
     (λ e. cond_both (bytes_eq word (codes "allow")) _ _ IsRanged (λ e. of_allow after)
     (λ e. cond_both (bytes_eq word (codes "feed")) _ _ IsRanged (λ e. of_feed (three_of after))
-    (λ e. tt))))))))))))
+    (λ e. tt)))))))))))))
 
 -- with a line,
 of_line : (line : List ℕ) → IsRanged (relay_line line)

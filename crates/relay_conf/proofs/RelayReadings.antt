@@ -29,7 +29,7 @@ use Rattle.relay_conf.specs.RelayLines.{RelayLine, RawLine, SaidLine, RawSays, L
 use Rattle.relay_conf.specs.RelayLines.{AllowLine}
 use Rattle.relay_conf.specs.Relay.{name_in, Stand, stand_of, own_of, max_article_of, cutoff_of}
 use Rattle.relay_conf.specs.Relay.{remember_of, patience_of, sync_of, offers_of, bind_of, peer_of}
-use Rattle.relay_conf.specs.Relay.{connections_of}
+use Rattle.relay_conf.specs.Relay.{connections_of, log_of}
 use Rattle.relay_conf.specs.Relay.{feed_name_of, feed_of, allows_of, line_fault, early_fault}
 use Rattle.relay_conf.specs.Relay.{late_fault}
 use Rattle.relay_conf.specs.Relay.{unknown_fault, again_fault, no_own_fault, first_or, first_of}
@@ -57,6 +57,7 @@ join st line =
       patiences = st.patiences ++ option_to_list (patience_of line);
       syncs = st.syncs ++ option_to_list (sync_of line);
       offers = st.offers ++ option_to_list (offers_of line);
+      logs = st.logs ++ option_to_list (log_of line);
       binds = st.binds ++ option_to_list (bind_of line);
       peers = st.peers ++ option_to_list (peer_of line);
       connections = st.connections ++ option_to_list (connections_of line);
@@ -262,6 +263,7 @@ settings_by st feeds allows =
       patience = first_or 3600 st.patiences;
       sync = first_of st.syncs;
       offers = first_of st.offers;
+      log = first_of st.logs;
       binds = binds_or_each st.binds;
       peers = map (connected st.connections) st.peers;
       feeds = feeds;
@@ -303,6 +305,7 @@ reading_says said r none reading =
       first_or_is r.patience 3600,
       first_of_is r.sync,
       first_of_is r.offers,
+      first_of_is r.log,
     ) refl)
 
 -- The draft of no lines.

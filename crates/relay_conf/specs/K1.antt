@@ -47,6 +47,7 @@ k1_relay =
       patience = 3600;
       sync = None;
       offers = None;
+      log = None;
       binds = each_address ∷ [];
       peers =
           record { name = codes "p1"; identity = codes "one.example"; port = 0; connections = 1 }

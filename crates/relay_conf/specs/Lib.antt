@@ -9,6 +9,7 @@ pub mod K1
 pub mod K2
 pub mod LineByLine
 pub mod Lines
+pub mod LogExamples
 pub mod Places
 pub mod Reach
 pub mod ReachExamples

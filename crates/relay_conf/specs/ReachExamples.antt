@@ -35,6 +35,7 @@ settings_with binds peers allows =
       patience = 3600;
       sync = None;
       offers = None;
+      log = None;
       binds = binds;
       peers = peers;
       feeds = [];

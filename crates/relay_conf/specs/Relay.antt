@@ -12,10 +12,11 @@ use Rattle.relay_conf.specs.declared.relay.Feed.{Feed}
 use Rattle.relay_conf.specs.declared.relay.PeerConnections.{PeerConnections}
 use Rattle.relay_conf.specs.declared.reach.Allow.{Allow}
 use Rattle.relay_conf.specs.declared.reach.Range.{Range}
+use Rattle.relay_conf.specs.declared.settings.NewsLog.{NewsLog}
 use Rattle.relay_conf.specs.Faults.{first_fault, whole_fault, unless_fault}
 use Rattle.relay_conf.specs.RelayLines.{SaidLine, Skipped, Own, MaxArticle, Cutoff, Remember}
 use Rattle.relay_conf.specs.RelayLines.{Patience, Sync, Offers, Bind, PeerLine, ConnectionsLine}
-use Rattle.relay_conf.specs.RelayLines.{AllowLine}
+use Rattle.relay_conf.specs.RelayLines.{Log, AllowLine}
 use Rattle.relay_conf.specs.RelayLines.{FeedLine, mapped}
 
 -- the own identity that a line says
@@ -29,6 +30,7 @@ own_of (Ok (Remember seconds)) = None
 own_of (Ok (Patience seconds)) = None
 own_of (Ok (Sync seconds)) = None
 own_of (Ok (Offers seconds)) = None
+own_of (Ok (Log all path)) = None
 own_of (Ok (Bind address)) = None
 own_of (Ok (PeerLine name identity port)) = None
 own_of (Ok (ConnectionsLine name connections)) = None
@@ -46,6 +48,7 @@ max_article_of (Ok (Remember seconds)) = None
 max_article_of (Ok (Patience seconds)) = None
 max_article_of (Ok (Sync seconds)) = None
 max_article_of (Ok (Offers seconds)) = None
+max_article_of (Ok (Log all path)) = None
 max_article_of (Ok (Bind address)) = None
 max_article_of (Ok (PeerLine name identity port)) = None
 max_article_of (Ok (ConnectionsLine name connections)) = None
@@ -63,6 +66,7 @@ cutoff_of (Ok (Remember seconds)) = None
 cutoff_of (Ok (Patience seconds)) = None
 cutoff_of (Ok (Sync seconds)) = None
 cutoff_of (Ok (Offers seconds)) = None
+cutoff_of (Ok (Log all path)) = None
 cutoff_of (Ok (Bind address)) = None
 cutoff_of (Ok (PeerLine name identity port)) = None
 cutoff_of (Ok (ConnectionsLine name connections)) = None
@@ -80,6 +84,7 @@ remember_of (Ok (Remember seconds)) = Some seconds
 remember_of (Ok (Patience seconds)) = None
 remember_of (Ok (Sync seconds)) = None
 remember_of (Ok (Offers seconds)) = None
+remember_of (Ok (Log all path)) = None
 remember_of (Ok (Bind address)) = None
 remember_of (Ok (PeerLine name identity port)) = None
 remember_of (Ok (ConnectionsLine name connections)) = None
@@ -97,6 +102,7 @@ patience_of (Ok (Remember seconds)) = None
 patience_of (Ok (Patience seconds)) = Some seconds
 patience_of (Ok (Sync seconds)) = None
 patience_of (Ok (Offers seconds)) = None
+patience_of (Ok (Log all path)) = None
 patience_of (Ok (Bind address)) = None
 patience_of (Ok (PeerLine name identity port)) = None
 patience_of (Ok (ConnectionsLine name connections)) = None
@@ -114,6 +120,7 @@ sync_of (Ok (Remember seconds)) = None
 sync_of (Ok (Patience seconds)) = None
 sync_of (Ok (Sync seconds)) = Some seconds
 sync_of (Ok (Offers seconds)) = None
+sync_of (Ok (Log all path)) = None
 sync_of (Ok (Bind address)) = None
 sync_of (Ok (PeerLine name identity port)) = None
 sync_of (Ok (ConnectionsLine name connections)) = None
@@ -131,11 +138,30 @@ offers_of (Ok (Remember seconds)) = None
 offers_of (Ok (Patience seconds)) = None
 offers_of (Ok (Sync seconds)) = None
 offers_of (Ok (Offers seconds)) = Some seconds
+offers_of (Ok (Log all path)) = None
 offers_of (Ok (Bind address)) = None
 offers_of (Ok (PeerLine name identity port)) = None
 offers_of (Ok (ConnectionsLine name connections)) = None
 offers_of (Ok (AllowLine name ranges)) = None
 offers_of (Ok (FeedLine name ring expression)) = None
+
+-- the news log that a line says
+abbrev pub log_of : SaidLine → Option NewsLog
+log_of (Err fault) = None
+log_of (Ok Skipped) = None
+log_of (Ok (Own identity)) = None
+log_of (Ok (MaxArticle octets)) = None
+log_of (Ok (Cutoff seconds)) = None
+log_of (Ok (Remember seconds)) = None
+log_of (Ok (Patience seconds)) = None
+log_of (Ok (Sync seconds)) = None
+log_of (Ok (Offers seconds)) = None
+log_of (Ok (Log all path)) = Some (record { all = all; path = path })
+log_of (Ok (Bind address)) = None
+log_of (Ok (PeerLine name identity port)) = None
+log_of (Ok (ConnectionsLine name connections)) = None
+log_of (Ok (AllowLine name ranges)) = None
+log_of (Ok (FeedLine name ring expression)) = None
 
 -- the address to listen on that a line says
 abbrev pub bind_of : SaidLine → Option (List ℕ)
@@ -148,6 +174,7 @@ bind_of (Ok (Remember seconds)) = None
 bind_of (Ok (Patience seconds)) = None
 bind_of (Ok (Sync seconds)) = None
 bind_of (Ok (Offers seconds)) = None
+bind_of (Ok (Log all path)) = None
 bind_of (Ok (Bind address)) = Some address
 bind_of (Ok (PeerLine name identity port)) = None
 bind_of (Ok (ConnectionsLine name connections)) = None
@@ -165,6 +192,7 @@ peer_of (Ok (Remember seconds)) = None
 peer_of (Ok (Patience seconds)) = None
 peer_of (Ok (Sync seconds)) = None
 peer_of (Ok (Offers seconds)) = None
+peer_of (Ok (Log all path)) = None
 peer_of (Ok (Bind address)) = None
 peer_of (Ok (PeerLine name identity port)) =
     Some (record { name = name; identity = identity; port = port; connections = 1 })
@@ -183,6 +211,7 @@ connections_of (Ok (Remember seconds)) = None
 connections_of (Ok (Patience seconds)) = None
 connections_of (Ok (Sync seconds)) = None
 connections_of (Ok (Offers seconds)) = None
+connections_of (Ok (Log all path)) = None
 connections_of (Ok (Bind address)) = None
 connections_of (Ok (PeerLine name identity port)) = None
 connections_of (Ok (ConnectionsLine name connections)) =
@@ -201,6 +230,7 @@ feed_name_of (Ok (Remember seconds)) = None
 feed_name_of (Ok (Patience seconds)) = None
 feed_name_of (Ok (Sync seconds)) = None
 feed_name_of (Ok (Offers seconds)) = None
+feed_name_of (Ok (Log all path)) = None
 feed_name_of (Ok (Bind address)) = None
 feed_name_of (Ok (PeerLine name identity port)) = None
 feed_name_of (Ok (ConnectionsLine name connections)) = None
@@ -218,6 +248,7 @@ name_in (Ok (Remember seconds)) = None
 name_in (Ok (Patience seconds)) = None
 name_in (Ok (Sync seconds)) = None
 name_in (Ok (Offers seconds)) = None
+name_in (Ok (Log all path)) = None
 name_in (Ok (Bind address)) = None
 name_in (Ok (PeerLine name identity port)) = None
 name_in (Ok (ConnectionsLine name connections)) = Some name
@@ -244,6 +275,7 @@ feed_of peers (Ok (Remember seconds)) = None
 feed_of peers (Ok (Patience seconds)) = None
 feed_of peers (Ok (Sync seconds)) = None
 feed_of peers (Ok (Offers seconds)) = None
+feed_of peers (Ok (Log all path)) = None
 feed_of peers (Ok (Bind address)) = None
 feed_of peers (Ok (PeerLine name identity port)) = None
 feed_of peers (Ok (ConnectionsLine name connections)) = None
@@ -266,6 +298,7 @@ allows_of peers (Ok (Remember seconds)) = []
 allows_of peers (Ok (Patience seconds)) = []
 allows_of peers (Ok (Sync seconds)) = []
 allows_of peers (Ok (Offers seconds)) = []
+allows_of peers (Ok (Log all path)) = []
 allows_of peers (Ok (Bind address)) = []
 allows_of peers (Ok (PeerLine name identity port)) = []
 allows_of peers (Ok (ConnectionsLine name connections)) = []
@@ -281,6 +314,7 @@ pub record Stand : Type 0 where
   pub patiences : List ℕ
   pub syncs : List ℕ
   pub offers : List ℕ
+  pub logs : List NewsLog
   pub binds : List (List ℕ)
   pub peers : List Peer
   pub connections : List PeerConnections
@@ -297,6 +331,7 @@ stand_of said =
       patiences = filter_map patience_of said;
       syncs = filter_map sync_of said;
       offers = filter_map offers_of said;
+      logs = filter_map log_of said;
       binds = filter_map bind_of said;
       peers = filter_map peer_of said;
       connections = filter_map connections_of said;
@@ -332,6 +367,7 @@ line_fault stand (Ok (Remember seconds)) = once stand.remembers
 line_fault stand (Ok (Patience seconds)) = once stand.patiences
 line_fault stand (Ok (Sync seconds)) = once stand.syncs
 line_fault stand (Ok (Offers seconds)) = once stand.offers
+line_fault stand (Ok (Log all path)) = once stand.logs
 line_fault stand (Ok (Bind address)) = again_fault stand.binds address
 line_fault stand (Ok (PeerLine name identity port)) = peer_fault stand.peers name
 line_fault stand (Ok (ConnectionsLine name connections)) =
@@ -377,6 +413,7 @@ pub record RelaySettings : Type 0 where
   pub patience : ℕ
   pub sync : Option ℕ
   pub offers : Option ℕ
+  pub log : Option NewsLog
   pub binds : List (List ℕ)
   pub peers : List Peer
   pub feeds : List Feed
@@ -421,6 +458,7 @@ settings_of said =
       patience = first_or 3600 (stand_of said).patiences;
       sync = first_of (stand_of said).syncs;
       offers = first_of (stand_of said).offers;
+      log = first_of (stand_of said).logs;
       binds = binds_or_each (stand_of said).binds;
       peers = map (connected (stand_of said).connections) (stand_of said).peers;
       feeds = filter_map (feed_of (stand_of said).peers) said;

@@ -19,11 +19,12 @@ use Rattle.relay_conf.specs.declared.relay.NamedFeed.{NamedFeed}
 use Rattle.relay_conf.specs.declared.relay.NamedLine.{NamedLine}
 use Rattle.relay_conf.specs.declared.relay.PeerConnections.{PeerConnections}
 use Rattle.relay_conf.specs.declared.relay.RelayDraft.{RelayDraft}
+use Rattle.relay_conf.specs.declared.settings.NewsLog.{NewsLog}
 use Rattle.relay_conf.specs.Faults.{whole_fault, unless_fault}
 use Rattle.relay_conf.specs.Drafts.{ReadingGives}
 use Rattle.relay_conf.specs.RelayLines.{RelayLine, RawLine, SaidLine, RawSays, Skipped, Own}
 use Rattle.relay_conf.specs.RelayLines.{MaxArticle, Cutoff, Remember, Patience, Sync, Offers, Bind}
-use Rattle.relay_conf.specs.RelayLines.{PeerLine, ConnectionsLine, AllowLine, FeedLine}
+use Rattle.relay_conf.specs.RelayLines.{Log, PeerLine, ConnectionsLine, AllowLine, FeedLine}
 use Rattle.relay_conf.specs.Relay.{Stand, stand_of, connected, binds_or_each, line_fault}
 use Rattle.relay_conf.specs.Relay.{peer_number, is_peer, allow_of, no_own_fault, RelaySettings}
 
@@ -36,6 +37,7 @@ pub record Reading : Type 0 where
   pub patience : Option ℕ
   pub sync : Option ℕ
   pub offers : Option ℕ
+  pub log : Option NewsLog
   pub binds : List (List ℕ)
   pub peers : List Peer
   pub connections : List PeerConnections
@@ -54,6 +56,7 @@ draft_view d =
       patience = d.patience;
       sync = d.sync;
       offers = d.offers;
+      log = d.log;
       binds = d.binds.items;
       peers = d.peers.items;
       connections = d.connections.items;
@@ -73,6 +76,7 @@ nothing =
       patience = None;
       sync = None;
       offers = None;
+      log = None;
       binds = [];
       peers = [];
       connections = [];
@@ -96,6 +100,7 @@ stand_view r =
       patiences = option_to_list r.patience;
       syncs = option_to_list r.sync;
       offers = option_to_list r.offers;
+      logs = option_to_list r.log;
       binds = r.binds;
       peers = r.peers;
       connections = r.connections;
@@ -116,6 +121,7 @@ after_line number r (Remember seconds) = record r { remember = Some seconds }
 after_line number r (Patience seconds) = record r { patience = Some seconds }
 after_line number r (Sync seconds) = record r { sync = Some seconds }
 after_line number r (Offers seconds) = record r { offers = Some seconds }
+after_line number r (Log all path) = record r { log = Some (record { all = all; path = path }) }
 after_line number r (Bind address) = record r { binds = r.binds ++ address ∷ [] }
 after_line number r (PeerLine name identity port) =
     record r {
@@ -203,6 +209,7 @@ named_feed_of (Ok (Remember seconds)) = None
 named_feed_of (Ok (Patience seconds)) = None
 named_feed_of (Ok (Sync seconds)) = None
 named_feed_of (Ok (Offers seconds)) = None
+named_feed_of (Ok (Log all path)) = None
 named_feed_of (Ok (Bind address)) = None
 named_feed_of (Ok (PeerLine name identity port)) = None
 named_feed_of (Ok (ConnectionsLine name connections)) = None
@@ -221,6 +228,7 @@ named_allows_of (Ok (Remember seconds)) = []
 named_allows_of (Ok (Patience seconds)) = []
 named_allows_of (Ok (Sync seconds)) = []
 named_allows_of (Ok (Offers seconds)) = []
+named_allows_of (Ok (Log all path)) = []
 named_allows_of (Ok (Bind address)) = []
 named_allows_of (Ok (PeerLine name identity port)) = []
 named_allows_of (Ok (ConnectionsLine name connections)) = []
@@ -238,6 +246,7 @@ named_of number (Ok (Remember seconds)) = None
 named_of number (Ok (Patience seconds)) = None
 named_of number (Ok (Sync seconds)) = None
 named_of number (Ok (Offers seconds)) = None
+named_of number (Ok (Log all path)) = None
 named_of number (Ok (Bind address)) = None
 named_of number (Ok (PeerLine name identity port)) = None
 named_of number (Ok (ConnectionsLine name connections)) =
@@ -296,6 +305,7 @@ reading_settings r =
       patience = unwrap_or r.patience 3600;
       sync = r.sync;
       offers = r.offers;
+      log = r.log;
       binds = binds_or_each r.binds;
       peers = map (connected r.connections) r.peers;
       feeds = map (numbered_feed r.peers) r.feeds;

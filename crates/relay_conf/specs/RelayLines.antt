@@ -1,6 +1,7 @@
 -- relay.conf: what its lines say, one by one.
 use Rattle.std.specs.Prelude.{◌≡◌, ℕ, ◌+◌, ◌-◌, ◌==◌, Bool, ◌&&◌, nat_le, List, [], ◌∷◌, length}
-use Rattle.std.specs.Prelude.{slice_index, take, drop, codes, bytes_eq, Option, None, Some}
+use Rattle.std.specs.Prelude.{slice_index, take, drop, codes, bytes_eq, Option, None, Some, true}
+use Rattle.std.specs.Prelude.{false}
 use Rattle.std.specs.Prelude.{option_map, Result, Ok, Err, if◌then◌else◌}
 use Rattle.std.specs.Net.Addr.{octets_of}
 use Rattle.std.specs.Net.Reader.{read_ipv4, read_ipv6, whole_value}
@@ -12,6 +13,7 @@ use Rattle.relay_conf.specs.declared.faults.Fault.TheVariants.{Syntax, UnknownKe
 use Rattle.line_words.specs.Comments.{is_skipped}
 use Rattle.line_words.specs.Numbers.{number_within}
 use Rattle.line_words.specs.Parts.{parts, one_of, two_of, three_of}
+use Rattle.relay_conf.specs.Cycbuff.{is_file}
 use Rattle.relay_conf.specs.Words.{words, is_name, is_identity}
 use Rattle.relay_conf.specs.declared.reach.Range.{Range}
 
@@ -34,6 +36,8 @@ pub data RelayLine (E : Type 0) : Type 0 where
   Sync : (seconds : ℕ) → RelayLine E
   -- `offers N`
   Offers : (seconds : ℕ) → RelayLine E
+  -- `log refused FILE`, or `log all FILE`
+  Log : (all : Bool) (path : List ℕ) → RelayLine E
   -- `bind ADDRESS`
   Bind : (address : List ℕ) → RelayLine E
   -- `peer NAME IDENTITY PORT`
@@ -72,6 +76,25 @@ number_line least most (Some word) = number_or_fault (number_within least most w
 abbrev pub with_number : (ℕ → RelayLine (List ℕ)) → Result ℕ Fault → RawLine
 with_number line (Err fault) = Err fault
 with_number line (Ok number) = Ok (line number)
+
+-- whether accepted articles have lines in the news log, by the word `refused` or `all`
+-- (docs/FORMATS.md, Configuration)
+abbrev pub logs_all : (word : List ℕ) → Option Bool
+logs_all word =
+    if bytes_eq word (codes "refused") then Some false
+    else if bytes_eq word (codes "all") then Some true
+    else None
+
+-- the news log in a file, or Syntax where that has no path, or the word before it was neither
+-- (docs/FORMATS.md, Configuration)
+abbrev pub log_in : (all : Option Bool) → (path : List ℕ) → RawLine
+log_in None path = Err Syntax
+log_in (Some all) path = if is_file path then Ok (Log all path) else Err Syntax
+
+-- what follows `log` (docs/FORMATS.md, Configuration)
+abbrev pub log_line : (two : Option (List ℕ × List ℕ)) → RawLine
+log_line None = Err Syntax
+log_line (Some two) = log_in (logs_all two.0) two.1
 
 -- an IPv4 address as an IPv6 one, its IPv4-mapped address: ten octets 0, two of 255, and then its
 -- own four (RFC 4291 section 2.5.5.2)
@@ -227,6 +250,7 @@ relay_words (word ∷ after) =
     then with_number Sync (number_line 1 86400 (one_of after))
     else if bytes_eq word (codes "offers")
     then with_number Offers (number_line 1 86400 (one_of after))
+    else if bytes_eq word (codes "log") then log_line (two_of after)
     else if bytes_eq word (codes "bind") then bind_line (one_of after)
     else if bytes_eq word (codes "peer") then peer_line (three_of after)
     else if bytes_eq word (codes "connections") then connections_line (two_of after)
@@ -263,6 +287,7 @@ RawSays (Ok (Remember seconds)) said = said ≡ Ok (Remember seconds)
 RawSays (Ok (Patience seconds)) said = said ≡ Ok (Patience seconds)
 RawSays (Ok (Sync seconds)) said = said ≡ Ok (Sync seconds)
 RawSays (Ok (Offers seconds)) said = said ≡ Ok (Offers seconds)
+RawSays (Ok (Log all path)) said = said ≡ Ok (Log all path)
 RawSays (Ok (Bind address)) said = said ≡ Ok (Bind address)
 RawSays (Ok (PeerLine name identity port)) said = said ≡ Ok (PeerLine name identity port)
 RawSays (Ok (ConnectionsLine name connections)) said = said ≡ Ok (ConnectionsLine name connections)

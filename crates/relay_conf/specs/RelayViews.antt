@@ -13,7 +13,7 @@ use Rattle.relay_conf.specs.declared.settings.Relay.{Relay}
 use Rattle.relay_conf.specs.LineByLine.{SayTogether, HaveFault, LinesGive}
 use Rattle.relay_conf.specs.RelayLines.{LineSays, RelayLine, RawLine, Skipped, Own, MaxArticle}
 use Rattle.relay_conf.specs.RelayLines.{Cutoff, Remember, Patience, Sync, Offers, Bind, PeerLine}
-use Rattle.relay_conf.specs.RelayLines.{ConnectionsLine, AllowLine, FeedLine, range_of}
+use Rattle.relay_conf.specs.RelayLines.{Log, ConnectionsLine, AllowLine, FeedLine, range_of}
 use Rattle.relay_conf.specs.Words.{words}
 use Rattle.relay_conf.specs.Relay.{RelaySettings, early_fault, relay_said}
 
@@ -31,6 +31,7 @@ raw_view (lines.Remember seconds) = Remember seconds
 raw_view (lines.Patience seconds) = Patience seconds
 raw_view (lines.Sync seconds) = Sync seconds
 raw_view (lines.Offers seconds) = Offers seconds
+raw_view (lines.Log all path) = Log all path.now
 raw_view (lines.Bind address) = Bind address
 raw_view (lines.Peer name identity port) = PeerLine name.now identity.now port
 raw_view (lines.Connections name connections) = ConnectionsLine name.now connections
@@ -62,6 +63,7 @@ relay_view relay =
       patience = relay.patience;
       sync = relay.sync;
       offers = relay.offers;
+      log = relay.log;
       binds = relay.binds.items;
       peers = relay.peers.items;
       feeds = relay.feeds.items;

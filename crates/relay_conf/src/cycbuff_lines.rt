@@ -60,7 +60,7 @@ fn buffer_line<'a>(rest: Option<&'a [u8]>) -> Result<Line<'a>, Fault>
 }
 
 /// Whether a text may be the path of a file: one octet or more, none of them NUL.
-fn is_file(file: &[u8]) -> bool
+pub(crate) fn is_file(file: &[u8]) -> bool
     ensures { result ≡ terms.is_file file.now }
 {
     !file.is_empty() && !file.contains(&0)

@@ -2,7 +2,7 @@
 //! stands on them; other crates take from them what holds of each value of the settings.
 ghost use Rattle.std.specs.Prelude.{◌≡◌, ◌↔◌, ◌≤◌, ◌<◌, ◌^◌, ℕ, List, [], ◌∷◌, ◌++◌, Ok, IsTrue};
 ghost use Rattle.std.specs.Prelude.{◌||◌, All, Err, Some, codes, false, length, map, slice_index};
-ghost use Rattle.std.specs.Prelude.{true};
+ghost use Rattle.std.specs.Prelude.{None, true};
 ghost use Rattle.std.specs.Net.Addr.{octets_of};
 ghost use Rattle.std.specs.Net.Text.{ipv4_text, ipv6_text};
 ghost use Rattle.std.specs.List.{list_all};
@@ -19,12 +19,14 @@ ghost use Rattle.relay_conf.specs.Cycbuff.{Group, CycbuffSettings, cycbuff_of};
 ghost use Rattle.relay_conf.specs.K1.{k1_buffers, k1_entries, k1_relay};
 ghost use Rattle.relay_conf.specs.K2.{k2_buffers, k2_cycbuff};
 ghost use Rattle.relay_conf.specs.Lines.{lines_of, joined_by, is_line};
+ghost use Rattle.relay_conf.specs.LogExamples.{lines_with, logging};
 ghost use Rattle.line_words.specs.Comments.{is_skipped};
 ghost use Rattle.relay_conf.specs.Places.{groups_over, numbered_buffers};
 ghost use Rattle.relay_conf.specs.Reach.{IsAddress, has_address, has_allow, is_allowed, may_reach};
 ghost use Rattle.relay_conf.specs.ReachExamples.{reach_lines, reach_settings, reaches};
+ghost use Rattle.relay_conf.specs.ReachExamples.{settings_with};
 ghost use Rattle.relay_conf.specs.Readings.{RelayHasReading, StorageHasReading};
-ghost use Rattle.relay_conf.specs.Relay.{RelaySettings};
+ghost use Rattle.relay_conf.specs.Relay.{RelaySettings, each_address};
 ghost use Rattle.relay_conf.specs.RelayLines.{address_of, mapped, range_of, relay_line};
 ghost use Rattle.relay_conf.specs.RelayViews.{relay_view};
 ghost use Rattle.relay_conf.specs.RelayViews as relay;
@@ -217,6 +219,31 @@ pub fn binds_of_examples()
         (record { line = 3; fault = Duplicate }) }
     ensures mapped { relay.HasFault
         (codes "bind ::ffff:10.0.0.1" ∷ codes "bind ::1" ∷ codes "bind 10.0.0.1" ∷ [])
+        (record { line = 3; fault = Duplicate }) }
+{}
+
+/// A line of `log` says whether accepted articles have lines too, and the path of the file; without
+/// one nothing is logged.
+pub fn logs_of_examples()
+    ensures all { relay.HasSettings (lines_with (codes "log all news.log"))
+        (logging true (codes "news.log")) }
+    ensures refused { relay.HasSettings
+        (lines_with (codes "log refused /var/log/news/cnrelay.news"))
+        (logging false (codes "/var/log/news/cnrelay.news")) }
+    ensures none { (settings_with (each_address ∷ []) [] []).log ≡ None }
+{}
+
+/// A missing or superfluous word of `log`, a first one that is neither `refused` nor `all`, and a
+/// path with a NUL are Syntax; a second line is Duplicate, whatever it says.
+pub fn faults_of_log()
+    ensures no_word { relay_line (codes "log") ≡ Err Syntax }
+    ensures no_file { (relay_line (codes "log all") ≡ Err Syntax)
+        × (relay_line (codes "log refused") ≡ Err Syntax) }
+    ensures other { (relay_line (codes "log some f") ≡ Err Syntax)
+        × (relay_line (codes "log ALL f") ≡ Err Syntax) }
+    ensures further { relay_line (codes "log all f g") ≡ Err Syntax }
+    ensures nul { relay_line (codes "log all " ++ 0 ∷ []) ≡ Err Syntax }
+    ensures again { relay.HasFault (codes "log all f" ∷ codes "own a" ∷ codes "log refused g" ∷ [])
         (record { line = 3; fault = Duplicate }) }
 {}
 

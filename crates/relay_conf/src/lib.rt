@@ -33,6 +33,6 @@ pub use line_words::Octets;
 pub use lines::lines_of;
 pub use reach::{Allow, Range};
 pub use relay::{Feed, Peer, read_relay};
-pub use settings::{Buffers, Config, Relay, StorageEntry};
+pub use settings::{Buffers, Config, NewsLog, Relay, StorageEntry};
 pub use storage::read_storage;
 pub use storage_lines::key_and_value;

@@ -17,7 +17,7 @@ use crate::names::add_name;
 use crate::peers::{connect, is_peer, known_names, numbered, numbered_allows};
 use crate::reach::{NamedAllow, push_ranges};
 use crate::relay_lines::{Line, relay_line};
-use crate::settings::Relay;
+use crate::settings::{NewsLog, Relay};
 use line_words::Octets;
 use std::alloc::{AllocError, Global};
 use std::collections::HashSet;
@@ -76,6 +76,7 @@ pub(crate) struct RelayDraft {
     patience: Option<u32>,
     sync: Option<u64>,
     offers: Option<u64>,
+    log: Option<NewsLog>,
     binds: Vec<[u8; 16]>,
     peers: Vec<Peer>,
     connections: Vec<PeerConnections>,
@@ -146,6 +147,7 @@ impl RelayDraft {
             patience: None,
             sync: None,
             offers: None,
+            log: None,
             binds: Vec::new(alloc),
             peers: Vec::new(alloc),
             connections: Vec::new(alloc),
@@ -171,6 +173,10 @@ impl RelayDraft {
             Line::Patience(seconds) => set_once(&mut self.patience, seconds),
             Line::Sync(seconds) => set_once(&mut self.sync, seconds),
             Line::Offers(seconds) => set_once(&mut self.offers, seconds),
+            Line::Log(all, path) => {
+                let path = Octets::copied(alloc, path)?;
+                set_once(&mut self.log, NewsLog { all, path })
+            }
             Line::Bind(address) => add_bind(&mut self.binds, address),
             Line::Peer(name, identity, port) => self.add_peer(alloc, name, identity, port),
             Line::Connections(name, connections) => {
@@ -351,6 +357,7 @@ fn finished(alloc: Global, draft: RelayDraft) -> Result<Relay, ConfError>
         patience,
         sync,
         offers,
+        log,
         binds,
         mut peers,
         connections,
@@ -382,6 +389,7 @@ fn finished(alloc: Global, draft: RelayDraft) -> Result<Relay, ConfError>
         patience: patience.unwrap_or(PATIENCE),
         sync,
         offers,
+        log,
         binds,
         peers,
         feeds,

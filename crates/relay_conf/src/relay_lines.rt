@@ -5,6 +5,7 @@ ghost use Rattle.relay_conf.specs.RelayLines as terms;
 ghost use Rattle.relay_conf.specs.RelayViews.{limit_view, raw_by};
 ghost use Rattle.relay_conf.specs.Words.{words};
 
+use crate::cycbuff_lines::is_file;
 use crate::faults::Fault;
 use crate::names::name_of;
 use crate::reach::range_fault;
@@ -31,6 +32,8 @@ pub(crate) enum Line<'a> {
     Sync(u64),
     /// The seconds after which an offer runs out.
     Offers(u64),
+    /// The news log: whether accepted articles have lines too, and its path.
+    Log(bool, &'a [u8]),
     /// An address on which ports listen.
     Bind([u8; 16]),
     /// A peer: its name, its identity and its port.
@@ -86,6 +89,8 @@ fn line_of<'a>(word: &[u8], rest: &'a [u8]) -> Result<Line<'a>, Fault>
         limit_line(Limit::Sync, 1, 86_400, rest)
     } else if is(word, b"offers") {
         limit_line(Limit::Offers, 1, 86_400, rest)
+    } else if is(word, b"log") {
+        log_line(rest)
     } else if is(word, b"bind") {
         bind_line(rest)
     } else if is(word, b"peer") {
@@ -138,6 +143,32 @@ fn number_line(least: u64, most: u64, rest: &[u8]) -> Result<u64, Fault>
     match number_within(least, most, word) {
         Some(number) => Ok(number),
         None => Err(Fault::Number),
+    }
+}
+
+/// Reads what follows `log`.
+fn log_line(rest: &[u8]) -> Result<Line<'_>, Fault>
+    ensures { raw_by result ≡ terms.log_line (two_of (words rest.now)) }
+{
+    let Some((word, path)) = two_words(rest) else {
+        return Err(Fault::Syntax);
+    };
+    match logs_all(word) {
+        Some(all) if is_file(path) => Ok(Line::Log(all, path)),
+        _ => Err(Fault::Syntax),
+    }
+}
+
+/// Whether accepted articles have lines too, where the word says it.
+fn logs_all(word: &[u8]) -> Option<bool>
+    ensures { result ≡ terms.logs_all word.now }
+{
+    if is(word, b"refused") {
+        Some(false)
+    } else if is(word, b"all") {
+        Some(true)
+    } else {
+        None
     }
 }
 

@@ -60,6 +60,15 @@ impl Drop for StorageEntry {
     }
 }
 
+/// Where lines of what became of articles are written (docs/FORMATS.md, relay.conf).
+#[derive(Drop)]
+pub struct NewsLog {
+    /// Whether accepted articles have lines too; refused ones have them always.
+    pub all: bool,
+    /// The path of the file; a relative one is in the relay's folder.
+    pub path: Octets,
+}
+
 /// The settings of relay.conf. Peers and feeds are numbered from 0, each in the order of their
 /// lines.
 pub struct Relay {
@@ -78,6 +87,8 @@ pub struct Relay {
     pub sync: Option<u64>,
     /// The seconds after which an offer runs out; without it none does.
     pub offers: Option<u64>,
+    /// Where lines of what became of articles are written; without it nowhere.
+    pub log: Option<NewsLog>,
     /// The addresses of the machine on which ports listen, at least one, in the order of their
     /// lines. An IPv4 address is its IPv4-mapped one; 0.0.0.0 stands for all of IPv4.
     pub binds: Vec<[u8; 16]>,
@@ -93,6 +104,7 @@ pub struct Relay {
       patience = patience;
       sync = sync;
       offers = offers;
+      log = log;
       binds = binds.items;
       peers = peers.items;
       feeds = feeds.items;
@@ -111,6 +123,7 @@ impl Drop for Relay {
             patience: _,
             sync: _,
             offers: _,
+            log: _,
             binds: _,
             peers: _,
             feeds: _,

@@ -185,7 +185,8 @@ module _ {S : Type 0} {g : Ghosts S} (n now : ℕ) (old : System S g) (peer : Pe
       (λ claim. claims.after_refuse n now (claims.standing w.offers now claim))
       → (reason : Reason) (step : Step) → step ≡ steps.Refuse id reason
       → SharesStep n now step old peer answers.Nothing (record old { shards = new }) peer
-  refuse_shared id new changes reason step e = λ leaving x m d gathered but slot fits planned asked some.
+  refuse_shared id new changes reason step e =
+      λ leaving x m d gathered but slot fits planned asked some.
       let one = subst (λ (s : Step). IsStepOf s d.ask) e asked in
       let P : Ask → Type 0 = λ ask. Gives leaving w n now ask gathered x answers.Nothing
       (record old { shards = new }) peer.slot in (

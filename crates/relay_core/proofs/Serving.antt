@@ -98,7 +98,8 @@ kept_stays w x n now asks.Ends told y h = ap (λ (z : World). z.state.kept) h.1
 kept_stays w x n now (asks.Offers transfer id) told y h = ap (λ (z : World). z.state.kept) h.1
 kept_stays w x n now (asks.Looks part id) told y h = ap (λ (z : World). z.state.kept) h.1
 kept_stays w x n now (asks.TakesQueue feed most) told y h = ap (λ (z : World). z.state.kept) h.1
-kept_stays w x n now (asks.Refuses transfer id reason) told y h = ap (λ (z : World). z.state.kept) h.1
+kept_stays w x n now (asks.Refuses transfer id reason) told y h =
+    ap (λ (z : World). z.state.kept) h.1
 kept_stays w x n now (asks.Takes transfer id article) told y h =
     ap (λ (z : World). z.state.kept) h.1
 kept_stays w x n now (asks.LooksInSlot transfer id) told y h =

@@ -113,8 +113,8 @@ fn take_back(peers: &mut Peers, number: u64, peer: Peer)
     }
 }
 
-/// A session hears the answer to what it planned: that an article was refused for this reason, where
-/// there is one.
+/// A session hears the answer to what it planned: that an article was refused for this reason,
+/// where there is one.
 fn hear(session: &mut Session, number: u64, answer: Answer<'_>, why: Option<Reason>) -> Output
     ensures heard { HeardAs number (option_map reason_view why) session.old answer.entry result
         session.new }

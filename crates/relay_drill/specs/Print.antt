@@ -1,9 +1,9 @@
 -- What is told, and what that prints (docs/FORMATS.md, Drill scripts: What is printed).
 use Rattle.std.specs.Prelude.{ℕ, ◌==◌, ◌&&◌, Bool, List, [], ◌∷◌, ◌++◌, flat_map, codes}
-use Rattle.std.specs.Prelude.{decimal, if◌then◌else◌}
+use Rattle.std.specs.Prelude.{decimal, Option, None, Some, if◌then◌else◌}
 use Rattle.std.specs.List.{onto_first}
-use Rattle.relay_model.specs.Terms.{Reason, Size, Grammar, IdMismatch, BadPath, Loop, Date, NoClass}
-use Rattle.relay_model.specs.Terms.{TooLarge}
+use Rattle.article_verdict.specs.Verdict.{reason_name}
+use Rattle.relay_model.specs.Terms.{Reason}
 use Rattle.relay_model.specs.World.{Output, Quiet, Sent, Rejects, Ended, Refuses, Fault, Memory}
 use Rattle.relay_model.specs.World.{NoSession, SessionTaken, NoGroup, NoPeer, BadMoment, NoShard}
 use Rattle.relay_model.specs.World.{NotIdle, NotRestarted}
@@ -32,20 +32,9 @@ abbrev pub noted_lines : (session : ℕ) → (octets note : List ℕ) → List �
 noted_lines session octets note =
     flat_map (λ line. session_line session (line ++ note)) (lines_of octets)
 
--- the name of a reason for which an article is refused
-abbrev pub reason_text : Reason → List ℕ
-reason_text Size = codes "Size"
-reason_text Grammar = codes "Grammar"
-reason_text IdMismatch = codes "IdMismatch"
-reason_text BadPath = codes "BadPath"
-reason_text Loop = codes "Loop"
-reason_text Date = codes "Date"
-reason_text NoClass = codes "NoClass"
-reason_text TooLarge = codes "TooLarge"
-
 -- what stands behind a reply by which an article is refused, which is one line
 abbrev pub reason_note : Reason → List ℕ
-reason_note reason = codes " reason=" ++ reason_text reason
+reason_note reason = codes " reason=" ++ reason_name reason
 
 -- the code and the name of a fault
 abbrev pub fault_text : Fault → List ℕ
@@ -109,3 +98,10 @@ answers_of (Answered output ∷ told) = output ∷ answers_of told
 answers_of (Restarted output ∷ told) = output ∷ answers_of told
 answers_of (Repaired ∷ told) = answers_of told
 answers_of (Reported text ∷ told) = answers_of told
+
+-- STEP BY STEP
+
+-- the note behind a line, where an article is refused by it
+abbrev pub note_of : (why : Option Reason) → List ℕ
+note_of None = []
+note_of (Some reason) = reason_note reason

@@ -1,9 +1,9 @@
 //! What the answer to an event prints (docs/FORMATS.md, Drill scripts: What is printed).
-ghost use Rattle.std.specs.Prelude.{◌≡◌, ◌<◌, ◌∷◌, ◌++◌, length};
+ghost use Rattle.std.specs.Prelude.{◌≡◌, ◌<◌, ◌∷◌, ◌++◌, length, option_map};
 ghost use Rattle.article_verdict.specs.Verdict.{reason_view};
 ghost use Rattle.relay_core.specs.Views.{fault_view, output_view};
 ghost use Rattle.relay_drill.specs.Print as terms;
-ghost use Rattle.relay_drill.specs.Print.{lines_of, noted_lines, printed, repaired_text};
+ghost use Rattle.relay_drill.specs.Print.{lines_of, note_of, noted_lines, printed, repaired_text};
 ghost use Rattle.relay_drill.specs.Print.{restart_text, session_line, session_lines};
 ghost use Rattle.relay_report.specs.Written.{Writes};
 
@@ -24,14 +24,14 @@ pub fn print<W: Write>(writer: &mut W, output: &Output, reasons: bool) -> Result
         Output::Sent(session, octets) => print_lines(writer, *session, octets.as_slice()),
         Output::Rejected(session, octets, reason) => {
             if reasons {
-                print_noted(writer, *session, octets.as_slice(), reason_note(*reason))
+                print_noted(writer, *session, octets.as_slice(), Some(*reason))
             } else {
                 print_lines(writer, *session, octets.as_slice())
             }
         }
         Output::Ended(session, octets) => {
             print_lines(writer, *session, octets.as_slice())?;
-            print_line(writer, *session, b"closed", b"")
+            print_line(writer, *session, b"closed", None)
         }
         Output::Refused(error) => put_all(writer, &[b"refused ", fault_text(*error), b"\n"]),
     }
@@ -77,62 +77,54 @@ fn fault_text(error: CoreError) -> &'static [u8]
     }
 }
 
-/// What stands behind a reply by which an article is refused for this reason.
-fn reason_note(reason: Reason) -> &'static [u8]
-    ensures { result.now ≡ terms.reason_note (reason_view reason) }
-{
-    match reason {
-        Reason::Size => b" reason=Size",
-        Reason::Grammar => b" reason=Grammar",
-        Reason::IdMismatch => b" reason=IdMismatch",
-        Reason::BadPath => b" reason=BadPath",
-        Reason::Loop => b" reason=Loop",
-        Reason::Date => b" reason=Date",
-        Reason::NoClass => b" reason=NoClass",
-        Reason::TooLarge => b" reason=TooLarge",
-    }
-}
-
 /// Prints the lines that a session is sent, each after the session's number.
 fn print_lines<W: Write>(writer: &mut W, session: u64, octets: &[u8]) -> Result<(), Unwritten>
     ensures { Writes result (session_lines session octets.now)
         (W.contents writer.old) (W.contents writer.new) }
 {
-    print_noted(writer, session, octets, b"")
+    print_noted(writer, session, octets, None)
 }
 
-/// Prints the same lines, each before a note.
+/// Prints the same lines, behind each why an article is refused, where it is.
 fn print_noted<W: Write>(
     writer: &mut W,
     session: u64,
     octets: &[u8],
-    note: &[u8],
+    why: Option<Reason>,
 ) -> Result<(), Unwritten>
-    ensures { Writes result (noted_lines session octets.now note.now)
+    ensures { Writes result
+        (noted_lines session octets.now (note_of (option_map reason_view why)))
         (W.contents writer.old) (W.contents writer.new) }
 {
     let mut rest = octets;
     while !rest.is_empty() {
         let (line, after) = cut_line(rest);
-        print_line(writer, session, line, note)?;
+        print_line(writer, session, line, why)?;
         rest = after;
     }
     Ok(())
 }
 
-/// Prints a line that a session is sent, before a note.
+/// Prints a line that a session is sent, and behind it why an article is refused, where it is.
 fn print_line<W: Write>(
     writer: &mut W,
     session: u64,
     line: &[u8],
-    note: &[u8],
+    why: Option<Reason>,
 ) -> Result<(), Unwritten>
-    ensures { Writes result (session_line session (line.now ++ note.now))
+    ensures { Writes result
+        (session_line session (line.now ++ note_of (option_map reason_view why)))
         (W.contents writer.old) (W.contents writer.new) }
 {
     let mut digits = Buffer::new();
     let number = digits.format(session).as_bytes();
-    put_all(writer, &[number, b" ", line, note, b"\n"])
+    match why {
+        Some(reason) => {
+            let name = reason.name().as_bytes();
+            put_all(writer, &[number, b" ", line, b" reason=", name, b"\n"])
+        }
+        None => put_all(writer, &[number, b" ", line, b"\n"]),
+    }
 }
 
 /// The first line, without its CRLF, and what follows it.

@@ -4,6 +4,7 @@ use Rattle.std.specs.Prelude.{flat_map, length, nat_le, nat_lt, take}
 use Rattle.std.specs.Prelude.{Option, Some, None, if◌then◌else◌}
 use Rattle.std.specs.Net.Addr.{octets_of, segments_of}
 use Rattle.std.specs.Net.Text.{ipv4_text, ipv6_text}
+use Rattle.relay_conf.specs.declared.settings.NewsLog.{NewsLog}
 use Rattle.relay_conf.specs.declared.settings.Relay.{Relay}
 use Rattle.relay_explain.specs.Lines.{key_line, odd_line, told_line}
 
@@ -61,6 +62,26 @@ offers_text lines (Some seconds) =
     setting_text lines (codes "offers") (decimal seconds)
     (codes "seconds after which an offer runs out")
 
+-- the word that says of which articles the news log has lines, and a space
+abbrev pub log_articles : (all : Bool) → List ℕ
+log_articles all = if all then codes "all " else codes "refused "
+
+-- the news log as a line says it
+abbrev pub log_value : NewsLog → List ℕ
+log_value log = log_articles log.all ++ log.path
+
+-- what the news log has
+abbrev pub log_meaning : (all : Bool) → List ℕ
+log_meaning all =
+    if all then codes "the file with a line for each article that is accepted or refused"
+    else codes "the file with a line for each article that is refused"
+
+-- what is told of the news log
+unfoldable pub log_text : (lines : List (List ℕ)) → Option NewsLog → List ℕ
+log_text lines None = codes "relay.conf: log (no line says it): nothing is logged\n"
+log_text lines (Some log) =
+    setting_text lines (codes "log") (log_value log) (log_meaning log.all)
+
 -- the segments before those of an IPv4 address (RFC 4291 section 2.5.5.2)
 abbrev pub before_ipv4 : List ℕ
 before_ipv4 = 0 ∷ 0 ∷ 0 ∷ 0 ∷ 0 ∷ 65535 ∷ []
@@ -95,5 +116,6 @@ settings_text relay lines =
     (codes "seconds for which a silent peer is waited for")
     ++ sync_text lines relay.sync
     ++ offers_text lines relay.offers
+    ++ log_text lines relay.log
     ++ setting_text lines (codes "bind") (addresses_text relay.binds.items)
     (codes "the addresses on which ports listen, 0.0.0.0 for all of IPv4, :: for all")

@@ -6,7 +6,7 @@ ghost use Rattle.relay_explain.specs.Text.{Adds};
 use crate::lines::key_line;
 use crate::text::{Text, put, put_line, put_odd};
 use itoa::Buffer;
-use relay_conf::Relay;
+use relay_conf::{NewsLog, Relay};
 use std::alloc::{AllocError, Global};
 use std::net::Ipv6Addr;
 
@@ -52,6 +52,7 @@ pub(crate) fn put_settings(alloc: Global, text: Text, relay: &Relay, lines: &[&[
     );
     let text = put_sync(text, lines, relay.sync);
     let text = put_offers(text, lines, relay.offers);
+    let text = put_log(alloc, text, lines, &relay.log);
     put_addresses(alloc, text, lines, &relay.binds)
 }
 
@@ -161,6 +162,57 @@ fn put_offers(text: Text, lines: &[&[u8]], offers: Option<u64>) -> Text
             let told = b"seconds after which an offer runs out".as_slice();
             put_number(text, lines, b"offers", seconds, told)
         }
+    }
+}
+
+/// Puts what is told of the news log.
+#[tactic(auto, unfolding(crate::specs::Settings::log_text))]
+fn put_log(alloc: Global, text: Text, lines: &[&[u8]], log: &Option<NewsLog>) -> Text
+    ensures { Adds text result (terms.log_text (map (λ line. line.now) lines.now) log.now) }
+{
+    match log {
+        None => text.add(b"relay.conf: log (no line says it): nothing is logged\n"),
+        Some(log) => put_news_log(alloc, text, lines, log),
+    }
+}
+
+/// Puts what is told of the news log that there is.
+fn put_news_log(alloc: Global, text: Text, lines: &[&[u8]], log: &NewsLog) -> Text
+    ensures { Adds text result
+        (terms.setting_text (map (λ line. line.now) lines.now) (codes "log")
+        (terms.log_value log.now) (terms.log_meaning log.now.all)) }
+{
+    match log_value(alloc, log) {
+        Ok(value) => put_setting(text, lines, b"log", value.as_slice(), log_meaning(log.all)),
+        Err(error) => text.fail(error),
+    }
+}
+
+/// The news log as a line says it.
+fn log_value(alloc: Global, log: &NewsLog) -> Result<Vec<u8>, AllocError>
+    ensures { IfOk result (λ text. text.items ≡ terms.log_value log.now) }
+{
+    let mut text = Vec::new(alloc);
+    text.extend_from_slice(log_articles(log.all))?;
+    text.extend_from_slice(log.path.as_slice())?;
+    Ok(text)
+}
+
+/// The word that says of which articles the news log has lines, and a space.
+fn log_articles(all: bool) -> &'static [u8]
+    ensures { result.now ≡ terms.log_articles all }
+{
+    if all { b"all " } else { b"refused " }
+}
+
+/// What the news log has.
+fn log_meaning(all: bool) -> &'static [u8]
+    ensures { result.now ≡ terms.log_meaning all }
+{
+    if all {
+        b"the file with a line for each article that is accepted or refused"
+    } else {
+        b"the file with a line for each article that is refused"
     }
 }
 

@@ -132,7 +132,7 @@ impl<
     {
         let number = number.into_value();
         let began = self.clock.now();
-        self.gate.opened(rt, self.peer, number);
+        self.gate.opened(rt, self.peer, number, from);
         let kept = mem::replace(&mut self.kept, Vec::new(self.alloc));
         let shares = JournaledShares::new(self.shared, self.journal, turns);
         let context = SessionContext {

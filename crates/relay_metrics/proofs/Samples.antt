@@ -14,9 +14,10 @@ use Rattle.relay_metrics.specs.Laws.{HasPart, tells}
 use Rattle.relay_metrics.specs.Lines.{Line, report_lines}
 use Rattle.relay_metrics.specs.declared.families.Value.{Value}
 use Rattle.relay_metrics.specs.declared.families.Value.TheVariants.{OfBuffer, OfFeed, OfIds, OfPeer}
-use Rattle.relay_metrics.specs.declared.families.Value.TheVariants.{OfSize}
+use Rattle.relay_metrics.specs.declared.families.Value.TheVariants.{OfRefusals, OfSize}
 use Rattle.relay_metrics.specs.declared.lines.Subject.{Subject}
-use Rattle.relay_metrics.specs.declared.lines.Subject.TheVariants.{Buffer, Feed, Ids, Peer, Size}
+use Rattle.relay_metrics.specs.declared.lines.Subject.TheVariants.{Buffer, Feed, Ids, Peer}
+use Rattle.relay_metrics.specs.declared.lines.Subject.TheVariants.{Refusals, Size}
 
 -- A part of a part is a part.
 pub within : (text middle part : List ℕ) → HasPart text middle → HasPart middle part
@@ -98,5 +99,7 @@ told_value (OfBuffer other) Buffer place numbers is =
 told_value (OfFeed other) Feed place numbers is = ap (slice_get numbers) (eqb-true other place is)
 told_value (OfIds other) Ids place numbers is = ap (slice_get numbers) (eqb-true other place is)
 told_value (OfPeer other) Peer place numbers is = ap (slice_get numbers) (eqb-true other place is)
+told_value (OfRefusals other) Refusals place numbers is =
+    ap (slice_get numbers) (eqb-true other place is)
 told_value (OfSize other) Size place numbers is = ap (slice_get numbers) (eqb-true other place is)
 told_value value subject place numbers is = cc

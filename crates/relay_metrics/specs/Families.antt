@@ -8,10 +8,11 @@ use Rattle.relay_metrics.specs.declared.families.Kind.TheVariants.{Counter, Gaug
 use Rattle.relay_metrics.specs.declared.families.Value.{Value}
 use Rattle.relay_metrics.specs.declared.families.Value.TheVariants.{IsRecovering, IsRepaired}
 use Rattle.relay_metrics.specs.declared.families.Value.TheVariants.{OfBuffer, OfFeed, OfIds, OfPeer}
-use Rattle.relay_metrics.specs.declared.families.Value.TheVariants.{OfSize, Uncounted}
+use Rattle.relay_metrics.specs.declared.families.Value.TheVariants.{OfRefusals, OfSize, Uncounted}
 use Rattle.relay_metrics.specs.declared.lines.Subject.{Subject}
 use Rattle.relay_metrics.specs.declared.lines.Subject.TheVariants.{Buffer, Feed, Ids, Peer}
-use Rattle.relay_metrics.specs.declared.lines.Subject.TheVariants.{Recovering, Repaired, Size}
+use Rattle.relay_metrics.specs.declared.lines.Subject.TheVariants.{Recovering, Refusals, Repaired}
+use Rattle.relay_metrics.specs.declared.lines.Subject.TheVariants.{Size}
 
 -- A metric family: its name but for what its type adds, what is told of it, its type, its unit,
 -- empty where it has none, the label that a line's name is the value of, empty where it has none,
@@ -54,6 +55,7 @@ value_of (OfBuffer place) Buffer numbers = slice_get numbers place
 value_of (OfFeed place) Feed numbers = slice_get numbers place
 value_of (OfIds place) Ids numbers = slice_get numbers place
 value_of (OfPeer place) Peer numbers = slice_get numbers place
+value_of (OfRefusals place) Refusals numbers = slice_get numbers place
 value_of (OfSize place) Size numbers = slice_get numbers place
 value_of IsRecovering Recovering numbers = Some (codes "1")
 value_of IsRecovering Ids numbers = Some (codes "0")
@@ -151,7 +153,8 @@ ids_families =
     (codes "Message-ids that are remembered as refused.") [] (OfIds 3)
     ∷ []
 
--- of the peers: sessions open, replies that accept, know, refuse or put off an article, octets read
+-- of the peers: sessions open, articles accepted, known, refused or put off, octets read, offers
+-- open
 abbrev pub peer_families : List Family
 peer_families =
     gauge (codes "cnrelay_peer_sessions_open") (codes "Sessions of the peer that are open.")
@@ -159,21 +162,57 @@ peer_families =
     ∷ counter (codes "cnrelay_peer_articles_accepted")
     (codes "Replies 239 and 235 to the peer since the start.") [] (codes "peer") (OfPeer 1)
     ∷ counter (codes "cnrelay_peer_articles_known")
-    (codes "Replies 438 and 435 to the peer since the start.") [] (codes "peer") (OfPeer 2)
+    (codes "Articles that were known when the peer offered or sent them, since the start.") []
+    (codes "peer") (OfPeer 2)
     ∷ counter (codes "cnrelay_peer_articles_refused")
-    (codes "Replies 439 and 437 to the peer since the start.") [] (codes "peer") (OfPeer 3)
+    (codes "Articles of the peer that were judged and refused, since the start.") [] (codes "peer")
+    (OfPeer 3)
     ∷ counter (codes "cnrelay_peer_articles_later")
     (codes "Replies 431 and 436 to the peer since the start.") [] (codes "peer") (OfPeer 4)
     ∷ counter (codes "cnrelay_peer_received_bytes")
     (codes "Octets that were read of the peer since the start.") (codes "bytes") (codes "peer")
     (OfPeer 5)
+    ∷ gauge (codes "cnrelay_peer_offers_open")
+    (codes "Message-ids that the peer's sessions were told to send and have not sent.")
+    (codes "peer") (OfPeer 6)
+    ∷ []
+
+-- a family of articles of a peer that were refused for a reason
+abbrev pub refusals : (base help : List ℕ) → Value → Family
+refusals base help value = counter base help [] (codes "peer") value
+
+-- of what was refused of the peers, by the reason (docs/PROTOCOL.md, Judging)
+abbrev pub refusal_families : List Family
+refusal_families =
+    refusals (codes "cnrelay_peer_refused_size")
+    (codes "Articles of the peer refused since the start: more octets than maxart.") (OfRefusals 0)
+    ∷ refusals (codes "cnrelay_peer_refused_grammar")
+    (codes "Articles of the peer refused since the start: their text is no article.") (OfRefusals 1)
+    ∷ refusals (codes "cnrelay_peer_refused_id_mismatch")
+    (codes "Articles of the peer refused since the start: another Message-ID was offered.")
+    (OfRefusals 2)
+    ∷ refusals (codes "cnrelay_peer_refused_bad_path")
+    (codes "Articles of the peer refused since the start: a forbidden octet in the Path.")
+    (OfRefusals 3)
+    ∷ refusals (codes "cnrelay_peer_refused_loop")
+    (codes "Articles of the peer refused since the start: the own identity is in the Path.")
+    (OfRefusals 4)
+    ∷ refusals (codes "cnrelay_peer_refused_date")
+    (codes "Articles of the peer refused since the start: their date can't be read, is too"
+    ++ codes " old, or is in the future.") (OfRefusals 5)
+    ∷ refusals (codes "cnrelay_peer_refused_no_class")
+    (codes "Articles of the peer refused since the start: no entry of storage.conf is chosen.")
+    (OfRefusals 6)
+    ∷ refusals (codes "cnrelay_peer_refused_too_large")
+    (codes "Articles of the peer refused since the start: more blocks than the smallest buffer"
+    ++ codes " of their group.") (OfRefusals 7)
     ∷ []
 
 -- the families of which lines have samples, in their order
 abbrev pub report_families : List Family
 report_families =
     recovering_families ++ buffer_families ++ size_families ++ feed_families ++ ids_families
-    ++ peer_families
+    ++ peer_families ++ refusal_families
 
 -- the family of how many lines aren't known: no line is a sample of it
 abbrev pub unread_family : Family

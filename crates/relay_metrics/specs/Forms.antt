@@ -2,8 +2,9 @@
 use Rattle.std.specs.Prelude.{ℕ, Bool, true, false, List, [], ◌∷◌, codes, map}
 use Rattle.relay_metrics.specs.declared.forms.Form as code
 use Rattle.relay_metrics.specs.declared.lines.Subject.{Subject}
-use Rattle.relay_metrics.specs.declared.lines.Subject.TheVariants.{Buffer, Feed, Ids, Peer}
-use Rattle.relay_metrics.specs.declared.lines.Subject.TheVariants.{Recovering, Repaired, Size}
+use Rattle.relay_metrics.specs.declared.lines.Subject.TheVariants.{Address, Buffer, Feed, Ids}
+use Rattle.relay_metrics.specs.declared.lines.Subject.TheVariants.{Peer, Recovering, Refusals}
+use Rattle.relay_metrics.specs.declared.lines.Subject.TheVariants.{Repaired, Size}
 
 -- A form of lines: what such a line is about, its first word, whether a name follows that, what
 -- stands before the name, and before each of its numbers.
@@ -58,7 +59,7 @@ ids_form =
       keys = [] ∷ [] ∷ [] ∷ [] ∷ [];
     }
 
--- `peer p1 open=1 accepted=2 known=3 refused=4 later=5 octets=6`
+-- `peer p1 open=1 accepted=2 known=3 refused=4 later=5 octets=6 offers=7`
 abbrev pub peer_form : Form
 peer_form =
     record {
@@ -67,7 +68,31 @@ peer_form =
       is_named = true;
       name_key = [];
       keys = codes "open=" ∷ codes "accepted=" ∷ codes "known=" ∷ codes "refused="
-          ∷ codes "later=" ∷ codes "octets=" ∷ [];
+          ∷ codes "later=" ∷ codes "octets=" ∷ codes "offers=" ∷ [];
+    }
+
+-- `refused p1 Size=1 Grammar=2 IdMismatch=3 BadPath=4 Loop=5 Date=6 NoClass=7 TooLarge=8`: by the
+-- reasons of docs/PROTOCOL.md, Judging, in their order
+abbrev pub refusals_form : Form
+refusals_form =
+    record {
+      subject = Refusals;
+      word = codes "refused";
+      is_named = true;
+      name_key = [];
+      keys = codes "Size=" ∷ codes "Grammar=" ∷ codes "IdMismatch=" ∷ codes "BadPath="
+          ∷ codes "Loop=" ∷ codes "Date=" ∷ codes "NoClass=" ∷ codes "TooLarge=" ∷ [];
+    }
+
+-- `from p1=192.0.2.1`: the peer and its address are one word, and stand for the name
+abbrev pub address_form : Form
+address_form =
+    record {
+      subject = Address;
+      word = codes "from";
+      is_named = true;
+      name_key = [];
+      keys = [];
     }
 
 -- `size buffer=A blocks=1000 filled=371`
@@ -106,5 +131,5 @@ repaired_form =
 -- the forms that there are
 abbrev pub report_forms : List Form
 report_forms =
-    buffer_form ∷ feed_form ∷ ids_form ∷ peer_form ∷ size_form ∷ recovering_form ∷ repaired_form
-    ∷ []
+    buffer_form ∷ feed_form ∷ ids_form ∷ peer_form ∷ refusals_form ∷ address_form ∷ size_form
+    ∷ recovering_form ∷ repaired_form ∷ []

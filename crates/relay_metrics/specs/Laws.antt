@@ -9,9 +9,10 @@ use Rattle.relay_metrics.specs.Forms.{Form}
 use Rattle.relay_metrics.specs.Lines.{Line}
 use Rattle.relay_metrics.specs.declared.families.Value.{Value}
 use Rattle.relay_metrics.specs.declared.families.Value.TheVariants.{OfBuffer, OfFeed, OfIds, OfPeer}
-use Rattle.relay_metrics.specs.declared.families.Value.TheVariants.{OfSize}
+use Rattle.relay_metrics.specs.declared.families.Value.TheVariants.{OfRefusals, OfSize}
 use Rattle.relay_metrics.specs.declared.lines.Subject.{Subject}
-use Rattle.relay_metrics.specs.declared.lines.Subject.TheVariants.{Buffer, Feed, Ids, Peer, Size}
+use Rattle.relay_metrics.specs.declared.lines.Subject.TheVariants.{Buffer, Feed, Ids, Peer}
+use Rattle.relay_metrics.specs.declared.lines.Subject.TheVariants.{Refusals, Size}
 
 -- The text has this part somewhere.
 pub record HasPart (text part : List ℕ) : Type 0 where
@@ -25,6 +26,7 @@ tells (OfBuffer other) Buffer place = other == place
 tells (OfFeed other) Feed place = other == place
 tells (OfIds other) Ids place = other == place
 tells (OfPeer other) Peer place = other == place
+tells (OfRefusals other) Refusals place = other == place
 tells (OfSize other) Size place = other == place
 tells value subject place = false
 

@@ -27,6 +27,8 @@ pub(crate) enum Value {
     OfIds(usize),
     /// The number of this place of a line about a peer.
     OfPeer(usize),
+    /// The number of this place of a line about what was refused of a peer.
+    OfRefusals(usize),
     /// The number of this place of a line about a buffer's size.
     OfSize(usize),
     /// 1 of the line that the relay is being repaired, 0 of the line about the message-ids, which
@@ -194,7 +196,7 @@ pub(crate) const FAMILIES: &[Family] = &[
     },
     Family {
         base: b"cnrelay_peer_articles_known",
-        help: b"Replies 438 and 435 to the peer since the start.",
+        help: b"Articles that were known when the peer offered or sent them, since the start.",
         kind: Kind::Counter,
         unit: b"",
         label: b"peer",
@@ -202,7 +204,7 @@ pub(crate) const FAMILIES: &[Family] = &[
     },
     Family {
         base: b"cnrelay_peer_articles_refused",
-        help: b"Replies 439 and 437 to the peer since the start.",
+        help: b"Articles of the peer that were judged and refused, since the start.",
         kind: Kind::Counter,
         unit: b"",
         label: b"peer",
@@ -223,6 +225,80 @@ pub(crate) const FAMILIES: &[Family] = &[
         unit: b"bytes",
         label: b"peer",
         value: Value::OfPeer(5),
+    },
+    Family {
+        base: b"cnrelay_peer_offers_open",
+        help: b"Message-ids that the peer's sessions were told to send and have not sent.",
+        kind: Kind::Gauge,
+        unit: b"",
+        label: b"peer",
+        value: Value::OfPeer(6),
+    },
+    Family {
+        base: b"cnrelay_peer_refused_size",
+        help: b"Articles of the peer refused since the start: more octets than maxart.",
+        kind: Kind::Counter,
+        unit: b"",
+        label: b"peer",
+        value: Value::OfRefusals(0),
+    },
+    Family {
+        base: b"cnrelay_peer_refused_grammar",
+        help: b"Articles of the peer refused since the start: their text is no article.",
+        kind: Kind::Counter,
+        unit: b"",
+        label: b"peer",
+        value: Value::OfRefusals(1),
+    },
+    Family {
+        base: b"cnrelay_peer_refused_id_mismatch",
+        help: b"Articles of the peer refused since the start: another Message-ID was offered.",
+        kind: Kind::Counter,
+        unit: b"",
+        label: b"peer",
+        value: Value::OfRefusals(2),
+    },
+    Family {
+        base: b"cnrelay_peer_refused_bad_path",
+        help: b"Articles of the peer refused since the start: a forbidden octet in the Path.",
+        kind: Kind::Counter,
+        unit: b"",
+        label: b"peer",
+        value: Value::OfRefusals(3),
+    },
+    Family {
+        base: b"cnrelay_peer_refused_loop",
+        help: b"Articles of the peer refused since the start: the own identity is in the Path.",
+        kind: Kind::Counter,
+        unit: b"",
+        label: b"peer",
+        value: Value::OfRefusals(4),
+    },
+    Family {
+        base: b"cnrelay_peer_refused_date",
+        help: b"Articles of the peer refused since the start: their date can't be read, is too \
+            old, or is in the future.",
+        kind: Kind::Counter,
+        unit: b"",
+        label: b"peer",
+        value: Value::OfRefusals(5),
+    },
+    Family {
+        base: b"cnrelay_peer_refused_no_class",
+        help: b"Articles of the peer refused since the start: no entry of storage.conf is chosen.",
+        kind: Kind::Counter,
+        unit: b"",
+        label: b"peer",
+        value: Value::OfRefusals(6),
+    },
+    Family {
+        base: b"cnrelay_peer_refused_too_large",
+        help: b"Articles of the peer refused since the start: more blocks than the smallest buffer \
+            of their group.",
+        kind: Kind::Counter,
+        unit: b"",
+        label: b"peer",
+        value: Value::OfRefusals(7),
     },
 ];
 
@@ -266,6 +342,7 @@ pub(crate) fn value_in<'a>(family: &Family, line: &'a Line<'_>) -> Option<&'a [u
         | (Value::OfFeed(place), Subject::Feed)
         | (Value::OfIds(place), Subject::Ids)
         | (Value::OfPeer(place), Subject::Peer)
+        | (Value::OfRefusals(place), Subject::Refusals)
         | (Value::OfSize(place), Subject::Size) => number_at(line, place),
         (Value::IsRecovering, Subject::Recovering) | (Value::IsRepaired, Subject::Repaired) => {
             Some(b"1")

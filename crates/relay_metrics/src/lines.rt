@@ -23,6 +23,10 @@ pub enum Subject {
     Ids,
     /// A peer.
     Peer,
+    /// What was refused of a peer, by the reason.
+    Refusals,
+    /// The address that the newest connection of a peer came from.
+    Address,
     /// How large a buffer is, and how much of it is filled.
     Size,
     /// That the relay is being repaired.

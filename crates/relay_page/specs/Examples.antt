@@ -25,7 +25,17 @@ begin =
     ++ codes "<body>\n"
     ++ codes "<h1>cnrelay</h1>\n"
 
--- what a relay tells of two buffers, the second in its third cycle, two feeds and two peers
+-- what each page says of what was refused before its rows
+abbrev pub refused_begin : List ℕ
+refused_begin =
+    codes "<h3>Refused, by reason</h3>\n"
+    ++ codes "<div class=\"wide\"><table>\n"
+    ++ codes "<tr><th>peer</th><th>more than maxart</th><th>no article</th><th>another id</th>"
+    ++ codes "<th>wrong Path</th><th>was here before</th><th>wrong date</th>"
+    ++ codes "<th>no entry of storage.conf</th><th>larger than a buffer</th></tr>\n"
+
+-- what a relay tells of two buffers, the second in its third cycle, two feeds and two peers, of the
+-- first of whom nothing was refused
 abbrev pub served : List ℕ
 served =
     codes "buffer A                         0                 371          5          4\n"
@@ -34,8 +44,14 @@ served =
     ++ codes "feed   p3                       10                  10          0\n"
     ++ codes "ids              1          2          3          4\n"
     ++ codes "peer p2 open=1 accepted=0 known=2 refused=0 later=0"
-    ++ codes " octets=340282366920938463463374607431768211455\n"
-    ++ codes "peer p3 open=0 accepted=7 known=8 refused=9 later=10 octets=11\n"
+    ++ codes " octets=340282366920938463463374607431768211455 offers=5\n"
+    ++ codes "peer p3 open=0 accepted=7 known=8 refused=9 later=10 octets=11 offers=0\n"
+    ++ codes "refused p2 Size=0 Grammar=0 IdMismatch=0 BadPath=0 Loop=0 Date=0 NoClass=0"
+    ++ codes " TooLarge=0\n"
+    ++ codes "refused p3 Size=0 Grammar=1 IdMismatch=0 BadPath=0 Loop=3 Date=5 NoClass=0"
+    ++ codes " TooLarge=0\n"
+    ++ codes "from p2=192.0.2.1\n"
+    ++ codes "from p3=2001:db8::3\n"
     ++ codes "size buffer=A blocks=1000 filled=371\n"
     ++ codes "size buffer=B.2 blocks=1000 filled=1000\n"
 
@@ -88,11 +104,21 @@ served_page =
     ++ codes "<h2>Peers</h2>\n"
     ++ codes "<div class=\"wide\"><table>\n"
     ++ codes "<tr><th>peer</th><th>open</th><th>accepted</th><th>known</th>"
-    ++ codes "<th>refused</th><th>later</th><th>octets</th></tr>\n"
+    ++ codes "<th>refused</th><th>later</th><th>octets</th><th>offers</th></tr>\n"
     ++ codes "<tr><th>p2</th><td>1</td><td>0</td><td>2</td><td>0</td><td>0</td>"
-    ++ codes "<td>340282366920938463463374607431768211455</td></tr>\n"
-    ++ codes "<tr><th>p3</th><td>0</td><td>7</td><td>8</td><td>9</td><td>10</td><td>11</td></tr>\n"
+    ++ codes "<td>340282366920938463463374607431768211455</td><td>5</td></tr>\n"
+    ++ codes "<tr><th>p3</th><td>0</td><td>7</td><td>8</td><td>9</td><td>10</td><td>11</td>"
+    ++ codes "<td>0</td></tr>\n"
     ++ codes "</table></div>\n"
+    ++ refused_begin
+    ++ codes "<tr><th>p3</th><td>0</td><td>1</td><td>0</td><td>0</td><td>3</td><td>5</td>"
+    ++ codes "<td>0</td><td>0</td></tr>\n"
+    ++ codes "</table></div>\n"
+    ++ codes "<h3>Newest connections</h3>\n"
+    ++ codes "<p>\n"
+    ++ codes "<span>p2=192.0.2.1</span>\n"
+    ++ codes "<span>p3=2001:db8::3</span>\n"
+    ++ codes "</p>\n"
     ++ codes "<p>Lines of the report that are not known here: <b>0</b></p>\n"
     ++ codes "</body>\n"
     ++ codes "</html>\n"
@@ -114,8 +140,13 @@ recovering_page =
     ++ codes "<h2>Peers</h2>\n"
     ++ codes "<div class=\"wide\"><table>\n"
     ++ codes "<tr><th>peer</th><th>open</th><th>accepted</th><th>known</th>"
-    ++ codes "<th>refused</th><th>later</th><th>octets</th></tr>\n"
+    ++ codes "<th>refused</th><th>later</th><th>octets</th><th>offers</th></tr>\n"
     ++ codes "</table></div>\n"
+    ++ refused_begin
+    ++ codes "</table></div>\n"
+    ++ codes "<h3>Newest connections</h3>\n"
+    ++ codes "<p>\n"
+    ++ codes "</p>\n"
     ++ codes "<p>Lines of the report that are not known here: <b>0</b></p>\n"
     ++ codes "</body>\n"
     ++ codes "</html>\n"
@@ -130,6 +161,7 @@ odd =
     ++ codes "size buffer=C blocks=8 filled=3\n"
     ++ codes "size buffer=C blocks=0 filled=0\n"
     ++ codes "size D blocks=8 filled=3\n"
+    ++ codes "from <p>=192.0.2.1\n"
     ++ codes "memory 5\n"
     ++ codes "ids 1 2"
 
@@ -164,8 +196,14 @@ odd_page =
     ++ codes "<h2>Peers</h2>\n"
     ++ codes "<div class=\"wide\"><table>\n"
     ++ codes "<tr><th>peer</th><th>open</th><th>accepted</th><th>known</th>"
-    ++ codes "<th>refused</th><th>later</th><th>octets</th></tr>\n"
+    ++ codes "<th>refused</th><th>later</th><th>octets</th><th>offers</th></tr>\n"
     ++ codes "</table></div>\n"
+    ++ refused_begin
+    ++ codes "</table></div>\n"
+    ++ codes "<h3>Newest connections</h3>\n"
+    ++ codes "<p>\n"
+    ++ codes "<span>&lt;p&gt;=192.0.2.1</span>\n"
+    ++ codes "</p>\n"
     ++ codes "<p>Lines of the report that are not known here: <b>3</b></p>\n"
     ++ codes "</body>\n"
     ++ codes "</html>\n"
@@ -179,8 +217,13 @@ empty_page =
     ++ codes "<h2>Peers</h2>\n"
     ++ codes "<div class=\"wide\"><table>\n"
     ++ codes "<tr><th>peer</th><th>open</th><th>accepted</th><th>known</th>"
-    ++ codes "<th>refused</th><th>later</th><th>octets</th></tr>\n"
+    ++ codes "<th>refused</th><th>later</th><th>octets</th><th>offers</th></tr>\n"
     ++ codes "</table></div>\n"
+    ++ refused_begin
+    ++ codes "</table></div>\n"
+    ++ codes "<h3>Newest connections</h3>\n"
+    ++ codes "<p>\n"
+    ++ codes "</p>\n"
     ++ codes "<p>Lines of the report that are not known here: <b>0</b></p>\n"
     ++ codes "</body>\n"
     ++ codes "</html>\n"

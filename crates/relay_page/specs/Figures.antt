@@ -51,7 +51,12 @@ ids_figures =
 
 -- the numbers of a peer
 abbrev pub peer_figures : List Figure
-peer_figures = cell 0 ∷ cell 1 ∷ cell 2 ∷ cell 3 ∷ cell 4 ∷ cell 5 ∷ []
+peer_figures = cell 0 ∷ cell 1 ∷ cell 2 ∷ cell 3 ∷ cell 4 ∷ cell 5 ∷ cell 6 ∷ []
+
+-- the numbers of what was refused of a peer
+abbrev pub refusal_figures : List Figure
+refusal_figures =
+    cell 0 ∷ cell 1 ∷ cell 2 ∷ cell 3 ∷ cell 4 ∷ cell 5 ∷ cell 6 ∷ cell 7 ∷ []
 
 -- a number with what stands round it
 abbrev pub number_text : Figure → (number : List ℕ) → List ℕ

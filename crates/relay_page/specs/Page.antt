@@ -42,7 +42,16 @@ head =
 abbrev pub peer_heads : List ℕ
 peer_heads =
     codes "<tr><th>peer</th><th>open</th><th>accepted</th><th>known</th>"
-    ++ codes "<th>refused</th><th>later</th><th>octets</th></tr>\n"
+    ++ codes "<th>refused</th><th>later</th><th>octets</th><th>offers</th></tr>\n"
+
+-- the first row of the table of what was refused: the reasons of docs/PROTOCOL.md, Judging, in
+-- their order
+abbrev pub refusal_heads : List ℕ
+refusal_heads =
+    codes "<tr><th>peer</th><th>more than maxart</th><th>no article</th>"
+    ++ codes "<th>another id</th><th>wrong Path</th><th>was here before</th>"
+    ++ codes "<th>wrong date</th><th>no entry of storage.conf</th>"
+    ++ codes "<th>larger than a buffer</th></tr>\n"
 
 -- A section: a part of the page, and what stands before and behind that.
 pub record Section : Type 0 where
@@ -73,20 +82,38 @@ first_section =
 abbrev pub repaired_section : Section
 repaired_section = record { opening = []; part = parts.Repaired; closing = [] }
 
+-- a heading, and a table below it, of a part whose rows stand below this first one
+abbrev pub tabled : (heading heads : List ℕ) → Part → Section
+tabled heading heads part =
+    record {
+      opening = heading ++ codes "\n<div class=\"wide\"><table>\n" ++ heads;
+      part = part;
+      closing = codes "</table></div>\n";
+    }
+
 -- the peers: a table with a row for each
 abbrev pub peers_section : Section
-peers_section =
+peers_section = tabled (codes "<h2>Peers</h2>") peer_heads parts.Peers
+
+-- what was refused of the peers: a table with a row for each of whom anything was
+abbrev pub refusals_section : Section
+refusals_section = tabled (codes "<h3>Refused, by reason</h3>") refusal_heads parts.Refusals
+
+-- the addresses that the newest connections of the peers came from
+abbrev pub addresses_section : Section
+addresses_section =
     record {
-      opening = codes "<h2>Peers</h2>\n<div class=\"wide\"><table>\n" ++ peer_heads;
-      part = parts.Peers;
-      closing = codes "</table></div>\n";
+      opening = codes "<h3>Newest connections</h3>\n<p>\n";
+      part = parts.Addresses;
+      closing = codes "</p>\n";
     }
 
 -- the sections behind the buffers
 abbrev pub other_sections : List Section
 other_sections =
     repaired_section ∷ headed (codes "Feeds") parts.Feeds
-    ∷ headed (codes "Message-ids") parts.Ids ∷ peers_section ∷ []
+    ∷ headed (codes "Message-ids") parts.Ids ∷ peers_section ∷ refusals_section
+    ∷ addresses_section ∷ []
 
 -- a section of these lines; in no feed wait more tokens than `most`
 abbrev pub section_text : (most : ℕ) → List Line → Section → List ℕ

@@ -1,13 +1,14 @@
 -- What the page has of each line of a report.
-use Rattle.std.specs.Prelude.{ℕ, suc, List, [], ◌∷◌, ◌++◌, bytes_eq, codes, slice_get}
+use Rattle.std.specs.Prelude.{ℕ, suc, Bool, not, List, [], ◌∷◌, ◌++◌, bytes_eq, codes, slice_get}
 use Rattle.std.specs.Prelude.{option_and_then, Option, None, Some, if◌then◌else◌}
+use Rattle.std.specs.List.{list_any}
 use Rattle.relay_metrics.specs.Lines.{Line}
 use Rattle.relay_metrics.specs.declared.lines.Subject.{Subject}
-use Rattle.relay_metrics.specs.declared.lines.Subject.TheVariants.{Feed, Ids, Peer, Recovering}
-use Rattle.relay_metrics.specs.declared.lines.Subject.TheVariants.{Repaired}
+use Rattle.relay_metrics.specs.declared.lines.Subject.TheVariants.{Address, Feed, Ids, Peer}
+use Rattle.relay_metrics.specs.declared.lines.Subject.TheVariants.{Recovering, Refusals, Repaired}
 use Rattle.relay_page.specs.Bars.{bar_text, hundredths, number_at, share_of}
-use Rattle.relay_page.specs.Figures.{buffer_figures, feed_figures, figures_text, ids_figures}
-use Rattle.relay_page.specs.Figures.{peer_figures, size_figures}
+use Rattle.relay_page.specs.Figures.{Figure, buffer_figures, feed_figures, figures_text}
+use Rattle.relay_page.specs.Figures.{ids_figures, peer_figures, refusal_figures, size_figures}
 use Rattle.relay_page.specs.Text.{escaped}
 use Rattle.relay_page.specs.declared.rows.Part.{Part}
 use Rattle.relay_page.specs.declared.rows.Part.TheVariants as parts
@@ -38,11 +39,24 @@ feed_row most line =
 abbrev pub ids_row : Line → List ℕ
 ids_row line = paragraph (figures_text ids_figures line)
 
--- a peer as a row of a table: its name, and its numbers in cells
-abbrev pub peer_row : Line → List ℕ
-peer_row line =
-    codes "<tr><th>" ++ escaped line.name ++ codes "</th>" ++ figures_text peer_figures line
+-- a line as a row of a table: its name, and these of its numbers in cells
+abbrev pub table_row : List Figure → Line → List ℕ
+table_row figures line =
+    codes "<tr><th>" ++ escaped line.name ++ codes "</th>" ++ figures_text figures line
     ++ codes "</tr>\n"
+
+-- the number isn't 0
+abbrev pub is_some_number : (number : List ℕ) → Bool
+is_some_number number = not (bytes_eq number (codes "0"))
+
+-- what was refused of a peer as a row of a table, where anything was
+abbrev pub refusals_row : Line → List ℕ
+refusals_row line =
+    if list_any is_some_number line.numbers then table_row refusal_figures line else []
+
+-- a peer and the address of its newest connection
+abbrev pub address_row : Line → List ℕ
+address_row line = codes "<span>" ++ escaped line.name ++ codes "</span>\n"
 
 -- what a part of the page has of a line about this; in no feed wait more tokens than `most`
 abbrev pub row_about : Part → (most : ℕ) → Subject → Line → List ℕ
@@ -50,7 +64,9 @@ row_about parts.Notice most Recovering line = notice
 row_about parts.Repaired most Repaired line = heading line.name
 row_about parts.Feeds most Feed line = feed_row most line
 row_about parts.Ids most Ids line = ids_row line
-row_about parts.Peers most Peer line = peer_row line
+row_about parts.Peers most Peer line = table_row peer_figures line
+row_about parts.Refusals most Refusals line = refusals_row line
+row_about parts.Addresses most Address line = address_row line
 row_about part most subject line = []
 
 -- what a part of the page has of a line

@@ -132,6 +132,55 @@ pub(crate) const PEER: &[Figure] = &[
         before: b"<td>",
         behind: b"</td>",
     },
+    Figure {
+        place: 6,
+        before: b"<td>",
+        behind: b"</td>",
+    },
+];
+
+/// The numbers of what was refused of a peer, each in a cell of a table.
+pub(crate) const REFUSALS: &[Figure] = &[
+    Figure {
+        place: 0,
+        before: b"<td>",
+        behind: b"</td>",
+    },
+    Figure {
+        place: 1,
+        before: b"<td>",
+        behind: b"</td>",
+    },
+    Figure {
+        place: 2,
+        before: b"<td>",
+        behind: b"</td>",
+    },
+    Figure {
+        place: 3,
+        before: b"<td>",
+        behind: b"</td>",
+    },
+    Figure {
+        place: 4,
+        before: b"<td>",
+        behind: b"</td>",
+    },
+    Figure {
+        place: 5,
+        before: b"<td>",
+        behind: b"</td>",
+    },
+    Figure {
+        place: 6,
+        before: b"<td>",
+        behind: b"</td>",
+    },
+    Figure {
+        place: 7,
+        before: b"<td>",
+        behind: b"</td>",
+    },
 ];
 
 /// Puts these numbers of a line.

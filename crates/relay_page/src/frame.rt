@@ -68,10 +68,26 @@ pub(crate) const OTHERS: &[Section] = &[
         opening: b"<h2>Peers</h2>
 <div class=\"wide\"><table>
 <tr><th>peer</th><th>open</th><th>accepted</th><th>known</th>\
-<th>refused</th><th>later</th><th>octets</th></tr>
+<th>refused</th><th>later</th><th>octets</th><th>offers</th></tr>
 ",
         part: Part::Peers,
         closing: b"</table></div>\n",
+    },
+    Section {
+        opening: b"<h3>Refused, by reason</h3>
+<div class=\"wide\"><table>
+<tr><th>peer</th><th>more than maxart</th><th>no article</th>\
+<th>another id</th><th>wrong Path</th><th>was here before</th>\
+<th>wrong date</th><th>no entry of storage.conf</th>\
+<th>larger than a buffer</th></tr>
+",
+        part: Part::Refusals,
+        closing: b"</table></div>\n",
+    },
+    Section {
+        opening: b"<h3>Newest connections</h3>\n<p>\n",
+        part: Part::Addresses,
+        closing: b"</p>\n",
     },
 ];
 

@@ -1,12 +1,16 @@
 //! What the page has of each line of a report.
 ghost use Rattle.std.specs.Prelude.{◌≡◌, ◌++◌, OnOk, flat_map, map};
+ghost use Rattle.std.specs.List.{list_any};
 ghost use Rattle.relay_metrics.specs.Lines.{line_view};
-ghost use Rattle.relay_page.specs.Rows.{feed_row, heading, ids_row, peer_row, row_of};
+ghost use Rattle.relay_page.specs.Figures.{figure_view};
+ghost use Rattle.relay_page.specs.Rows.{address_row, feed_row, heading, ids_row, is_some_number};
+ghost use Rattle.relay_page.specs.Rows.{refusals_row, row_of, table_row};
 ghost use Rattle.relay_page.specs.Rows as terms;
 
 use crate::bar::{hundredths, number_at, put_bar};
 use crate::escaped::put_escaped;
-use crate::figures::{FEED, IDS, PEER, put_figures};
+use crate::figures::{FEED, Figure, IDS, PEER, REFUSALS, put_figures};
+use line_words::is;
 use relay_metrics::{Line, Subject};
 use std::alloc::AllocError;
 
@@ -23,6 +27,10 @@ pub(crate) enum Part {
     Ids,
     /// The peers.
     Peers,
+    /// What was refused of the peers.
+    Refusals,
+    /// The addresses that the newest connections of the peers came from.
+    Addresses,
 }
 
 /// What is told of a relay that is being repaired.
@@ -54,7 +62,9 @@ fn put_row(text: &mut Vec<u8>, part: Part, most: u64, line: &Line<'_>) -> Result
         (Part::Repaired, Subject::Repaired) => put_heading(text, line.name),
         (Part::Feeds, Subject::Feed) => put_feed(text, most, line),
         (Part::Ids, Subject::Ids) => put_ids(text, line),
-        (Part::Peers, Subject::Peer) => put_peer(text, line),
+        (Part::Peers, Subject::Peer) => put_table_row(text, PEER, line),
+        (Part::Refusals, Subject::Refusals) => put_refusals(text, line),
+        (Part::Addresses, Subject::Address) => put_address(text, line),
         _ => Ok(()),
     }
 }
@@ -99,13 +109,47 @@ fn put_ids(text: &mut Vec<u8>, line: &Line<'_>) -> Result<(), AllocError>
     text.extend_from_slice(b"</p>\n")
 }
 
-/// Puts a peer as a row of a table.
-fn put_peer(text: &mut Vec<u8>, line: &Line<'_>) -> Result<(), AllocError>
-    ensures { OnOk result (text.new.items ≡ text.old.items ++ peer_row (line_view line.now)) }
+/// Puts a line as a row of a table: its name, and these of its numbers.
+fn put_table_row(text: &mut Vec<u8>, figures: &[Figure], line: &Line<'_>) -> Result<(), AllocError>
+    ensures { OnOk result (text.new.items
+        ≡ text.old.items ++ table_row (map figure_view figures.now) (line_view line.now)) }
 {
     text.extend_from_slice(b"<tr><th>")?;
     put_escaped(text, line.name)?;
     text.extend_from_slice(b"</th>")?;
-    put_figures(text, PEER, line)?;
+    put_figures(text, figures, line)?;
     text.extend_from_slice(b"</tr>\n")
+}
+
+/// Puts what was refused of a peer as a row of a table, where anything was.
+fn put_refusals(text: &mut Vec<u8>, line: &Line<'_>) -> Result<(), AllocError>
+    ensures { OnOk result (text.new.items ≡ text.old.items ++ refusals_row (line_view line.now)) }
+{
+    if has_some_number(line) {
+        put_table_row(text, REFUSALS, line)
+    } else {
+        Ok(())
+    }
+}
+
+/// Whether a number of a line isn't 0.
+fn has_some_number(line: &Line<'_>) -> bool
+    ensures { result ≡ list_any is_some_number (line_view line.now).numbers }
+{
+    for number in &line.numbers {
+        if !is(number, b"0") {
+            return true;
+        }
+    }
+    false
+}
+
+/// Puts a peer and the address of its newest connection.
+fn put_address(text: &mut Vec<u8>, line: &Line<'_>) -> Result<(), AllocError>
+    ensures { OnOk result (text.new.items ≡ text.old.items ++ address_row (line_view line.now)) }
+{
+    let address = line.name;
+    text.extend_from_slice(b"<span>")?;
+    put_escaped(text, address)?;
+    text.extend_from_slice(b"</span>\n")
 }

@@ -2,31 +2,27 @@
 use Rattle.std.proofs.Common.{◌≡◌, ◌∙◌, ◌++◌, ◌∷◌, [], ℕ, List, ap, append_assoc, append-nil}
 use Rattle.std.proofs.Common.{◌+◌, ◌<◌, get_or, length, map, refl, sym, take}
 use Rattle.std.proofs.lemmas.List.{map_push, take_more}
-use Rattle.relay_serve.specs.Gates.{ArePeerLines, peer_line}
+use Rattle.relay_serve.specs.Gates.{AreLinesOf}
 use Rattle.relay_serve.specs.declared.gate.PeerCounts.{PeerCounts}
-use Rattle.live_wire.specs.declared.tally.Tally.{Tally}
 
 -- A line more stands behind those of the peers so far.
-pub line_more : (names : List (List ℕ)) (text name : List ℕ) (sessions : ℕ) (tally : Tally)
-    → ArePeerLines names text
-    → ArePeerLines (names ++ name ∷ []) (text ++ peer_line name sessions tally)
-line_more [] text name sessions tally is = (
-  sessions,
-  tally,
+pub line_more : (IsLine : List ℕ → List ℕ → Type 0) (names : List (List ℕ))
+    (text name line : List ℕ) → IsLine name line → AreLinesOf IsLine names text
+    → AreLinesOf IsLine (names ++ name ∷ []) (text ++ line)
+line_more IsLine [] text name line own is = (
+  line,
   [],
-  ap (λ (before : List ℕ). before ++ peer_line name sessions tally) is
-      ∙ sym (append-nil (peer_line name sessions tally)),
+  own,
+  ap (λ (before : List ℕ). before ++ line) is ∙ sym (append-nil line),
   refl,
 )
-line_more (first ∷ more) text name sessions tally lines =
-    let line = peer_line name sessions tally in (
-      lines.0,
-      lines.1,
-      lines.2 ++ line,
-      ap (λ (before : List ℕ). before ++ line) lines.3
-          ∙ append_assoc (peer_line first lines.0 lines.1) lines.2 line,
-      line_more more lines.2 name sessions tally lines.4,
-    )
+line_more IsLine (first ∷ more) text name line own lines = (
+  lines.0,
+  lines.1 ++ line,
+  lines.2,
+  ap (λ (before : List ℕ). before ++ line) lines.3 ∙ append_assoc lines.0 lines.1 line,
+  line_more IsLine more lines.1 name line own lines.4,
+)
 
 -- The name of one more stands behind those so far.
 pub name_more : (all : List PeerCounts) (i : ℕ) (one : PeerCounts) → i < length all

@@ -1,9 +1,10 @@
 -- What is told of a peer's sessions (docs/OPERATING.md, Lines).
-use Rattle.std.specs.Prelude.{◌≡◌, ℕ, List, [], ◌∷◌, ◌++◌, codes, decimal, map}
+use Rattle.std.specs.Prelude.{◌≡◌, ◌⊎◌, ℕ, List, [], ◌∷◌, ◌++◌, codes, decimal, map}
 use Rattle.live_session.specs.declared.wire.Finish.{Finish}
 use Rattle.live_session.specs.declared.wire.Finish.TheVariants as finishes
 use Rattle.live_wire.specs.declared.tally.Tally.{Tally}
 use Rattle.relay_serve.specs.declared.gate.CountingGate.{CountingGate}
+use Rattle.relay_serve.specs.declared.refusals.Refused.{Refused}
 
 -- how a session ended, in one word
 abbrev pub finish_word : Finish → List ℕ
@@ -22,20 +23,79 @@ told_text tally =
     ++ (codes " later=" ++ (decimal tally.later
     ++ (codes " octets=" ++ decimal tally.octets))))))))
 
--- the line of a peer in a report: its name, how many of its sessions are open, and what they have
--- said and read so far
-abbrev pub peer_line : (name : List ℕ) → (sessions : ℕ) → Tally → List ℕ
-peer_line name sessions tally =
+-- how many articles were refused for each reason, as a line tells it
+abbrev pub refusals_text : Refused → List ℕ
+refusals_text refused =
+    codes "Size=" ++ (decimal refused.size
+    ++ (codes " Grammar=" ++ (decimal refused.grammar
+    ++ (codes " IdMismatch=" ++ (decimal refused.id_mismatch
+    ++ (codes " BadPath=" ++ (decimal refused.bad_path
+    ++ (codes " Loop=" ++ (decimal refused.loops
+    ++ (codes " Date=" ++ (decimal refused.date
+    ++ (codes " NoClass=" ++ (decimal refused.no_class
+    ++ (codes " TooLarge=" ++ decimal refused.too_large))))))))))))))
+
+-- the line of a peer in a report: its name, how many of its sessions are open, what they have said
+-- and read so far, and how many offers they have open
+abbrev pub peer_line : (name : List ℕ) → (sessions : ℕ) → Tally → (offers : ℕ) → List ℕ
+peer_line name sessions tally offers =
     codes "peer " ++ (name ++ (codes " open=" ++ (decimal sessions
-    ++ (codes " " ++ (told_text tally ++ codes "\n")))))
+    ++ (codes " " ++ (told_text tally ++ (codes " offers=" ++ (decimal offers
+    ++ codes "\n")))))))
+
+-- the line of a peer that tells for which reasons its articles were refused
+abbrev pub reasons_line : (name : List ℕ) → Refused → List ℕ
+reasons_line name refused =
+    codes "refused " ++ (name ++ (codes " " ++ (refusals_text refused ++ codes "\n")))
+
+-- the line of a peer that tells from which address its newest session is connected
+abbrev pub from_line : (name address : List ℕ) → List ℕ
+from_line name address = codes "from " ++ (name ++ (codes "=" ++ (address ++ codes "\n")))
+
+-- the line of a peer of this name, whatever was counted
+abbrev pub IsPeerLine : (name line : List ℕ) → Type 0
+IsPeerLine name line =
+    (sessions : ℕ) × (tally : Tally) × (offers : ℕ)
+    × (line ≡ peer_line name sessions tally offers)
+
+-- its line of reasons
+abbrev pub IsReasonsLine : (name line : List ℕ) → Type 0
+IsReasonsLine name line = (refused : Refused) × (line ≡ reasons_line name refused)
+
+-- its line of an address, none where it had no session
+abbrev pub IsFromLine : (name line : List ℕ) → Type 0
+IsFromLine name line = (line ≡ []) ⊎ ((address : List ℕ) × (line ≡ from_line name address))
 
 -- the names of a gate's peers, in their order
 abbrev pub names_of : CountingGate → List (List ℕ)
 names_of gate = map (λ counts. counts.name.now) gate.counts.items
 
--- the text is a line for each of these peers, in their order, whatever was counted
+-- the text is what is told of each of these peers, in their order
+abbrev pub AreLinesOf : (IsLine : List ℕ → List ℕ → Type 0) → (names : List (List ℕ))
+    → (text : List ℕ) → Type 0
+AreLinesOf IsLine [] text = text ≡ []
+AreLinesOf IsLine (name ∷ more) text =
+    (line : List ℕ) × (rest : List ℕ) × IsLine name line × (text ≡ line ++ rest)
+    × AreLinesOf IsLine more rest
+
+-- a line for each of these peers
 abbrev pub ArePeerLines : (names : List (List ℕ)) → (text : List ℕ) → Type 0
-ArePeerLines [] text = text ≡ []
-ArePeerLines (name ∷ more) text =
-    (sessions : ℕ) × (tally : Tally) × (rest : List ℕ)
-    × (text ≡ peer_line name sessions tally ++ rest) × ArePeerLines more rest
+ArePeerLines names text = AreLinesOf IsPeerLine names text
+
+-- a line of reasons for each
+abbrev pub AreReasonsLines : (names : List (List ℕ)) → (text : List ℕ) → Type 0
+AreReasonsLines names text = AreLinesOf IsReasonsLine names text
+
+-- a line of an address for each that had a session
+abbrev pub AreFromLines : (names : List (List ℕ)) → (text : List ℕ) → Type 0
+AreFromLines names text = AreLinesOf IsFromLine names text
+
+-- what a report tells of these peers: a line of each, then their reasons, then their addresses
+pub record ArePeersTold (names : List (List ℕ)) (text : List ℕ) : Type 0 where
+  pub peers : List ℕ
+  pub reasons : List ℕ
+  pub addresses : List ℕ
+  pub are_peers : ArePeerLines names peers
+  pub are_reasons : AreReasonsLines names reasons
+  pub are_addresses : AreFromLines names addresses
+  pub is : text ≡ peers ++ (reasons ++ addresses)

@@ -6,6 +6,7 @@ use crate::gate::CountingGate;
 use crate::side_thread::Figured;
 use crate::syncing::Syncing;
 use live_wire::{Door, Stop};
+use news_log::{NewsFile, NewsLines, NewsWriting};
 use relay_folder::{Askers, Control, JournalFile, Teller, WAITED_FOR, Word};
 use relay_journal::{JournalLines, Journaling, second_of};
 use std::alloc::{AllocError, Global};
@@ -160,6 +161,16 @@ impl<'a> Desk<'a> {
         R: Wait + Clock,
     {
         journaling.go_on(rt, &self.ended);
+    }
+
+    /// Writes the news log until the relay has ended.
+    pub(crate) fn write_news<F, K, R>(&self, rt: &R, writing: NewsWriting<'_, F, K>)
+    where
+        F: NewsFile + Drop,
+        K: NewsLines + Drop,
+        R: Wait + Clock,
+    {
+        writing.go_on(rt, &self.ended);
     }
 
     /// Is told that what it goes on beside has ended.

@@ -1,16 +1,21 @@
 //! The gate of a relay that is served.
-ghost use Rattle.std.specs.Prelude.{◌≡◌, ◌++◌, ℕ, List, Some, IfOk, OnOk, length};
-ghost use Rattle.live_wire.specs.declared.tally.Tally.{Tally};
-ghost use Rattle.relay_serve.specs.Gates.{ArePeerLines, finish_word, names_of, peer_line};
-ghost use Rattle.relay_serve.specs.Gates.{told_text};
+ghost use Rattle.std.specs.Prelude.{◌≡◌, ◌++◌, List, ℕ, Some, IfOk, OnOk, length};
+ghost use Rattle.relay_serve.specs.Gates.{AreFromLines, ArePeerLines, ArePeersTold};
+ghost use Rattle.relay_serve.specs.Gates.{AreReasonsLines, IsFromLine, IsPeerLine};
+ghost use Rattle.relay_serve.specs.Gates.{IsReasonsLine, finish_word};
+ghost use Rattle.relay_serve.specs.Gates.{names_of, told_text};
 
-use live_session::{Command, Finish, Gate};
+use crate::news::News;
+use crate::refusals::Refusals;
+use live_session::{Command, Finish, Gate, Remark};
 use live_wire::Tally;
 use relay_conf::Peer;
 use std::alloc::{AllocError, Global};
 use std::fmt::{Display, Formatter};
 use std::net::Ipv6Addr;
 use std::sync::atomic::{AtomicU64, Ordering};
+use std::sync::{Mutex, Wait};
+use std::time::Clock;
 use std::{fmt, str};
 
 /// What the sessions of a peer have said and read so far, and how many of them are open.
@@ -24,6 +29,12 @@ struct PeerCounts<'a> {
     refused: AtomicU64,
     later: AtomicU64,
     octets: AtomicU64,
+    /// The articles that were judged and refused.
+    refusals: Refusals,
+    /// The offers that its sessions have open.
+    offers: AtomicU64,
+    /// The address that its newest session is connected from.
+    from: Mutex<Option<Ipv6Addr>>,
 }
 
 impl<'a> PeerCounts<'a> {
@@ -37,6 +48,9 @@ impl<'a> PeerCounts<'a> {
             refused: AtomicU64::new(0),
             later: AtomicU64::new(0),
             octets: AtomicU64::new(0),
+            refusals: Refusals::new(),
+            offers: AtomicU64::new(0),
+            from: Mutex::new(None),
         }
     }
 
@@ -62,16 +76,52 @@ impl<'a> PeerCounts<'a> {
 
     /// Puts the line of the peer behind a text.
     fn put(&self, alloc: Global, text: &mut Vec<u8>) -> Result<(), AllocError>
-        ensures { OnOk result ((sessions : ℕ) × (tally : Tally)
-            × (text.new.items
-            ≡ text.old.items ++ peer_line self.now.name.now sessions tally)) }
+        ensures { OnOk result ((line : List ℕ) × IsPeerLine self.now.name.now line
+            × (text.new.items ≡ text.old.items ++ line)) }
     {
         let name = self.name;
         let open = self.open.load(Ordering::SeqCst);
         let told = self.told();
-        let line = format!(in alloc; "peer {name} open={open} {told}\n")?;
+        let offers = self.offers.load(Ordering::SeqCst);
+        let line = format!(in alloc; "peer {name} open={open} {told} offers={offers}\n")?;
         text.extend_from_slice(line.as_bytes())
     }
+
+    /// Puts the line of the reasons for which its articles were refused behind a text.
+    fn put_refused(&self, alloc: Global, text: &mut Vec<u8>) -> Result<(), AllocError>
+        ensures { OnOk result ((line : List ℕ) × IsReasonsLine self.now.name.now line
+            × (text.new.items ≡ text.old.items ++ line)) }
+    {
+        self.refusals.put(alloc, self.name, text)
+    }
+
+    /// Puts the line of the address that its newest session is connected from behind a text, where
+    /// it had one.
+    fn put_from<R: Wait>(&self, rt: &R, alloc: Global, text: &mut Vec<u8>) -> Result<(), AllocError>
+        ensures { OnOk result ((line : List ℕ) × IsFromLine self.now.name.now line
+            × (text.new.items ≡ text.old.items ++ line)) }
+    {
+        let from = *self.from.lock(rt);
+        match from {
+            Some(address) => put_address(alloc, self.name, address, text),
+            None => Ok(()),
+        }
+    }
+}
+
+/// Puts the line of an address that the newest session of a peer is connected from behind a text.
+fn put_address(
+    alloc: Global,
+    name: &str,
+    address: Ipv6Addr,
+    text: &mut Vec<u8>,
+) -> Result<(), AllocError>
+    ensures { OnOk result ((line : List ℕ) × IsFromLine name.now line
+        × (text.new.items ≡ text.old.items ++ line)) }
+{
+    let from = address.to_canonical();
+    let line = format!(in alloc; "from {name}={from}\n")?;
+    text.extend_from_slice(line.as_bytes())
 }
 
 /// What was said and read, as a line tells it.
@@ -96,33 +146,82 @@ impl Display for Told {
     }
 }
 
-/// Lets every command in at once, counts for each peer what its sessions say and read, and tells of
-/// each session that has ended, in a line on standard error.
+/// Lets every command in at once, counts for each peer what its sessions say and read, has lines of
+/// articles put where the relay logs them, and tells of each session that has ended, in a line on
+/// standard error.
 #[derive(Drop)]
 pub(crate) struct CountingGate<'a> {
     alloc: Global,
     counts: Vec<PeerCounts<'a>>,
+    /// Where lines of articles are put, if they are.
+    news: Option<News<'a>>,
 }
 
 impl<'a> CountingGate<'a> {
     /// A gate for the sessions of these peers, before the first of them.
-    pub(crate) fn new(alloc: Global, peers: &'a [Peer]) -> Result<CountingGate<'a>, AllocError>
+    pub(crate) fn new(
+        alloc: Global,
+        peers: &'a [Peer],
+        news: Option<News<'a>>,
+    ) -> Result<CountingGate<'a>, AllocError>
         ensures { IfOk result (λ gate. length (names_of gate) ≡ length peers.now) }
     {
         let mut counts = Vec::new(alloc);
         for peer in peers {
             counts.push(PeerCounts::new(peer))?;
         }
-        Ok(CountingGate { alloc, counts })
+        Ok(CountingGate {
+            alloc,
+            counts,
+            news,
+        })
+    }
+
+    /// Where lines of articles are put, if they are.
+    pub(crate) fn news(&self) -> Option<News<'a>> {
+        self.news
+    }
+
+    /// Puts what is told of each peer behind a text.
+    pub(crate) fn put_peers<R: Wait>(&self, rt: &R, text: &mut Vec<u8>) -> Result<(), AllocError>
+        ensures { OnOk result ((told : List ℕ) × ArePeersTold (names_of self.now) told
+            × (text.new.items ≡ text.old.items ++ told)) }
+    {
+        self.put_counts(text)?;
+        self.put_refusals(text)?;
+        self.put_addresses(rt, text)?;
+        Ok(())
     }
 
     /// Puts a line for each peer behind a text.
-    pub(crate) fn put_peers(&self, text: &mut Vec<u8>) -> Result<(), AllocError>
+    fn put_counts(&self, text: &mut Vec<u8>) -> Result<(), AllocError>
         ensures { OnOk result ((lines : List ℕ) × ArePeerLines (names_of self.now) lines
             × (text.new.items ≡ text.old.items ++ lines)) }
     {
         for counts in &self.counts {
             counts.put(self.alloc, text)?;
+        }
+        Ok(())
+    }
+
+    /// Puts a line of refusals for each peer behind a text.
+    fn put_refusals(&self, text: &mut Vec<u8>) -> Result<(), AllocError>
+        ensures { OnOk result ((lines : List ℕ) × AreReasonsLines (names_of self.now) lines
+            × (text.new.items ≡ text.old.items ++ lines)) }
+    {
+        for counts in &self.counts {
+            counts.put_refused(self.alloc, text)?;
+        }
+        Ok(())
+    }
+
+    /// Puts a line for each peer that had a session behind a text.
+    fn put_addresses<R: Wait>(&self, rt: &R, text: &mut Vec<u8>) -> Result<(), AllocError>
+        ensures { OnOk result ((lines : List ℕ) × AreFromLines (names_of self.now) lines
+            × (text.new.items ≡ text.old.items ++ lines)) }
+    {
+        for counts in &self.counts {
+            counts.put_from(rt, self.alloc, text)?;
         }
         Ok(())
     }
@@ -141,7 +240,7 @@ fn word_of(finish: Finish) -> &'static str
     }
 }
 
-impl<R: Eprint> Gate<R> for CountingGate<'_> {
+impl<R: Eprint + Wait + Clock> Gate<R> for CountingGate<'_> {
     ghost use Rattle.std.specs.Prelude.{⊤, false};
 
     // It says no to none, and nothing is said of one that it lets in.
@@ -161,9 +260,36 @@ impl<R: Eprint> Gate<R> for CountingGate<'_> {
 
     fn leave(&self, _rt: &R, _command: Command) {}
 
-    fn opened(&self, _rt: &R, peer: usize, _session: u64) {
+    fn opened(&self, rt: &R, peer: usize, _session: u64, from: Ipv6Addr) {
         if let Some(counts) = self.counts.get(peer) {
             counts.open.fetch_add(1, Ordering::SeqCst);
+            *counts.from.lock(rt) = Some(from);
+        }
+    }
+
+    fn wants_stored(&self) -> bool {
+        match &self.news {
+            Some(news) => news.is_of_all(),
+            None => false,
+        }
+    }
+
+    fn remarked(&self, rt: &R, peer: usize, reply: &[u8], remark: &Remark) {
+        let Some(counts) = self.counts.get(peer) else {
+            return;
+        };
+        if let Remark::Refused(_, reason) = remark {
+            counts.refusals.add(*reason);
+        }
+        if let Some(news) = &self.news {
+            news.put(rt, self.alloc, counts.name, reply, remark);
+        }
+    }
+
+    fn offers(&self, _rt: &R, peer: usize, had: usize, has: usize) {
+        if let Some(counts) = self.counts.get(peer) {
+            let more = (has as u64).wrapping_sub(had as u64);
+            counts.offers.fetch_add(more, Ordering::SeqCst);
         }
     }
 

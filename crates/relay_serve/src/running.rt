@@ -17,7 +17,7 @@ use crate::desk::Desk;
 use crate::gate::CountingGate;
 use crate::lives::{finish, unstarted};
 use crate::run_totals::RunTotals;
-use crate::side_thread::{Figured, Served, start_beside};
+use crate::side_thread::{Figured, Served, Writers, start_beside};
 use block_shelf::BeginError;
 use cyc_block::BlockStore;
 use live_journal::PendingJournal;
@@ -26,11 +26,12 @@ use live_wire::Port;
 use relay_conf::Config;
 use relay_core::Stopped;
 use relay_folder::{JournalFile, Origin};
-use relay_journal::{JournalLines, Journaling};
+use relay_journal::JournalLines;
 use relay_live::{Counted, Keeper, LiveError, PeerSource, RegisterRef, Serving, Shared, serve_all};
 use relay_report::ServeError;
 use relay_startup::{Beginning, Looked, hasher_of, unbegun, unformatted};
 use std::alloc::Global;
+use std::fs::{File, Files};
 use std::random::RandomSource;
 use std::sync::Wait;
 use std::sync::ledger::{Blank, Book, Ledger, Share};
@@ -69,8 +70,8 @@ pub(crate) struct Surroundings<'a, O, K, R> {
     pub side: &'a Desk<'a>,
     /// What is said to its journal.
     pub pending: &'a PendingJournal,
-    /// What writes that, where there is one.
-    pub journaling: Option<Journaling<'a, O, K>>,
+    /// What is written beside it.
+    pub writers: Writers<'a, O, K, R>,
 }
 
 /// Runs a relay of this configuration over these stores, the i-th for buffer i: an end behind each
@@ -87,7 +88,7 @@ pub(crate) fn run_relay<
     L: Ledger + Send + Sync,
     O: JournalFile + Drop + Send,
     K: JournalLines + Drop + Send,
-    R: Threads + Wait + Clock + Eprint + RandomSource + Sync,
+    R: Threads + Wait + Clock + Eprint + Files<File = File> + RandomSource + Sync,
 >(
     rt: &R,
     alloc: Global,
@@ -123,7 +124,7 @@ pub(crate) fn run_relay<
         gate,
         side,
         pending,
-        journaling,
+        writers,
     } = surroundings;
     let serving = Serving {
         config,
@@ -132,7 +133,7 @@ pub(crate) fn run_relay<
         peer_sources,
     };
     let counted = attended(
-        rt, alloc, register, &shared, serving, all, clock, side, pending, journaling,
+        rt, alloc, register, &shared, serving, all, clock, side, pending, writers,
     );
     match counted {
         Ok(counted) => finish(rt, alloc, config, shared, counted),
@@ -240,7 +241,7 @@ fn attended<
     L: Ledger + Send + Sync,
     O: JournalFile + Drop + Send,
     K: JournalLines + Drop + Send,
-    R: Threads + Wait + Clock + Eprint + Sync,
+    R: Threads + Wait + Clock + Eprint + Files<File = File> + Sync,
 >(
     rt: &R,
     alloc: Global,
@@ -251,7 +252,7 @@ fn attended<
     clock: &'a MachineClock<'a, R>,
     side: &Desk<'_>,
     pending: &'a PendingJournal,
-    journaling: Option<Journaling<'a, O, K>>,
+    writers: Writers<'a, O, K, R>,
 ) -> Result<Counted, ServeError>
     requires register { register.now ≡ J.register }
     requires holds { J.holds ≡ has_buffer serving.config.now.buffers }
@@ -271,7 +272,7 @@ fn attended<
         ensures { RunGives J.StorePremises serving.entry.config.now
             (map (λ peer_source. peer_source.peer) serving.entry.peer_sources.items) result }
     { run_shared(rt, alloc, keeper, serving, all) };
-    run_beside(rt, run, side, &served, journaling)
+    run_beside(rt, run, side, &served, writers)
 }
 
 /// Has something run to its end, and beside it what goes on, which is started first. Where no
@@ -281,13 +282,13 @@ fn run_beside<
     F: Figured<R> + Sync,
     O: JournalFile + Drop + Send,
     K: JournalLines + Drop + Send,
-    R: Threads + Wait + Clock + Eprint + Sync,
+    R: Threads + Wait + Clock + Eprint + Files<File = File> + Sync,
 >(
     rt: &R,
     run: W,
     side: &Desk<'_>,
     served: &F,
-    journaling: Option<Journaling<'_, O, K>>,
+    writers: Writers<'_, O, K, R>,
 ) -> Result<Counted, ServeError>
     requires { W.pre run }
     ensures { (result ≡ Err faults.NoThread) ⊎ W.post run result }
@@ -299,7 +300,7 @@ fn run_beside<
             requires { W.pre run }
             ensures { (result ≡ Err faults.NoThread) ⊎ W.post run result }
         {
-            let Some(beside) = start_beside(scope, rt, side, served, journaling) else {
+            let Some(beside) = start_beside(scope, rt, side, served, writers) else {
                 drop(run);
                 return Err(ServeError::NoThread);
             };

@@ -14,9 +14,11 @@ use crate::clock::MachineClock;
 use crate::desk::Desk;
 use crate::gate::CountingGate;
 use crate::keeping::keep_finished;
+use crate::news::{News, pending_of, writing_of};
 use crate::ports::{open_doors, open_ports};
 use crate::repairing::begin_again;
 use crate::running::{Finished, Records, Surroundings, channels_of, run_relay};
+use crate::side_thread::Writers;
 use crate::syncing::{Syncing, open_syncing};
 use crate::watched::{Watched, watch};
 use file_blocks::FileBlocks;
@@ -81,7 +83,8 @@ where
         place: HostJournal::in_folder(rt, alloc, folder)?,
         lines: PrintedLines::new(rt),
     };
-    let gate = CountingGate::new(alloc, &config.relay.peers)?;
+    let lines = pending_of(alloc, &config.relay)?;
+    let gate = CountingGate::new(alloc, &config.relay.peers, News::of(&config.relay, &lines))?;
     let callers = callers_of(alloc, &config.relay)?;
     let stop = Stop::new();
     let asked = Asked {
@@ -104,6 +107,7 @@ where
     drop(journal);
     drop(history);
     drop(gate);
+    drop(lines);
     drop(callers);
     drop(stop);
     if answer.is_ok() {
@@ -164,6 +168,7 @@ where
             let desk = Desk::new(alloc, stop, gate, control, doors, syncing);
             tell_serving(rt, peer_sources.len(), unbegun.stores.len());
             let access = Access {
+                folder: asked.folder,
                 peer_sources,
                 gate,
                 desk: &desk,
@@ -228,6 +233,8 @@ fn tell_serving<R: Eprint>(rt: &R, ports: usize, buffers: usize) {
 /// How a relay is had from outside.
 #[derive(Drop)]
 struct Access<'a> {
+    /// Its folder.
+    folder: &'a str,
     /// The ports of its peers.
     peer_sources: Vec<PeerSource<Port<'a>>>,
     gate: &'a CountingGate<'a>,
@@ -248,7 +255,7 @@ fn begin_and_run<R, H: HistoryPlace, P: JournalPlace, L: JournalLines, W: Write>
     writer: &mut W,
 ) -> Result<(), ServeError>
 where
-    R: Threads + Wait + Clock + Eprint + RandomSource + Sync,
+    R: Threads + Wait + Clock + Eprint + Files<File = File> + RandomSource + Sync,
     requires stores { map count_of unbegun.stores.items
         ≡ map (λ buffer. buffer.blocks) config.now.buffers.buffers.items }
     requires few { length access.peer_sources.items < 2 ^ 62 }
@@ -301,7 +308,7 @@ fn run_begun<'a, R, H: HistoryPlace, P: JournalPlace, L: JournalLines>(
     access: Access<'_>,
 ) -> Result<Finished<Watched<'a, FileBlocks, R>>, ServeError>
 where
-    R: Threads + Wait + Clock + Eprint + RandomSource + Sync,
+    R: Threads + Wait + Clock + Eprint + Files<File = File> + RandomSource + Sync,
     requires stores { map count_of begun.stores.items
         ≡ map (λ buffer. buffer.blocks) config.now.buffers.buffers.items }
     requires few { length access.peer_sources.items < 2 ^ 62 }
@@ -328,7 +335,7 @@ fn run_watched<'a, R, O: JournalFile + Drop + Send>(
     access: Access<'_>,
 ) -> Result<Finished<Watched<'a, FileBlocks, R>>, ServeError>
 where
-    R: Threads + Wait + Clock + Eprint + RandomSource + Sync,
+    R: Threads + Wait + Clock + Eprint + Files<File = File> + RandomSource + Sync,
     requires stores { map count_of (map store_in beginning.stores.items)
         ≡ map (λ buffer. buffer.blocks) config.now.buffers.buffers.items }
     requires few { length access.peer_sources.items < 2 ^ 62 }
@@ -346,6 +353,7 @@ where
         }
         None => None,
     };
+    let news = writing_of(rt, alloc, access.folder, access.gate.news())?;
     run_relay::<Watched<'a, FileBlocks, R>, Brand, Brand, O, PrintedLines<'a, R>, R>(
         rt,
         alloc,
@@ -361,7 +369,7 @@ where
             gate: access.gate,
             side: access.desk,
             pending: &pending,
-            journaling,
+            writers: Writers { journaling, news },
         },
     )
 }

@@ -3,13 +3,14 @@ ghost use Rattle.std.specs.Prelude.{◌≡◌, ◌++◌, ℕ, List, IfOk, IfSome
 ghost use Rattle.relay_live.specs.Making.{buffers_in};
 ghost use Rattle.relay_report.specs.Report.{text_of_figures};
 ghost use Rattle.relay_serve.specs.Filled.{sizes_text};
-ghost use Rattle.relay_serve.specs.Gates.{ArePeerLines, names_of};
+ghost use Rattle.relay_serve.specs.Gates.{ArePeersTold, names_of};
 ghost use Rattle.relay_serve.specs.Syncing.{syncing_in};
 
 use crate::desk::Desk;
 use crate::figures::figures_of;
 use crate::filled::put_sizes;
 use crate::gate::CountingGate;
+use crate::news::HostNewsWriting;
 use cyc_block::BlockStore;
 use live_store::StorePremises;
 use relay_conf::Config;
@@ -18,6 +19,7 @@ use relay_journal::{JournalLines, Journaling};
 use relay_live::{Shared, expire_round};
 use relay_report::{Figures, text_of};
 use std::alloc::{AllocError, Global};
+use std::fs::{File, Files};
 use std::sync::Wait;
 use std::sync::ledger::Ledger;
 use std::thread::{JoinHandle, Scope, Threads};
@@ -55,6 +57,8 @@ pub(crate) struct Beside {
     attending: JoinHandle<()>,
     /// Of whoever writes the journal.
     journaling: Option<JoinHandle<()>>,
+    /// Of whoever writes the news log.
+    news: Option<JoinHandle<()>>,
     /// Of whoever flushes files.
     syncing: Option<JoinHandle<()>>,
 }
@@ -65,10 +69,12 @@ impl Beside {
         let Beside {
             attending,
             journaling,
+            news,
             syncing,
         } = self;
         attending.join(rt);
         join_one(rt, journaling);
+        join_one(rt, news);
         join_one(rt, syncing);
     }
 }
@@ -80,40 +86,55 @@ fn join_one<R: Threads + Wait>(rt: &R, thread: Option<JoinHandle<()>>) {
     }
 }
 
+/// What is written beside a relay that is served.
+#[derive(Drop)]
+pub(crate) struct Writers<'a, O, K, R> {
+    /// Its journal, where there is one.
+    pub(crate) journaling: Option<Journaling<'a, O, K>>,
+    /// Its news log, where it has one.
+    pub(crate) news: Option<HostNewsWriting<'a, R>>,
+}
+
 /// Starts the threads of what goes on beside a relay, none where one is not to be had: of whoever
-/// writes the journal only where there is one, and of whoever flushes files only where they are.
+/// writes the journal, or the news log, only where there is one, and of whoever flushes files only
+/// where they are.
 pub(crate) fn start_beside<
     's,
     E,
     F: Figured<R> + Sync,
     O: JournalFile + Drop + Send + 's,
     K: JournalLines + Drop + Send + 's,
-    R: Threads + Wait + Clock + Eprint + Sync,
+    R: Threads + Wait + Clock + Eprint + Files<File = File> + Sync,
 >(
     scope: &'s Scope<'s, E>,
     rt: &'s R,
     side: &'s Desk<'s>,
     relay: &'s F,
-    journaling: Option<Journaling<'s, O, K>>,
+    writers: Writers<'s, O, K, R>,
 ) -> Option<Beside>
     ensures syncing { IfSome result (λ beside.
         is_some beside.syncing ≡ is_some (syncing_in side.now)) }
     ensures journaling { IfSome result (λ beside.
-        is_some beside.journaling ≡ is_some journaling.entry) }
+        is_some beside.journaling ≡ is_some writers.journaling) }
+    ensures news { IfSome result (λ beside. is_some beside.news ≡ is_some writers.news) }
 {
+    let Writers { journaling, news } = writers;
     let Some(attending) = start_side_thread(scope, rt, side, relay) else {
         drop(journaling);
+        drop(news);
         return None;
     };
     let Ok(journaling) = start_journaling(scope, rt, side, journaling) else {
+        drop(news);
         side.ended();
         attending.join(rt);
         return None;
     };
-    match start_syncing(scope, rt, side) {
-        Ok(syncing) => Some(Beside {
+    match start_files(scope, rt, side, news) {
+        Ok((news, syncing)) => Some(Beside {
             attending,
             journaling,
+            news,
             syncing,
         }),
         Err(NoThread) => {
@@ -122,6 +143,47 @@ pub(crate) fn start_beside<
             join_one(rt, journaling);
             None
         }
+    }
+}
+
+/// Starts the threads of whoever writes the news log and of whoever flushes files, neither where
+/// one is not to be had.
+fn start_files<'s, E, R: Threads + Wait + Clock + Eprint + Files<File = File> + Sync>(
+    scope: &'s Scope<'s, E>,
+    rt: &'s R,
+    side: &'s Desk<'s>,
+    news: Option<HostNewsWriting<'s, R>>,
+) -> Result<(Option<JoinHandle<()>>, Option<JoinHandle<()>>), NoThread>
+    ensures news { IfOk result (λ started. is_some started.0 ≡ is_some news.entry) }
+    ensures syncing { IfOk result (λ started.
+        is_some started.1 ≡ is_some (syncing_in side.now)) }
+{
+    let news = start_news(scope, rt, side, news)?;
+    match start_syncing(scope, rt, side) {
+        Ok(syncing) => Ok((news, syncing)),
+        Err(NoThread) => {
+            side.ended();
+            join_one(rt, news);
+            Err(NoThread)
+        }
+    }
+}
+
+/// Starts the thread of whoever writes the news log, where there is one.
+fn start_news<'s, E, R: Threads + Wait + Clock + Eprint + Files<File = File> + Sync>(
+    scope: &'s Scope<'s, E>,
+    rt: &'s R,
+    side: &'s Desk<'s>,
+    news: Option<HostNewsWriting<'s, R>>,
+) -> Result<Option<JoinHandle<()>>, NoThread>
+    ensures { IfOk result (λ started. is_some started ≡ is_some news.entry) }
+{
+    let Some(writing) = news else {
+        return Ok(None);
+    };
+    match scope.spawn(move || side.write_news(rt, writing.into_writing())) {
+        Ok(started) => Ok(Some(started)),
+        Err(_) => Err(NoThread),
     }
 }
 
@@ -227,27 +289,28 @@ impl<S: BlockStore + Drop, J: StorePremises, L: Ledger, C: live_session::Clock> 
     }
 }
 
-/// What is told of these figures: the report of them, a line for each peer, and one for each
-/// buffer's size, by the front that the buffer's line has.
-fn told_of(
+/// What is told of these figures: the report of them, what is told of each peer, and a line for
+/// each buffer's size, by the front that the buffer's line has.
+fn told_of<R: Wait>(
+    rt: &R,
     alloc: Global,
     config: &Config,
     figures: &Figures,
     gate: &CountingGate<'_>,
 ) -> Result<Vec<u8>, AllocError>
-    ensures { IfOk result (λ text. (peers : List ℕ) × ArePeerLines (names_of gate.now) peers
+    ensures { IfOk result (λ text. (peers : List ℕ) × ArePeersTold (names_of gate.now) peers
         × (text.items ≡ text_of_figures figures.now
         ++ (peers ++ sizes_text config.now.buffers.buffers.items figures.now.buffers.items))) }
 {
     let mut text = text_of(alloc, figures)?;
-    gate.put_peers(&mut text)?;
+    gate.put_peers(rt, &mut text)?;
     put_sizes(&mut text, &config.buffers.buffers, &figures.buffers)?;
     Ok(text)
 }
 
 impl<S: BlockStore + Drop, J: StorePremises, L: Ledger, C: live_session::Clock, R: Wait> Figured<R>
     for Served<'_, S, J, L, C> {
-    /// The report of the relay as it is, a line for each peer, and one for each buffer's size.
+    /// The report of the relay as it is, what is told of each peer, and each buffer's size.
     fn report(
         &self,
         rt: &R,
@@ -255,7 +318,7 @@ impl<S: BlockStore + Drop, J: StorePremises, L: Ledger, C: live_session::Clock, 
         gate: &CountingGate<'_>,
     ) -> Result<Vec<u8>, AllocError> {
         let figures = self.figures(rt, alloc)?;
-        let text = told_of(alloc, self.config, &figures, gate);
+        let text = told_of(rt, alloc, self.config, &figures, gate);
         drop(figures);
         text
     }

@@ -83,7 +83,7 @@ returns-in-Ok-refuse g c =
       seat = c.requires.seat;
       place = record { number = refl; end_is = refl };
       shared = subst P (sym c.in-Refuse.is)
-          (λ w. refused w live c.in-Refuse.id);
+          (λ w. refused w live c.in-Refuse.id c.in-Refuse.field-1);
       reads = tt;
       slot = tt;
       push = tt;

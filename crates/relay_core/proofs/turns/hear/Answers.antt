@@ -28,7 +28,8 @@ returns-then-is_empty c =
       heard = voiced c.args.number (option_map reason_view c.args.why) c.args.session.now
           c.absorb-said.new.self c.args.answer
           c.absorb-said.result.items outputs.Quiet c.absorb-said.ensures.heard
-          (quiet c.args.number (option_map reason_view c.args.why) c.absorb-said.result (has_parted c.absorb-said.new.self)
+          (quiet c.args.number (option_map reason_view c.args.why) c.absorb-said.result
+          (has_parted c.absorb-said.new.self)
           (sym c.is_empty.ensures ∙ c.if-is_empty.true));
       memory = told_other c.args.session.now c.args.answer outputs.Quiet c.absorb-said.new.self
           c.in_default.not-Memory (λ fault is. never_refuses _ fault is refl);
@@ -43,7 +44,8 @@ returns-then-has_parted c =
           c.absorb-said.result.items (outputs.Ended c.args.number c.new.result)
           c.absorb-said.ensures.heard
           (λ s is. ap (λ (octets : List ℕ). world.Ended c.args.number octets) c.new.ensures
-          ∙ ended c.args.number (option_map reason_view c.args.why) c.absorb-said.result (has_parted c.absorb-said.new.self)
+          ∙ ended c.args.number (option_map reason_view c.args.why) c.absorb-said.result
+          (has_parted c.absorb-said.new.self)
           (sym c.is_empty.ensures ∙ c.if-is_empty.false)
           (sym c.has_parted.ensures ∙ c.if-has_parted.true) s is);
       memory = told_other c.args.session.now c.args.answer

@@ -1,6 +1,7 @@
 use Rattle.std.proofs.Common.{refl, ap, Some, Ok, List, ℕ, Option}
 use Rattle.relay_conf.specs.RelayLines.{Skipped, Own, MaxArticle, Cutoff, Remember, Patience, Sync}
-use Rattle.relay_conf.specs.RelayLines.{Offers}
+use Rattle.relay_conf.specs.RelayLines.{Offers, Log}
+use Rattle.relay_conf.specs.declared.settings.NewsLog.{NewsLog}
 use Rattle.relay_conf.specs.RelayLines.{PeerLine, Bind}
 use Rattle.relay_conf.specs.RelayDraft.{Reading, draft_view, after_line}
 use Rattle.relay_conf.proofs.LinesRead.{read_by}
@@ -93,6 +94,24 @@ returns-in-Offers c = λ listed.
           (Offers c.in-Offers.seconds) set.result refl set.ensures.fault set.ensures.set refl;
       listed = still set.result listed;
     })
+
+pub returns-in_ok-path-in-Log : goal.returns-in_ok-path-in-Log
+returns-in_ok-path-in-Log c = λ listed.
+    let path = c.in_ok-path-in-Log.path in
+    let set = c.set_once-in-Log in
+    rw c.in-Log.is
+    (record {
+      step = read_by _ _ (after_line c.args.number) _
+          (λ (slot : Option NewsLog). draft_view (record c.args.self.now { log = slot }))
+          set.new.slot (Some (record { all = c.in-Log.all; path = path }))
+          (Log c.in-Log.all path) set.result
+          (ap (λ (octets : List ℕ). Ok (Log c.in-Log.all octets)) c.in_ok-path-in-Log.ensures)
+          set.ensures.fault set.ensures.set refl;
+      listed = still set.result listed;
+    })
+
+pub returns-in_err-path-in-Log : goal.returns-in_err-path-in-Log
+returns-in_err-path-in-Log c = λ listed. no_memory _ c.from_residual-in_err-path-in-Log.ensures.1
 
 pub returns-in-Bind : goal.returns-in-Bind
 returns-in-Bind c = λ listed.

@@ -1,31 +1,26 @@
-use Rattle.std.proofs.Common.{◌≡◌, ◌∙◌, ◌++◌, ◌<◌, [], ℕ, List, ap, append_assoc, append-nil}
-use Rattle.std.proofs.Common.{get_or, length, refl, subst, sym}
-use Rattle.relay_serve.specs.Gates.{ArePeerLines, peer_line}
-use Rattle.relay_serve.specs.declared.gate.PeerCounts.{PeerCounts}
-use Rattle.relay_serve.proofs.PeerLines.{line_more, name_more}
+use Rattle.std.proofs.Common.{◌∙◌, ◌++◌, List, ℕ, ap, append_assoc, refl}
 use Rattle.relay_serve.proofs.gate.CountingGate.put_peers.Goals as goal
 
--- There is no line yet.
-pub loop-counts-init : goal.loop-counts-init
-loop-counts-init c = ([], refl, sym (append-nil c.args.text.now.items))
-
--- That of the next stands behind them.
-pub loop-counts-preserved : goal.loop-counts-preserved
-loop-counts-preserved c =
-    let told = c.loop-counts.invariant in
-    let own = c.in_ok-put.ensures in
-    let one = c.counts-item.result in
-    let line = peer_line one.name.now own.0 own.1 in
-    let all = c.deref-counts-items.ensures.value in
-    let i = c.loop-counts.counts-index in
-    let within : i < length c.args.self.now.counts.items =
-    subst (λ (some : List PeerCounts). i < length some) all c.loop-counts-test.true in
-    let at : one ≡ get_or c.args.self.now.counts.items i one =
-    c.counts-item.is ∙ ap (λ (some : List PeerCounts). get_or some i one) all in (
-      told.0 ++ line,
-      subst (λ (names : List (List ℕ)). ArePeerLines names (told.0 ++ line))
-          (sym (name_more c.args.self.now.counts.items i one within at))
-          (line_more _ told.0 one.name.now own.0 own.1 told.1),
-      own.2 ∙ ap (λ (before : List ℕ). before ++ line) told.2
-          ∙ append_assoc c.args.text.now.items told.0 line,
+-- The lines of the peers, then their reasons, then their addresses.
+pub returns : goal.returns
+returns c =
+    let peers = c.in_ok-put_counts.ensures in
+    let reasons = c.in_ok-put_refusals.ensures in
+    let addresses = c.in_ok-put_addresses.ensures in
+    let old : List ℕ = c.args.text.now.items in (
+      peers.0 ++ (reasons.0 ++ addresses.0),
+      record {
+        peers = peers.0;
+        reasons = reasons.0;
+        addresses = addresses.0;
+        are_peers = peers.1;
+        are_reasons = reasons.1;
+        are_addresses = addresses.1;
+        is = refl;
+      },
+      addresses.2
+          ∙ ap (λ (before : List ℕ). before ++ addresses.0)
+          (reasons.2 ∙ ap (λ (before : List ℕ). before ++ reasons.0) peers.2)
+          ∙ append_assoc (old ++ peers.0) reasons.0 addresses.0
+          ∙ append_assoc old peers.0 (reasons.0 ++ addresses.0),
     )

@@ -1,0 +1,2 @@
+mod StampedOctets
+mod WorkedMoments
