@@ -1,11 +1,15 @@
 use Rattle.std.proofs.Common.{refl}
+use Rattle.std.specs.Fmt.{digits}
 use Rattle.relay_drill.proofs.laws.reasons_are_told_where_asked.Goals as goal
 
 pub returns-clause-told : goal.returns-clause-told
+unfolding digits
 returns-clause-told c = refl
 
 pub returns-clause-of_ihave : goal.returns-clause-of_ihave
+unfolding digits
 returns-clause-of_ihave c = refl
 
 pub returns-clause-untold : goal.returns-clause-untold
+unfolding digits
 returns-clause-untold c = refl
