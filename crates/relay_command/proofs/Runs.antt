@@ -34,7 +34,7 @@ module _ {W : Type 0} (contents : W → Option (List ℕ))
   never_words : (a : Asked) (error : Error) (input before after : Option (List ℕ))
       → Performs serving adding standing asking a (Err (failures.Words error)) input before after
       → ⊥
-  never_words (Drills folder script) error input before after does = does
+  never_words (Drills folder script reasons) error input before after does = does
   never_words (Checks folder) error input before after does = does
   never_words (Explains folder question) error input before after does = does
   never_words (Tells text) error input before after does = does
@@ -47,7 +47,7 @@ module _ {W : Type 0} (contents : W → Option (List ℕ))
   -- Nor does it fail as help does that can't be written.
   never_unwritten : (a : Asked) (input before after : Option (List ℕ))
       → Performs serving adding standing asking a (Err failures.Unwritten) input before after → ⊥
-  never_unwritten (Drills folder script) input before after does = does
+  never_unwritten (Drills folder script reasons) input before after does = does
   never_unwritten (Checks folder) input before after does = does
   never_unwritten (Explains folder question) input before after does = does
   never_unwritten (Tells text) input before after does = does

@@ -23,8 +23,9 @@ use Rattle.relay_command.specs.declared.command_line.Job.TheVariants as jobs
 
 -- what the words ask for
 pub data Asked : Type 0 where
-  -- to run a script with the configuration in a folder
-  Drills : (folder script : List ℕ) → Asked
+  -- to run a script with the configuration in a folder, and tell the reasons for which articles are
+  -- refused or not
+  Drills : (folder script : List ℕ) (reasons : Bool) → Asked
   -- to read the configuration in a folder
   Checks : (folder : List ℕ) → Asked
   -- to say what the configuration in a folder does, or where an article goes by it
@@ -46,7 +47,8 @@ pub data Asked : Type 0 where
 
 -- a job as the words ask for it
 abbrev pub asked : Job → Asked
-asked (jobs.Drill folder script) = Drills (string_bytes folder) (string_bytes script)
+asked (jobs.Drill folder script reasons) =
+    Drills (string_bytes folder) (string_bytes script) reasons
 asked (jobs.Check folder) = Checks (string_bytes folder)
 asked (jobs.Explain folder question) = Explains (string_bytes folder) (question_of question)
 asked (jobs.Token text) = Tells (string_bytes text)
@@ -68,18 +70,19 @@ add_words = with_rule (new_app (codes "add-buffer")) (needed (codes "DIR"))
 abbrev pub check_words : App
 check_words = with_rule (new_app (codes "check")) (needed (codes "DIR"))
 
--- `drill DIR SCRIPT`
+-- a word of this name that has no value and may be left out
+abbrev pub flag_rule : Text → Rule
+flag_rule name = record (new_rule name) { long = Some name; action = Some SetTrue }
+
+-- `drill DIR SCRIPT [--reasons]`
 abbrev pub drill_words : App
 drill_words =
-    with_rule (with_rule (new_app (codes "drill")) (needed (codes "DIR"))) (needed (codes "SCRIPT"))
+    with_rule (with_rule (with_rule (new_app (codes "drill")) (needed (codes "DIR")))
+    (needed (codes "SCRIPT"))) (flag_rule (codes "reasons"))
 
 -- `explain DIR [NEWSGROUPS] [SIZE]`
 abbrev pub explain_words : App
 explain_words = questions.explain_words (needed (codes "DIR"))
-
--- a word of this name that has no value and may be left out
-abbrev pub flag_rule : Text → Rule
-flag_rule name = record (new_rule name) { long = Some name; action = Some SetTrue }
 
 -- `report DIR [--openmetrics] [--html]`
 abbrev pub report_words : App
@@ -173,6 +176,18 @@ reports_in folder rows =
 abbrev pub reports_by : List Row → Asked
 reports_by rows = reports_in (word_given (codes "DIR") rows) rows
 
+-- whether `--reasons` is given
+abbrev pub reasons_given : List Row → Bool
+reasons_given rows = flag_given (codes "reasons") rows
+
+-- what `drill` asks in a folder, with what is given for its other names
+abbrev pub drills_in : (folder : List ℕ) → List Row → Asked
+drills_in folder rows = Drills folder (word_given (codes "SCRIPT") rows) (reasons_given rows)
+
+-- what `drill` asks, with what is given for its names
+abbrev pub drills_by : List Row → Asked
+drills_by rows = drills_in (word_given (codes "DIR") rows) rows
+
 -- what `serve` asks, with what is given for its names
 abbrev pub serves_by : List Row → Asked
 serves_by rows =
@@ -183,9 +198,10 @@ abbrev pub explains_by : List Row → Asked
 explains_by rows = Explains (word_given (codes "DIR") rows) (question_given rows)
 
 -- what is asked by the subcommand that the words name, with what is given for its names; without
--- one it is a drill with the built-in configuration, of the script on standard input
+-- one it is a drill with the built-in configuration, of the script on standard input, without
+-- reasons
 abbrev pub asked_by : Option (Text × List Row) → Asked
-asked_by None = Drills (codes "K1") (codes "stdin")
+asked_by None = Drills (codes "K1") (codes "stdin") false
 asked_by (Some met) =
     if bytes_eq met.0 (codes "check") then Checks (word_given (codes "DIR") met.1)
     else if bytes_eq met.0 (codes "explain") then explains_by met.1
@@ -194,7 +210,7 @@ asked_by (Some met) =
     else if bytes_eq met.0 (codes "stop") then Stops (word_given (codes "DIR") met.1)
     else if bytes_eq met.0 (codes "report") then reports_by met.1
     else if bytes_eq met.0 (codes "add-buffer") then Adds (word_given (codes "DIR") met.1)
-    else Drills (word_given (codes "DIR") met.1) (word_given (codes "SCRIPT") met.1)
+    else drills_by met.1
 
 -- the words have a fault of this kind, by clap's reading of them; to ask for help or the version is
 -- one

@@ -29,38 +29,40 @@ use Rattle.relay_report.specs.Serve.{ServeGives}
 use Rattle.relay_report.specs.Written.{GainsFront}
 use Rattle.relay_report.specs.declared.fault.ServeError.{ServeError}
 
--- what a script of this name answers with a configuration; `input` is what standard input has
-pub data DrillsScript (config : Config) (script : List ℕ) (result : Result (Unit {0}) DrillError)
-    (input before after : Option (List ℕ)) : Type 0 where
+-- what a script of this name answers with a configuration, where reasons are told or aren't;
+-- `input` is what standard input has
+pub data DrillsScript (config : Config) (script : List ℕ) (reasons : Bool)
+    (result : Result (Unit {0}) DrillError) (input before after : Option (List ℕ)) : Type 0 where
   -- the script is standard input, and was drilled
-  of_input : script ≡ codes "stdin" → DrillGives config result input before after
-      → DrillsScript config script result input before after
+  of_input : script ≡ codes "stdin" → DrillGives reasons config result input before after
+      → DrillsScript config script reasons result input before after
   -- it is a file, and the text that it gave was drilled; nothing says what a file holds
   of_file : script ≢ codes "stdin" → (text : List ℕ)
-      → DrillGives config result (Some text) before after
-      → DrillsScript config script result input before after
+      → DrillGives reasons config result (Some text) before after
+      → DrillsScript config script reasons result input before after
   -- it is a file that can't be read, or memory ran out before it was, and nothing was written
   of_none : script ≢ codes "stdin" → (error : DrillError) → CannotBeRead error
       → result ≡ Err error → Keeps before after
-      → DrillsScript config script result input before after
+      → DrillsScript config script reasons result input before after
 
 -- what a drill with the configuration in a folder answers
-abbrev pub DrillsIn : (folder script : List ℕ) → Result (Unit {0}) DrillError
+abbrev pub DrillsIn : (folder script : List ℕ) (reasons : Bool) → Result (Unit {0}) DrillError
     → (input before after : Option (List ℕ)) → Type 0
-DrillsIn folder script result input before after =
-    (config : Config) × IsIn folder config × DrillsScript config script result input before after
+DrillsIn folder script reasons result input before after =
+    (config : Config) × IsIn folder config
+    × DrillsScript config script reasons result input before after
 
 -- a drill with the configuration in a folder is done, or failed so; where the configuration is at
 -- fault, nothing was written
-abbrev pub DrillsFolder : (folder script : List ℕ) → Result (Unit {0}) Failure
+abbrev pub DrillsFolder : (folder script : List ℕ) (reasons : Bool) → Result (Unit {0}) Failure
     → (input before after : Option (List ℕ)) → Type 0
-DrillsFolder folder script (Ok done) input before after =
-    DrillsIn folder script (Ok done) input before after
-DrillsFolder folder script (Err (Drill error)) input before after =
-    DrillsIn folder script (Err error) input before after
-DrillsFolder folder script (Err (Check error)) input before after =
+DrillsFolder folder script reasons (Ok done) input before after =
+    DrillsIn folder script reasons (Ok done) input before after
+DrillsFolder folder script reasons (Err (Drill error)) input before after =
+    DrillsIn folder script reasons (Err error) input before after
+DrillsFolder folder script reasons (Err (Check error)) input before after =
     HasError folder error × Keeps before after
-DrillsFolder folder script (Err failure) input before after = ⊥
+DrillsFolder folder script reasons (Err failure) input before after = ⊥
 
 -- how much a configuration has was told, and behind it how the relay of the folder stands
 pub record TellsStanding (standing : Standing) (config : Config) (folder : List ℕ)
@@ -158,8 +160,8 @@ RefusesClash (Err failure) before after = ⊥
 -- input
 abbrev pub Performs : Serving → Adding → Standing → Asking → Asked → Result (Unit {0}) Failure
     → (input before after : Option (List ℕ)) → Type 0
-Performs serving adding standing asking (Drills folder script) result input before after =
-    DrillsFolder folder script result input before after
+Performs serving adding standing asking (Drills folder script reasons) result input before after =
+    DrillsFolder folder script reasons result input before after
 Performs serving adding standing asking (Checks folder) result input before after =
     ChecksFolder standing folder result before after
 Performs serving adding standing asking (Explains folder question) result input before after =

@@ -1,10 +1,10 @@
 //! Reading the program's words (docs/PROTOCOL.md, Commands).
-ghost use Rattle.std.specs.Prelude.{◌≡◌, codes, map, option_and_then, string_bytes, None};
+ghost use Rattle.std.specs.Prelude.{◌≡◌, map, option_and_then, string_bytes, None};
 ghost use Rattle.std.specs.Prelude.{IfOk, Some, bytes_eq};
 ghost use Rattle.clap.specs.Words.{found_of, one_of, rows_of, subcommand_rows_of};
 ghost use Rattle.relay_command.specs.CommandLine.{ReadsWords, asked, asked_by};
 ghost use Rattle.relay_command.specs.CommandLine.{word_given};
-ghost use Rattle.relay_command.specs.CommandLine.{Drills, Explains, Serves};
+ghost use Rattle.relay_command.specs.CommandLine.{Explains, Serves, drills_in};
 ghost use Rattle.relay_command.specs.CommandLine.{flag_given, form_given, fresh_given};
 ghost use Rattle.relay_command.specs.CommandLine.{reports_in, sessions_given, two_given};
 ghost use Rattle.relay_command.specs.Numbers.{number_of};
@@ -19,10 +19,12 @@ use std::alloc::{AllocError, Global};
 /// What the words ask for.
 #[derive(Drop)]
 pub enum Job {
-    /// To run a script with the configuration in this folder, or the built-in one.
+    /// To run a script with the configuration in this folder, or the built-in one, and tell the
+    /// reasons for which articles are refused or not.
     Drill {
         folder: String,
         script: String,
+        reasons: bool,
     },
     /// To read the configuration in this folder, or the built-in one, and say what it has.
     Check(String),
@@ -81,13 +83,14 @@ fn job_of(alloc: Global, matches: &ArgMatches<'_>) -> Result<Job, AllocError>
 }
 
 /// What is asked for without words: a drill of the script on standard input, with the built-in
-/// configuration.
+/// configuration and without reasons.
 fn first_drill(alloc: Global) -> Result<Job, AllocError>
     ensures { IfOk result (λ job. asked job ≡ asked_by None) }
 {
     Ok(Job::Drill {
         folder: String::from_str(alloc, "K1")?,
         script: String::from_str(alloc, "stdin")?,
+        reasons: false,
     })
 }
 
@@ -130,11 +133,16 @@ fn is(name: &str, other: &str) -> bool
 
 /// What `drill` asks for in this folder, with what was given for its words.
 fn drilling(alloc: Global, given: &ArgMatches<'_>, folder: String) -> Result<Job, AllocError>
-    ensures { IfOk result (λ job. asked job ≡ Drills (string_bytes folder)
-        (word_given (codes "SCRIPT") (rows_of (found_of given.now)))) }
+    ensures { IfOk result (λ job. asked job
+        ≡ drills_in (string_bytes folder) (rows_of (found_of given.now))) }
 {
     let script = word(alloc, given, "SCRIPT")?;
-    Ok(Job::Drill { folder, script })
+    let reasons = flag(given, "reasons");
+    Ok(Job::Drill {
+        folder,
+        script,
+        reasons,
+    })
 }
 
 /// What `serve` asks for in this folder, with what was given for its words.

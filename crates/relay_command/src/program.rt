@@ -177,7 +177,11 @@ where
         (W.contents writer.new) }
 {
     match job {
-        Job::Drill { folder, script } => drill_in(rt, alloc, folder, script, reader, writer),
+        Job::Drill {
+            folder,
+            script,
+            reasons,
+        } => drill_in(rt, alloc, folder, script, *reasons, reader, writer),
         Job::Check(folder) => check(rt, alloc, folder, writer, stand),
         Job::Explain { folder, question } => explain_folder(rt, alloc, folder, question, writer),
         Job::Token(text) => tell(text.as_bytes(), writer),
@@ -195,23 +199,25 @@ where
     }
 }
 
-/// Runs a script with the configuration in a folder, which is read first.
+/// Runs a script with the configuration in a folder, which is read first, and tells the reasons for
+/// which articles are refused or not.
 fn drill_in<S: Files + RandomSource, R: Read, W: Write>(
     rt: &S,
     alloc: Global,
     folder: &str,
     script: &str,
+    reasons: bool,
     reader: &mut R,
     writer: &mut W,
 ) -> Result<(), Failure>
-    ensures { DrillsFolder folder.now script.now result (R.remaining reader.old)
+    ensures { DrillsFolder folder.now script.now reasons result (R.remaining reader.old)
         (W.contents writer.old) (W.contents writer.new) }
 {
     let config = match load(rt, alloc, folder) {
         Ok(config) => config,
         Err(error) => return Err(Failure::Check(error)),
     };
-    match drill_script(rt, alloc, config, script, reader, writer) {
+    match drill_script(rt, alloc, config, script, reasons, reader, writer) {
         Ok(()) => Ok(()),
         Err(error) => Err(Failure::Drill(error)),
     }
@@ -223,17 +229,18 @@ fn drill_script<S: Files + RandomSource, R: Read, W: Write>(
     alloc: Global,
     config: Config,
     script: &str,
+    reasons: bool,
     reader: &mut R,
     writer: &mut W,
 ) -> Result<(), DrillError>
-    ensures { DrillsScript config script.now result (R.remaining reader.old)
+    ensures { DrillsScript config script.now reasons result (R.remaining reader.old)
         (W.contents writer.old) (W.contents writer.new) }
 {
     if is_standard_input(script) {
-        return drill(rt, alloc, config, reader, writer);
+        return drill(rt, alloc, config, reasons, reader, writer);
     }
     match read_file(rt, alloc, script) {
-        Ok(text) => drill(rt, alloc, config, &mut text.as_slice(), writer),
+        Ok(text) => drill(rt, alloc, config, reasons, &mut text.as_slice(), writer),
         Err(error) => {
             drop(config);
             Err(error)

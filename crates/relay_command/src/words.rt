@@ -67,6 +67,13 @@ const SCRIPT: Word = Word {
     kind: Kind::Needed,
 };
 
+/// That a drill tells the reasons for which articles are refused.
+const REASONS: Word = Word {
+    name: "reasons",
+    told: "Tells the reason behind each reply by which an article is refused",
+    kind: Kind::Flag,
+};
+
 /// The newsgroups of an article that is asked about.
 const NEWSGROUPS: Word = Word {
     name: "NEWSGROUPS",
@@ -131,7 +138,7 @@ const COMMANDS: &[Words] = &[
     Words {
         name: "drill",
         does: "Runs a script over memory",
-        words: &[CONFIGURED, SCRIPT],
+        words: &[CONFIGURED, SCRIPT, REASONS],
     },
     Words {
         name: "explain",

@@ -1,5 +1,5 @@
 -- How far the code has come: one part after the other, and where it was broken off.
-use Rattle.std.proofs.Common.{◌≡◌, ℕ, List, [], ◌∷◌, ◌++◌, Option, None, Some, Result}
+use Rattle.std.proofs.Common.{◌≡◌, ℕ, Bool, List, [], ◌∷◌, ◌++◌, Option, None, Some, Result}
 use Rattle.std.proofs.Common.{Ok, Err}
 use Rattle.std.specs.Prelude.{⊤}
 use Rattle.std.proofs.Common.{sym, subst, append_assoc, ◌∙◌}
@@ -23,13 +23,14 @@ use Rattle.relay_drill.proofs.Plays.{plays_on}
 use Rattle.relay_report.proofs.Writes.{appends_both, appends_none}
 
 -- the text of told and of those that follow is written in two steps
-both_gained : (first second : List Told) (before mid after : Option (List ℕ))
-    → Appends before mid (printed_all first) → Appends mid after (printed_all second)
-    → Appends before after (printed_all (first ++ second))
-both_gained first second before mid after one two =
+both_gained : (reasons : Bool) (first second : List Told) (before mid after : Option (List ℕ))
+    → Appends before mid (printed_all reasons first)
+    → Appends mid after (printed_all reasons second)
+    → Appends before after (printed_all reasons (first ++ second))
+both_gained reasons first second before mid after one two =
     subst (λ (text : List ℕ). Appends before after text)
-    (sym (flat_map-append told_text first second))
-    (appends_both before mid after (printed_all first) (printed_all second) one two)
+    (sym (flat_map-append (told_text reasons) first second))
+    (appends_both before mid after (printed_all reasons first) (printed_all reasons second) one two)
 
 -- what an error says holds where what it says of each case does
 pub fail_map : (error : DrillError) {halted broken killed halted' broken' killed' : Type 0}
@@ -63,12 +64,12 @@ error_gives error (Err passed) done halted broken killed is e gives =
     let P : DrillError → Type 0 = λ it. FailGives it halted broken killed in
     subst P (sym e) gives
 
-module _ {S : Type 0} {g : Ghosts S} where
+module _ {S : Type 0} {g : Ghosts S} {reasons : Bool} where
   -- Something was passed over without an event, by a relay that agrees with the same worlds.
   pub goes_past : (a b : Todo) (old new : System S g) (held : Option (List ℕ))
       → ((config : Config) (x : World) → Under config old x → Under config new x
       × Plays config a (Some x) [] [] (Some x) b)
-      → Goes a b old new held held
+      → Goes reasons a b old new held held
   goes_past a b old new held past config None follows =
       record {
         events = [];
@@ -91,13 +92,13 @@ module _ {S : Type 0} {g : Ghosts S} where
 
   -- Nothing was done.
   pub goes_none : (todo : Todo) (relay : System S g) (held : Option (List ℕ))
-      → Goes todo todo relay relay held held
+      → Goes reasons todo todo relay relay held held
   goes_none todo relay held =
       goes_past todo todo relay relay held (λ config x under. (under, Rests todo (Some x)))
 
   -- Nothing was done, and no world can tell that the relay is another.
   pub goes_still : (todo : Todo) (old new : System S g) (held : Option (List ℕ))
-      → StaysLeft old new → KeepsFrame old new → Goes todo todo old new held held
+      → StaysLeft old new → KeepsFrame old new → Goes reasons todo todo old new held held
   goes_still todo old new held still frame =
       goes_past todo todo old new held (λ config x under. (
         record {
@@ -109,7 +110,8 @@ module _ {S : Type 0} {g : Ghosts S} where
 
   -- One part was done, and then another.
   pub goes_on : (a b c : Todo) (old mid new : System S g) (before held after : Option (List ℕ))
-      → Goes a b old mid before held → Goes b c mid new held after → Goes a c old new before after
+      → Goes reasons a b old mid before held → Goes reasons b c mid new held after
+      → Goes reasons a c old new before after
   goes_on a b c old mid new before held after first second config x follows =
       let one = first config x follows in
       let two = second config one.world one.follows in
@@ -119,12 +121,12 @@ module _ {S : Type 0} {g : Ghosts S} where
         world = two.world;
         plays = plays_on one.plays two.plays;
         follows = two.follows;
-        gained = both_gained one.told two.told before held after one.gained two.gained;
+        gained = both_gained reasons one.told two.told before held after one.gained two.gained;
       }
 
   -- What was done may have been halted there.
   pub halts_there : (a b : Todo) (old new : System S g) (before after : Option (List ℕ))
-      → Goes a b old new before after → Halts a old before after
+      → Goes reasons a b old new before after → Halts reasons a old before after
   halts_there a b old new before after goes config x follows =
       let one = goes config x follows in
       record {
@@ -138,8 +140,8 @@ module _ {S : Type 0} {g : Ghosts S} where
 
   -- What was done may have been halted there, before a crash.
   pub kills_there : (a : Todo) (moment : ℕ) (more : Todo) (old new : System S g)
-      (before after : Option (List ℕ)) → Goes a (Crashing moment more) old new before after
-      → Kills a old before after
+      (before after : Option (List ℕ)) → Goes reasons a (Crashing moment more) old new before after
+      → Kills reasons a old before after
   kills_there a moment more old new before after goes config x follows =
       let one = goes config x follows in
       record {
@@ -154,7 +156,8 @@ module _ {S : Type 0} {g : Ghosts S} where
 
   -- One part was done, and then it was halted.
   pub halts_later : (a b : Todo) (old mid : System S g) (before held after : Option (List ℕ))
-      → Goes a b old mid before held → Halts b mid held after → Halts a old before after
+      → Goes reasons a b old mid before held → Halts reasons b mid held after
+      → Halts reasons a old before after
   halts_later a b old mid before held after first second config x follows =
       let one = first config x follows in
       let two = second config one.world one.follows in
@@ -164,12 +167,13 @@ module _ {S : Type 0} {g : Ghosts S} where
         world = two.world;
         left = two.left;
         plays = plays_on one.plays two.plays;
-        gained = both_gained one.told two.told before held after one.gained two.gained;
+        gained = both_gained reasons one.told two.told before held after one.gained two.gained;
       }
 
   -- One part was done, and then it was halted before a crash.
   pub kills_later : (a b : Todo) (old mid : System S g) (before held after : Option (List ℕ))
-      → Goes a b old mid before held → Kills b mid held after → Kills a old before after
+      → Goes reasons a b old mid before held → Kills reasons b mid held after
+      → Kills reasons a old before after
   kills_later a b old mid before held after first second config x follows =
       let one = first config x follows in
       let two = second config one.world one.follows in
@@ -180,12 +184,13 @@ module _ {S : Type 0} {g : Ghosts S} where
         moment = two.moment;
         more = two.more;
         plays = plays_on one.plays two.plays;
-        gained = both_gained one.told two.told before held after one.gained two.gained;
+        gained = both_gained reasons one.told two.told before held after one.gained two.gained;
       }
 
   -- One part was done, and then it was broken off.
   pub breaks_later : (a b : Todo) (old mid : System S g) (before held after : Option (List ℕ))
-      → Goes a b old mid before held → Breaks b mid held after → Breaks a old before after
+      → Goes reasons a b old mid before held → Breaks reasons b mid held after
+      → Breaks reasons a old before after
   breaks_later a b old mid before held after first second config x follows =
       let one = first config x follows in
       let two = second config one.world one.follows in
@@ -200,15 +205,15 @@ module _ {S : Type 0} {g : Ghosts S} where
         plays = subst P (sym (append_assoc one.told two.told (two.last ∷ [])))
             (plays_on one.plays two.plays);
         mid = two.mid;
-        gained = both_gained one.told two.told before held two.mid one.gained two.gained;
+        gained = both_gained reasons one.told two.told before held two.mid one.gained two.gained;
         written = two.written;
       }
 
   -- One part was done, and then a call did what its answer says.
   pub performs_on : (result : Result (Unit {0}) DrillError) (a b c : Todo)
       (old mid new : System S g) (before held after : Option (List ℕ))
-      → Goes a b old mid before held → Performs result b c mid new held after
-      → Performs result a c old new before after
+      → Goes reasons a b old mid before held → Performs reasons result b c mid new held after
+      → Performs reasons result a c old new before after
   performs_on result a b c old mid new before held after first =
       gives_map result (λ fine. goes_on a b c old mid new before held after first)
       (halts_later a b old mid before held after first)
@@ -217,14 +222,14 @@ module _ {S : Type 0} {g : Ghosts S} where
 
   -- One part was done up to what is another name of what follows.
   pub goes_to : (a b b' : Todo) (old new : System S g) (before after : Option (List ℕ)) → b ≡ b'
-      → Goes a b old new before after → Goes a b' old new before after
+      → Goes reasons a b old new before after → Goes reasons a b' old new before after
   goes_to a b b' old new before after same =
-      subst (λ (it : Todo). Goes a it old new before after) same
+      subst (λ (it : Todo). Goes reasons a it old new before after) same
 
   -- One part was done up to what stands before another, and then that was done.
   pub goes_next : (a b b' c : Todo) (old mid new : System S g) (before held after : Option (List ℕ))
-      → b ≡ b' → Goes a b old mid before held → Goes b' c mid new held after
-      → Goes a c old new before after
+      → b ≡ b' → Goes reasons a b old mid before held → Goes reasons b' c mid new held after
+      → Goes reasons a c old new before after
   goes_next a b b' c old mid new before held after same first =
       goes_on a b' c old mid new before held after (goes_to a b b' old mid before held same first)
 
@@ -232,11 +237,11 @@ module _ {S : Type 0} {g : Ghosts S} where
   pub fails_as : {A : Type 0} (error : DrillError) (result : Result A DrillError)
       (done : A → Type 0) (a b b' : Todo) (old mid : System S g)
       (before held after : Option (List ℕ)) → IsErr result → IsErrAnd result (λ e. e ≡ error)
-      → b ≡ b' → Goes a b old mid before held
-      → FailGives error (Halts b' mid held after) (Breaks b' mid held after)
-      (Kills b' mid held after)
-      → PlayGives result done (Halts a old before after) (Breaks a old before after)
-      (Kills a old before after)
+      → b ≡ b' → Goes reasons a b old mid before held
+      → FailGives error (Halts reasons b' mid held after) (Breaks reasons b' mid held after)
+      (Kills reasons b' mid held after)
+      → PlayGives result done (Halts reasons a old before after) (Breaks reasons a old before after)
+      (Kills reasons a old before after)
   fails_as error result done a b b' old mid before held after is e same first then =
       let reached = goes_to a b b' old mid before held same first in
       error_gives error result done _ _ _ is e
@@ -247,30 +252,31 @@ module _ {S : Type 0} {g : Ghosts S} where
   -- So it was where what follows leaves the relay as another.
   pub fails_next : (error : DrillError) (result : Result (Unit {0}) DrillError) (a b b' d : Todo)
       (old mid last : System S g) (before held after : Option (List ℕ)) → IsErr result
-      → IsErrAnd result (λ e. e ≡ error) → b ≡ b' → Goes a b old mid before held
-      → FailGives error (Halts b' mid held after) (Breaks b' mid held after)
-      (Kills b' mid held after)
-      → Performs result a d old last before after
+      → IsErrAnd result (λ e. e ≡ error) → b ≡ b' → Goes reasons a b old mid before held
+      → FailGives error (Halts reasons b' mid held after) (Breaks reasons b' mid held after)
+      (Kills reasons b' mid held after)
+      → Performs reasons result a d old last before after
   fails_next error result a b b' d old mid last before held after is e same first =
-      fails_as error result (λ fine. Goes a d old last before after) a b b' old mid before held
-      after is e same first
+      fails_as error result (λ fine. Goes reasons a d old last before after) a b b' old mid before
+      held after is e same first
 
   -- One part was done, and then memory ran out.
   pub wants_memory : (result : Result (Unit {0}) DrillError) (a b d : Todo)
       (old mid last : System S g) (before after : Option (List ℕ)) → IsErr result
-      → IsErrAnd result (λ e. e ≡ faults.Memory) → Goes a b old mid before after
-      → Performs result a d old last before after
+      → IsErrAnd result (λ e. e ≡ faults.Memory) → Goes reasons a b old mid before after
+      → Performs reasons result a d old last before after
   wants_memory result a b d old mid last before after is e first =
-      error_gives faults.Memory result (λ fine. Goes a d old last before after) _
-      (Breaks a old before after) (Kills a old before after) is e
+      error_gives faults.Memory result (λ fine. Goes reasons a d old last before after) _
+      (Breaks reasons a old before after) (Kills reasons a old before after) is e
       (halts_there a b old mid before after first)
 
   -- Nothing was done before a crash, and then a call failed so.
   pub fails_at_crash : {A : Type 0} (error : DrillError) (result : Result A DrillError)
       (done : A → Type 0) (moment : ℕ) (more : Todo) (old : System S g) (held : Option (List ℕ))
       → IsErr result → IsErrAnd result (λ e. e ≡ error) → FailGives error ⊤ ⊥ ⊤
-      → PlayGives result done (Halts (Crashing moment more) old held held)
-      (Breaks (Crashing moment more) old held held) (Kills (Crashing moment more) old held held)
+      → PlayGives result done (Halts reasons (Crashing moment more) old held held)
+      (Breaks reasons (Crashing moment more) old held held)
+      (Kills reasons (Crashing moment more) old held held)
   fails_at_crash error result done moment more old held is e fails =
       let todo = Crashing moment more in
       let none = goes_none todo old held in
@@ -282,8 +288,8 @@ module _ {S : Type 0} {g : Ghosts S} where
   -- Writing failed.
   pub fails_unwritten : (result : Result (Unit {0}) DrillError) (a b : Todo)
       (old new : System S g) (before after : Option (List ℕ)) → IsErr result
-      → IsErrAnd result (λ e. e ≡ faults.Unwritten) → Breaks a old before after
-      → Performs result a b old new before after
+      → IsErrAnd result (λ e. e ≡ faults.Unwritten) → Breaks reasons a old before after
+      → Performs reasons result a b old new before after
   fails_unwritten result a b old new before after is e breaks =
-      error_gives faults.Unwritten result (λ fine. Goes a b old new before after)
-      (Halts a old before after) _ (Kills a old before after) is e breaks
+      error_gives faults.Unwritten result (λ fine. Goes reasons a b old new before after)
+      (Halts reasons a old before after) _ (Kills reasons a old before after) is e breaks

@@ -135,15 +135,15 @@ unrepaired_fails (nots.Refused refused) error is =
     subst P (sym is) (unstarted_fails refused.error)
 
 -- What was done of a life was done of it with its history noted, unless memory ran out.
-pub noted_leads : (result : Result Life DrillError) (a b : Todo) (old mid : Life)
+pub noted_leads : {reasons : Bool} (result : Result Life DrillError) (a b : Todo) (old mid : Life)
     (before after : Option (List ℕ)) → IfOk result (λ noted. noted.relay ≡ mid.relay)
     → IfErr result (λ error. error ≡ faults.Memory)
-    → Goes a b old.relay mid.relay before after → Leads result a b old before after
+    → Goes reasons a b old.relay mid.relay before after → Leads reasons result a b old before after
 noted_leads (Ok noted) a b old mid before after same memory goes =
     rw same goes
-noted_leads (Err error) a b old mid before after same memory goes =
-    let P : DrillError → Type 0 = λ it. FailGives it (Halts a old.relay before after)
-    (Breaks a old.relay before after) (Kills a old.relay before after) in
+noted_leads {reasons = reasons} (Err error) a b old mid before after same memory goes =
+    let P : DrillError → Type 0 = λ it. FailGives it (Halts reasons a old.relay before after)
+    (Breaks reasons a old.relay before after) (Kills reasons a old.relay before after) in
     subst P (sym memory) (halts_there a b old.relay mid.relay before after goes)
 
 -- What is started of the stores that a life left is that life, revived.

@@ -31,10 +31,12 @@ use Rattle.relay_drill.proofs.Courses.{goes_past}
 use Rattle.relay_report.proofs.Writes.{appends_none}
 
 -- the text of one thing
-one_gained : (one : Told) (before after : Option (List ℕ)) → Appends before after (told_text one)
-    → Appends before after (printed_all (one ∷ []))
-one_gained one before after gained =
-    subst (λ (text : List ℕ). Appends before after text) (sym (append-nil (told_text one))) gained
+one_gained : (reasons : Bool) (one : Told) (before after : Option (List ℕ))
+    → Appends before after (told_text reasons one)
+    → Appends before after (printed_all reasons (one ∷ []))
+one_gained reasons one before after gained =
+    subst (λ (text : List ℕ). Appends before after text)
+    (sym (append-nil (told_text reasons one))) gained
 
 -- the event, where it is answered so, is what stands between this and that, and one thing is told
 -- of it
@@ -141,10 +143,11 @@ module _ {S : Type 0} {g : Ghosts S} where
         plays = HasCrashed moment more x found.0 [] [] found.0 more found.1 (Rests more found.0);
       })
 
+module _ {S : Type 0} {g : Ghosts S} {reasons : Bool} where
   -- What is told was written.
   pub goes_told : (a b : Todo) (old : System S g) (one : Told) (new : System S g)
       (before after : Option (List ℕ)) → Telling a b old one new
-      → Appends before after (told_text one) → Goes a b old new before after
+      → Appends before after (told_text reasons one) → Goes reasons a b old new before after
   goes_told a b old one new before after telling gained config x follows =
       let tells = telling config x follows in
       record {
@@ -153,13 +156,13 @@ module _ {S : Type 0} {g : Ghosts S} where
         world = tells.after;
         plays = tells.plays;
         follows = tells.follows;
-        gained = one_gained one before after gained;
+        gained = one_gained reasons one before after gained;
       }
 
   -- Writing what is told failed.
   pub breaks_told : (a b : Todo) (old : System S g) (one : Told) (new : System S g)
       (before after : Option (List ℕ)) → Telling a b old one new
-      → GainsFront (told_text one) before after → Breaks a old before after
+      → GainsFront (told_text reasons one) before after → Breaks reasons a old before after
   breaks_told a b old one new before after telling written config x follows =
       let tells = telling config x follows in
       record {
@@ -178,7 +181,7 @@ module _ {S : Type 0} {g : Ghosts S} where
   pub goes_turning : (session moment : ℕ) (more : Todo) (relay : System S g)
       (held : Option (List ℕ)) (b : Bool) → ((config : Config) (x : World) → Under config relay x
       → is_there is_running (x.state.session session) ≡ b)
-      → Goes (TurnOf session moment more)
+      → Goes reasons (TurnOf session moment more)
       (if b then Next (run.Turn session moment) more else more) relay relay held held
   goes_turning session moment more relay held true runs =
       goes_past (TurnOf session moment more) (Next (run.Turn session moment) more) relay relay held
@@ -199,9 +202,10 @@ module _ {S : Type 0} {g : Ghosts S} where
   pub goes_open : (session peer : ℕ) (opened refused : Todo) (old new : System S g)
       (output : code.Output) (b : Bool) (before after : Option (List ℕ))
       → is_refused (output_view output) ≡ b → StepsLeft (run.Open session peer) old output new
-      → KeepsFrame old new → Appends before after (told_text (Answered (output_view output)))
-      → Goes (Opening session peer opened refused) (if b then refused else opened) old new before
-      after
+      → KeepsFrame old new
+      → Appends before after (told_text reasons (Answered (output_view output)))
+      → Goes reasons (Opening session peer opened refused) (if b then refused else opened) old new
+      before after
   goes_open session peer opened refused old new output b before after said steps frame gained =
       goes_told (Opening session peer opened refused) (if b then refused else opened) old
       (Answered (output_view output)) new before after

@@ -1,5 +1,5 @@
 -- What a line of a script asks for.
-use Rattle.std.proofs.Common.{◌≡◌, ℕ, List, Option, Result, sym, subst}
+use Rattle.std.proofs.Common.{◌≡◌, ℕ, Bool, List, Option, Result, sym, subst}
 use Rattle.cyc_block.specs.declared.store.BlockStore.{Ghosts}
 use Rattle.relay_core.specs.declared.system.System.{System}
 use Rattle.relay_drill.specs.Fault.{line_view}
@@ -8,13 +8,15 @@ use Rattle.relay_drill.specs.Todo.{Stand, Todo, line_asks}
 use Rattle.relay_drill.specs.declared.fault.DrillError.{DrillError}
 use Rattle.relay_drill.specs.declared.line.Line.{Line}
 
-module _ {S : Type 0} {g : Ghosts S} (result : Result (Unit {0}) DrillError)
+module _ {S : Type 0} {g : Ghosts S} {reasons : Bool} (result : Result (Unit {0}) DrillError)
     (old new : System S g) (before after : Option (List ℕ)) where
   -- What was done for a line was done for the line that it is.
   pub done_for : (to : Todo) (groups : ℕ) (line one : Line) (stand : Stand) (next : Stand → Todo)
       → line ≡ one
-      → Performs result (line_asks groups (line_view one) stand next) to old new before after
-      → Performs result (line_asks groups (line_view line) stand next) to old new before after
+      → Performs reasons result (line_asks groups (line_view one) stand next) to old new before
+      after
+      → Performs reasons result (line_asks groups (line_view line) stand next) to old new before
+      after
   done_for to groups line one stand next is performs =
-      subst (λ l. Performs result (line_asks groups (line_view l) stand next) to old new before
-      after) (sym is) performs
+      subst (λ l. Performs reasons result (line_asks groups (line_view l) stand next) to old new
+      before after) (sym is) performs

@@ -1,14 +1,14 @@
 -- What is printed line by line, and what a writer holds after one thing and another.
 use Rattle.std.proofs.Common.{◌≡◌, ℕ, ◌<◌, Bool, true, false, List, [], ◌∷◌, ◌++◌, ◌==◌, length}
 use Rattle.std.proofs.Common.{Option, Some, None, refl, sym, ap, ◌∙◌, arith, append_assoc}
-use Rattle.std.proofs.Common.{subst}
+use Rattle.std.proofs.Common.{append-nil, flat_map, subst}
 use Rattle.std.proofs.lemmas.Option.{none-some}
 use Rattle.std.specs.Prelude.{◌&&◌}
 use Rattle.std.specs.Option.{unwrap_or, option_map}
 use Rattle.std.specs.Io.KnownBytes.{Appends}
 use Rattle.news_terms.specs.Lines.{first_line}
 use Rattle.news_terms.proofs.LineLemmas.{first_line_ends, first_line_goes, map_some}
-use Rattle.relay_drill.specs.Print.{lines_of, session_line, session_lines}
+use Rattle.relay_drill.specs.Print.{lines_of, noted_lines, session_line, session_lines}
 use Rattle.relay_report.specs.Written.{GainsFront}
 use Rattle.relay_report.proofs.Writes.{front_within}
 
@@ -61,28 +61,38 @@ lines_of-none (a ∷ b ∷ cs) some e = by_test (a == 13 && b == 10) refl (lines
         let joined = after (omega arith) nothing in
         rw (t, joined) refl
 
+-- Lines with nothing behind them are the lines.
+pub unnoted : (session : ℕ) (octets : List ℕ)
+    → noted_lines session octets [] ≡ session_lines session octets
+unnoted session octets =
+    let same : (λ (line : List ℕ). session_line session (line ++ [])) ≡ session_line session =
+    λ i line. session_line session (append-nil line i) in
+    ap (λ (f : List ℕ → List ℕ). flat_map f (lines_of octets)) same
+
 -- Where one more line was printed, what is left is what follows it.
-pub one_more_line : (session : ℕ) (octets done left line rest : List ℕ)
-    → session_lines session octets ≡ done ++ session_lines session left
+pub one_more_line : (session : ℕ) (octets note done left line rest : List ℕ)
+    → noted_lines session octets note ≡ done ++ noted_lines session left note
     → lines_of left ≡ line ∷ lines_of rest
-    → session_lines session octets ≡ (done ++ session_line session line)
-    ++ session_lines session rest
-one_more_line session octets done left line rest e cut =
-    let next : session_lines session left ≡ session_line session line
-    ++ session_lines session rest = rw cut refl in
+    → noted_lines session octets note ≡ (done ++ session_line session (line ++ note))
+    ++ noted_lines session rest note
+one_more_line session octets note done left line rest e cut =
+    let one = session_line session (line ++ note) in
+    let next : noted_lines session left note ≡ one ++ noted_lines session rest note =
+    rw cut refl in
     e ∙ ap (λ (text : List ℕ). done ++ text) next
-    ∙ sym (append_assoc done (session_line session line) (session_lines session rest))
+    ∙ sym (append_assoc done one (noted_lines session rest note))
 
 -- A front of one more line is a front of all lines.
-pub front_of_lines : (session : ℕ) (octets done left line rest : List ℕ)
+pub front_of_lines : (session : ℕ) (octets note done left line rest : List ℕ)
     (old mid new : Option (List ℕ))
-    → session_lines session octets ≡ done ++ session_lines session left
+    → noted_lines session octets note ≡ done ++ noted_lines session left note
     → lines_of left ≡ line ∷ lines_of rest → Appends old mid done
-    → GainsFront (session_line session line) mid new
-    → GainsFront (session_lines session octets) old new
-front_of_lines session octets done left line rest old mid new e cut a f =
-    let next : session_lines session left ≡ session_line session line
-    ++ session_lines session rest = rw cut refl in
+    → GainsFront (session_line session (line ++ note)) mid new
+    → GainsFront (noted_lines session octets note) old new
+front_of_lines session octets note done left line rest old mid new e cut a f =
+    let one = session_line session (line ++ note) in
+    let next : noted_lines session left note ≡ one ++ noted_lines session rest note =
+    rw cut refl in
     let P : List ℕ → Type 0 = λ text. GainsFront text old new in
     subst P (sym (e ∙ ap (λ (text : List ℕ). done ++ text) next))
-    (front_within old mid new done (session_line session line) (session_lines session rest) a f)
+    (front_within old mid new done one (noted_lines session rest note) a f)

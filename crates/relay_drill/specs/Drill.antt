@@ -1,5 +1,6 @@
 -- What a drill writes (docs/PROTOCOL.md, The call `drill`).
-use Rattle.std.specs.Prelude.{◌≡◌, ℕ, List, map, vec_len, Option, Some, IfSome, Result, Ok, Err}
+use Rattle.std.specs.Prelude.{◌≡◌, ℕ, Bool, List, map, vec_len, Option, Some, IfSome, Result, Ok}
+use Rattle.std.specs.Prelude.{Err}
 use Rattle.std.specs.Io.KnownBytes.{Appends, Keeps}
 use Rattle.relay_conf.specs.declared.settings.Config.{Config}
 use Rattle.relay_model.specs.Run.{Event}
@@ -35,53 +36,59 @@ asked_by config lines = lines_ask (vec_len config.buffers.groups) lines first_st
 abbrev pub first_world : World
 first_world = empty_world (λ device. 0)
 
--- The whole script ran, from a relay that nothing came to, and what was told of it was written.
-pub record Ran (config : Config) (script : List ℕ) (before after : Option (List ℕ)) : Type 0 where
+-- The whole script ran, from a relay that nothing came to, and what was told of it was written,
+-- with reasons or without.
+pub record Ran (reasons : Bool) (config : Config) (script : List ℕ)
+    (before after : Option (List ℕ))
+    : Type 0 where
   pub lines : List Line
   pub is_script : lines_of_script config script ≡ Ok lines
   pub events : List Event
   pub told : List Told
   pub world : Option World
   pub played : Plays config (asked_by config lines) (Some first_world) events told world Done
-  pub written : Appends before after (printed_all told)
+  pub written : Appends before after (printed_all reasons told)
 
 -- of a script that says these lines some was done, and all was written that this prints; of one
 -- with a bad line nothing was written
-abbrev pub ScriptHalts : Config → Result (List Line) ℕ → Option (List ℕ) → Option (List ℕ) → Type 0
-ScriptHalts config (Ok lines) before after =
-    Halted config (asked_by config lines) (Some first_world) before after
-ScriptHalts config (Err number) before after = Keeps before after
+abbrev pub ScriptHalts : (reasons : Bool) → Config → Result (List Line) ℕ → Option (List ℕ)
+    → Option (List ℕ) → Type 0
+ScriptHalts reasons config (Ok lines) before after =
+    Halted reasons config (asked_by config lines) (Some first_world) before after
+ScriptHalts reasons config (Err number) before after = Keeps before after
 
 -- of a script that says these lines some was done, and a front was written of what this prints
-abbrev pub ScriptBreaks : Config → List ℕ → Option (List ℕ) → Option (List ℕ) → Type 0
-ScriptBreaks config script before after =
+abbrev pub ScriptBreaks : (reasons : Bool) → Config → List ℕ → Option (List ℕ)
+    → Option (List ℕ) → Type 0
+ScriptBreaks reasons config script before after =
     (lines : List Line) × (lines_of_script config script ≡ Ok lines)
-    × Broke config (asked_by config lines) (Some first_world) before after
+    × Broke reasons config (asked_by config lines) (Some first_world) before after
 
 -- of a script that says these lines all was done that stands before a crash, and all was written
 -- that this prints
-abbrev pub ScriptIsKilled : Config → List ℕ → Option (List ℕ) → Option (List ℕ) → Type 0
-ScriptIsKilled config script before after =
+abbrev pub ScriptIsKilled : (reasons : Bool) → Config → List ℕ → Option (List ℕ)
+    → Option (List ℕ) → Type 0
+ScriptIsKilled reasons config script before after =
     (lines : List Line) × (lines_of_script config script ≡ Ok lines)
-    × Killed config (asked_by config lines) (Some first_world) before after
+    × Killed reasons config (asked_by config lines) (Some first_world) before after
 
--- what the answer says of the script and of what the writer held before and holds after; that the
--- relay wasn't seeded, or a device of its failed before, is said of a script without a bad line
--- alone, and nothing was written
-abbrev pub DrillGives : Config → Result (Unit {0}) DrillError → Option (List ℕ)
-    → Option (List ℕ) → Option (List ℕ) → Type 0
-DrillGives config (Ok done) script before after =
-    IfSome script (λ text. Ran config text before after)
-DrillGives config (Err Memory) script before after =
-    IfSome script (λ text. ScriptHalts config (lines_of_script config text) before after)
-DrillGives config (Err Unrepaired) script before after =
-    IfSome script (λ text. ScriptIsKilled config text before after)
-DrillGives config (Err (faults.Line number)) script before after =
+-- what the answer says of the script and of what the writer held before and holds after, where
+-- reasons are told or aren't; that the relay wasn't seeded, or a device of its failed before, is
+-- said of a script without a bad line alone, and nothing was written
+abbrev pub DrillGives : (reasons : Bool) → Config → Result (Unit {0}) DrillError
+    → Option (List ℕ) → Option (List ℕ) → Option (List ℕ) → Type 0
+DrillGives reasons config (Ok done) script before after =
+    IfSome script (λ text. Ran reasons config text before after)
+DrillGives reasons config (Err Memory) script before after =
+    IfSome script (λ text. ScriptHalts reasons config (lines_of_script config text) before after)
+DrillGives reasons config (Err Unrepaired) script before after =
+    IfSome script (λ text. ScriptIsKilled reasons config text before after)
+DrillGives reasons config (Err (faults.Line number)) script before after =
     IfSome script (λ text. lines_of_script config text ≡ Err number) × Keeps before after
-DrillGives config (Err Unreadable) script before after = Keeps before after
-DrillGives config (Err Unwritten) script before after =
-    IfSome script (λ text. ScriptBreaks config text before after)
-DrillGives config (Err Unseeded) script before after =
+DrillGives reasons config (Err Unreadable) script before after = Keeps before after
+DrillGives reasons config (Err Unwritten) script before after =
+    IfSome script (λ text. ScriptBreaks reasons config text before after)
+DrillGives reasons config (Err Unseeded) script before after =
     IfSome script (λ text. IsOk (lines_of_script config text)) × Keeps before after
-DrillGives config (Err Device) script before after =
+DrillGives reasons config (Err Device) script before after =
     IfSome script (λ text. IsOk (lines_of_script config text)) × Keeps before after

@@ -15,6 +15,7 @@ use Rattle.relay_drill.specs.Todo.{Todo, Next, TurnOf, Restarting, Crashing, Rep
 abbrev pub is_refused : Output → Bool
 is_refused world.Quiet = false
 is_refused (world.Sent session octets) = false
+is_refused (world.Rejects session octets reason) = false
 is_refused (world.Ended session octets) = false
 is_refused (world.Refuses fault) = true
 

@@ -1,10 +1,12 @@
 -- What is told, and what that prints (docs/FORMATS.md, Drill scripts: What is printed).
-use Rattle.std.specs.Prelude.{ℕ, ◌==◌, ◌&&◌, List, [], ◌∷◌, ◌++◌, flat_map, codes, decimal}
-use Rattle.std.specs.Prelude.{if◌then◌else◌}
+use Rattle.std.specs.Prelude.{ℕ, ◌==◌, ◌&&◌, Bool, List, [], ◌∷◌, ◌++◌, flat_map, codes}
+use Rattle.std.specs.Prelude.{decimal, Option, None, Some, if◌then◌else◌}
 use Rattle.std.specs.List.{onto_first}
-use Rattle.relay_model.specs.World.{Output, Quiet, Sent, Ended, Refuses, Fault, Memory, NoSession}
-use Rattle.relay_model.specs.World.{SessionTaken, NoGroup, NoPeer, BadMoment, NoShard, NotIdle}
-use Rattle.relay_model.specs.World.{NotRestarted}
+use Rattle.article_verdict.specs.Verdict.{reason_name}
+use Rattle.relay_model.specs.Terms.{Reason}
+use Rattle.relay_model.specs.World.{Output, Quiet, Sent, Rejects, Ended, Refuses, Fault, Memory}
+use Rattle.relay_model.specs.World.{NoSession, SessionTaken, NoGroup, NoPeer, BadMoment, NoShard}
+use Rattle.relay_model.specs.World.{NotIdle, NotRestarted}
 
 -- the lines of octets, without their CRLFs
 abbrev pub lines_of : List ℕ → List (List ℕ)
@@ -25,6 +27,15 @@ session_line session line = printed_line (decimal session ++ codes " " ++ line)
 abbrev pub session_lines : ℕ → List ℕ → List ℕ
 session_lines session octets = flat_map (session_line session) (lines_of octets)
 
+-- the same lines, each with this note behind it
+abbrev pub noted_lines : (session : ℕ) → (octets note : List ℕ) → List ℕ
+noted_lines session octets note =
+    flat_map (λ line. session_line session (line ++ note)) (lines_of octets)
+
+-- what stands behind a reply by which an article is refused, which is one line
+abbrev pub reason_note : Reason → List ℕ
+reason_note reason = codes " reason=" ++ reason_name reason
+
 -- the code and the name of a fault
 abbrev pub fault_text : Fault → List ℕ
 fault_text Memory = codes "0 Memory"
@@ -37,20 +48,25 @@ fault_text NoShard = codes "6 NoShard"
 fault_text NotIdle = codes "7 NotIdle"
 fault_text NotRestarted = codes "8 NotRestarted"
 
--- what an output prints
-abbrev pub printed : Output → List ℕ
-printed Quiet = []
-printed (Sent session octets) = session_lines session octets
-printed (Ended session octets) =
+-- what an output prints; the reason for which an article is refused where reasons are told
+abbrev pub printed : (reasons : Bool) → Output → List ℕ
+printed reasons Quiet = []
+printed reasons (Sent session octets) = session_lines session octets
+printed reasons (Rejects session octets reason) =
+    if reasons then noted_lines session octets (reason_note reason)
+    else session_lines session octets
+printed reasons (Ended session octets) =
     session_lines session octets ++ session_line session (codes "closed")
-printed (Refuses fault) = printed_line (codes "refused " ++ fault_text fault)
+printed reasons (Refuses fault) = printed_line (codes "refused " ++ fault_text fault)
 
 -- what the answer to a Restart prints: where nothing is said, that it was done
-abbrev pub restart_text : Output → List ℕ
-restart_text Quiet = printed_line (codes "restarted")
-restart_text (Sent session octets) = printed (Sent session octets)
-restart_text (Ended session octets) = printed (Ended session octets)
-restart_text (Refuses fault) = printed (Refuses fault)
+abbrev pub restart_text : (reasons : Bool) → Output → List ℕ
+restart_text reasons Quiet = printed_line (codes "restarted")
+restart_text reasons (Sent session octets) = printed reasons (Sent session octets)
+restart_text reasons (Rejects session octets reason) =
+    printed reasons (Rejects session octets reason)
+restart_text reasons (Ended session octets) = printed reasons (Ended session octets)
+restart_text reasons (Refuses fault) = printed reasons (Refuses fault)
 
 -- what is printed of a relay that was killed, and repaired
 abbrev pub repaired_text : List ℕ
@@ -65,15 +81,15 @@ pub data Told : Type 0 where
   Reported : (text : List ℕ) → Told
 
 -- what is printed of it; a report as it stands
-abbrev pub told_text : Told → List ℕ
-told_text (Answered output) = printed output
-told_text (Restarted output) = restart_text output
-told_text Repaired = repaired_text
-told_text (Reported text) = text
+abbrev pub told_text : (reasons : Bool) → Told → List ℕ
+told_text reasons (Answered output) = printed reasons output
+told_text reasons (Restarted output) = restart_text reasons output
+told_text reasons Repaired = repaired_text
+told_text reasons (Reported text) = text
 
 -- what is printed, one after the other
-abbrev pub printed_all : List Told → List ℕ
-printed_all told = flat_map told_text told
+abbrev pub printed_all : (reasons : Bool) → List Told → List ℕ
+printed_all reasons told = flat_map (told_text reasons) told
 
 -- what events are answered
 abbrev pub answers_of : List Told → List Output
@@ -82,3 +98,10 @@ answers_of (Answered output ∷ told) = output ∷ answers_of told
 answers_of (Restarted output ∷ told) = output ∷ answers_of told
 answers_of (Repaired ∷ told) = answers_of told
 answers_of (Reported text ∷ told) = answers_of told
+
+-- STEP BY STEP
+
+-- the note behind a line, where an article is refused by it
+abbrev pub note_of : (why : Option Reason) → List ℕ
+note_of None = []
+note_of (Some reason) = reason_note reason

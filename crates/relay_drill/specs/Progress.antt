@@ -1,5 +1,5 @@
 -- How far the code has come with a script: what contracts of private functions say.
-use Rattle.std.specs.Prelude.{◌≡◌, ℕ, List, [], ◌∷◌, ◌++◌, Option, None, Some, option_map}
+use Rattle.std.specs.Prelude.{◌≡◌, ℕ, Bool, List, [], ◌∷◌, ◌++◌, Option, None, Some, option_map}
 use Rattle.std.specs.Prelude.{Result}
 use Rattle.std.specs.Io.KnownBytes.{Appends}
 use Rattle.cyc_block.specs.declared.store.BlockStore.{Ghosts}
@@ -31,19 +31,19 @@ Follows config relay None = Unit {0}
 Follows config relay (Some x) = Under config relay x
 
 -- From this world what stands before this was done, the relay agrees with the world after it, and
--- the writer gained what that prints.
-pub record Went {S : Type 0} {g : Ghosts S} (config : Config) (from to : Todo) (x : Option World)
-    (relay : System S g) (before after : Option (List ℕ))
+-- the writer gained what that prints, with reasons or without.
+pub record Went {S : Type 0} {g : Ghosts S} (reasons : Bool) (config : Config) (from to : Todo)
+    (x : Option World) (relay : System S g) (before after : Option (List ℕ))
     : Type 0 where
   pub events : List Event
   pub told : List Told
   pub world : Option World
   pub plays : Plays config from x events told world to
   pub follows : Follows config relay world
-  pub gained : Appends before after (printed_all told)
+  pub gained : Appends before after (printed_all reasons told)
 
 -- From this world some of it was done, and the writer gained all that this prints.
-pub record Halted (config : Config) (from : Todo) (x : Option World)
+pub record Halted (reasons : Bool) (config : Config) (from : Todo) (x : Option World)
     (before after : Option (List ℕ))
     : Type 0 where
   pub events : List Event
@@ -51,11 +51,11 @@ pub record Halted (config : Config) (from : Todo) (x : Option World)
   pub world : Option World
   pub left : Todo
   pub plays : Plays config from x events told world left
-  pub gained : Appends before after (printed_all told)
+  pub gained : Appends before after (printed_all reasons told)
 
 -- From this world some of it was done, and the writer gained what that prints up to the last thing
 -- told, and of this one a front.
-pub record Broke (config : Config) (from : Todo) (x : Option World)
+pub record Broke (reasons : Bool) (config : Config) (from : Todo) (x : Option World)
     (before after : Option (List ℕ))
     : Type 0 where
   pub events : List Event
@@ -65,12 +65,12 @@ pub record Broke (config : Config) (from : Todo) (x : Option World)
   pub left : Todo
   pub plays : Plays config from x events (told ++ last ∷ []) world left
   pub mid : Option (List ℕ)
-  pub gained : Appends before mid (printed_all told)
-  pub written : GainsFront (told_text last) mid after
+  pub gained : Appends before mid (printed_all reasons told)
+  pub written : GainsFront (told_text reasons last) mid after
 
 -- From this world all was done that stands before a crash, and the writer gained all that this
 -- prints.
-pub record Killed (config : Config) (from : Todo) (x : Option World)
+pub record Killed (reasons : Bool) (config : Config) (from : Todo) (x : Option World)
     (before after : Option (List ℕ))
     : Type 0 where
   pub events : List Event
@@ -79,47 +79,49 @@ pub record Killed (config : Config) (from : Todo) (x : Option World)
   pub moment : ℕ
   pub more : Todo
   pub plays : Plays config from x events told world (Crashing moment more)
-  pub gained : Appends before after (printed_all told)
+  pub gained : Appends before after (printed_all reasons told)
 
 -- from whatever world the relay agreed with
-abbrev pub Goes : {S : Type 0} {g : Ghosts S} → (from to : Todo) → (old new : System S g)
-    → (before after : Option (List ℕ)) → Type 0
-Goes from to old new before after =
+abbrev pub Goes : {S : Type 0} {g : Ghosts S} → (reasons : Bool) → (from to : Todo)
+    → (old new : System S g) → (before after : Option (List ℕ)) → Type 0
+Goes reasons from to old new before after =
     (config : Config) (x : Option World) → Follows config old x
-    → Went config from to x new before after
+    → Went reasons config from to x new before after
 
-abbrev pub Halts : {S : Type 0} {g : Ghosts S} → (from : Todo) → (old : System S g)
-    → (before after : Option (List ℕ)) → Type 0
-Halts from old before after =
+abbrev pub Halts : {S : Type 0} {g : Ghosts S} → (reasons : Bool) → (from : Todo)
+    → (old : System S g) → (before after : Option (List ℕ)) → Type 0
+Halts reasons from old before after =
     (config : Config) (x : Option World) → Follows config old x
-    → Halted config from x before after
+    → Halted reasons config from x before after
 
-abbrev pub Breaks : {S : Type 0} {g : Ghosts S} → (from : Todo) → (old : System S g)
-    → (before after : Option (List ℕ)) → Type 0
-Breaks from old before after =
+abbrev pub Breaks : {S : Type 0} {g : Ghosts S} → (reasons : Bool) → (from : Todo)
+    → (old : System S g) → (before after : Option (List ℕ)) → Type 0
+Breaks reasons from old before after =
     (config : Config) (x : Option World) → Follows config old x
-    → Broke config from x before after
+    → Broke reasons config from x before after
 
-abbrev pub Kills : {S : Type 0} {g : Ghosts S} → (from : Todo) → (old : System S g)
-    → (before after : Option (List ℕ)) → Type 0
-Kills from old before after =
+abbrev pub Kills : {S : Type 0} {g : Ghosts S} → (reasons : Bool) → (from : Todo)
+    → (old : System S g) → (before after : Option (List ℕ)) → Type 0
+Kills reasons from old before after =
     (config : Config) (x : Option World) → Follows config old x
-    → Killed config from x before after
+    → Killed reasons config from x before after
 
 -- the answer says that all was done that stands before this, or that it was broken off
-abbrev pub Performs : {S : Type 0} {g : Ghosts S} → Result (Unit {0}) DrillError
-    → (from to : Todo) → (old new : System S g) → (before after : Option (List ℕ)) → Type 0
-Performs result from to old new before after =
-    PlayGives result (λ fine. Goes from to old new before after) (Halts from old before after)
-    (Breaks from old before after) (Kills from old before after)
+abbrev pub Performs : {S : Type 0} {g : Ghosts S} → (reasons : Bool)
+    → Result (Unit {0}) DrillError → (from to : Todo) → (old new : System S g)
+    → (before after : Option (List ℕ)) → Type 0
+Performs reasons result from to old new before after =
+    PlayGives result (λ fine. Goes reasons from to old new before after)
+    (Halts reasons from old before after) (Breaks reasons from old before after)
+    (Kills reasons from old before after)
 
 -- so it does of a relay that is handed on
-abbrev pub Leads : Result Life DrillError → (from to : Todo) → (old : Life)
+abbrev pub Leads : (reasons : Bool) → Result Life DrillError → (from to : Todo) → (old : Life)
     → (before after : Option (List ℕ)) → Type 0
-Leads result from to old before after =
-    PlayGives result (λ new. Goes from to old.relay new.relay before after)
-    (Halts from old.relay before after) (Breaks from old.relay before after)
-    (Kills from old.relay before after)
+Leads reasons result from to old before after =
+    PlayGives result (λ new. Goes reasons from to old.relay new.relay before after)
+    (Halts reasons from old.relay before after) (Breaks reasons from old.relay before after)
+    (Kills reasons from old.relay before after)
 
 -- how a drill stands, in the definitions
 abbrev pub stand_view : Stand → todo.Stand

@@ -8,6 +8,7 @@
 mod fault;
 pub mod laws;
 mod line;
+mod manner;
 mod play;
 mod print;
 mod report;

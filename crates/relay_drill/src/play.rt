@@ -1,5 +1,5 @@
 //! Doing what the lines of a script ask of the relay, and printing what it answers.
-ghost use Rattle.std.specs.Prelude.{◌≡◌, ◌<◌, ℕ, List, Option, length, map, IfErr, IfOk};
+ghost use Rattle.std.specs.Prelude.{◌≡◌, ◌<◌, ℕ, Bool, List, Option, length, map, IfErr, IfOk};
 ghost use Rattle.relay_core.specs.Views.{event_view, output_view};
 ghost use Rattle.relay_model.specs.Run as run;
 ghost use Rattle.relay_drill.specs.declared.fault.DrillError.TheVariants as faults;
@@ -13,6 +13,7 @@ ghost use Rattle.relay_drill.specs.Todo.{with_session, write_each};
 
 use crate::fault::DrillError;
 use crate::line::{Line, PieceSize};
+use crate::manner::Manner;
 use crate::print::{print, print_repaired, print_restart};
 use crate::report::report;
 use crate::reviving::revive;
@@ -57,18 +58,18 @@ pub struct Stand {
     pub moment: u64,
 }
 
-/// Does what the lines of a script ask, one after the other, of a relay with so many groups. `rt`
-/// seeds the hashers of a relay that is started behind a crash.
+/// Does what the lines of a script ask, one after the other, in this manner. `rt` seeds the hashers
+/// of a relay that is started behind a crash.
 pub fn play<W: Write>(
     rt: &impl RandomSource,
     alloc: Global,
     life: Life,
-    groups: usize,
+    manner: Manner,
     lines: &[Line],
     writer: &mut W,
 ) -> Result<Life, DrillError>
-    ensures { Leads result
-        (lines_ask groups (map line_view lines.now) todo.first_stand) todo.Done
+    ensures { Leads manner.reasons result
+        (lines_ask manner.groups (map line_view lines.now) todo.first_stand) todo.Done
         life (W.contents writer.old) (W.contents writer.new) }
 {
     let mut living = life;
@@ -78,7 +79,7 @@ pub fn play<W: Write>(
         moment: 0,
     };
     for line in lines {
-        living = play_one(rt, alloc, living, groups, &mut stand, line, writer)?;
+        living = play_one(rt, alloc, living, manner, &mut stand, line, writer)?;
     }
     Ok(living)
 }
@@ -89,27 +90,27 @@ fn play_one<W: Write>(
     rt: &impl RandomSource,
     alloc: Global,
     life: Life,
-    groups: usize,
+    manner: Manner,
     stand: &mut Stand,
     line: &Line,
     writer: &mut W,
 ) -> Result<Life, DrillError>
-    ensures { (next : todo.Stand → Todo) → Leads result
-        (line_asks groups (line_view line.now) (stand_view stand.old) next)
+    ensures { (next : todo.Stand → Todo) → Leads manner.reasons result
+        (line_asks manner.groups (line_view line.now) (stand_view stand.old) next)
         (next (stand_view stand.new))
         life (W.contents writer.old) (W.contents writer.new) }
 {
     match line {
         Line::Crash => crash(rt, alloc, life, stand, writer),
         Line::Fail(buffer, call) => Ok(armed(life, *buffer, *call)),
-        _ => play_on(alloc, life, groups, stand, line, writer),
+        _ => play_on(alloc, life, manner, stand, line, writer),
     }
 }
 
 /// From here call number k of this buffer's device fails.
 fn armed(life: Life, buffer: usize, call: u64) -> Life
-    ensures { (more : Todo) (held : Option (List ℕ))
-        → Goes more more life.relay result.relay held held }
+    ensures { (reasons : Bool) (more : Todo) (held : Option (List ℕ))
+        → Goes reasons more more life.relay result.relay held held }
 {
     let mut life = life;
     life.relay.arm(buffer, call);
@@ -120,19 +121,19 @@ fn armed(life: Life, buffer: usize, call: u64) -> Life
 fn play_on<W: Write>(
     alloc: Global,
     life: Life,
-    groups: usize,
+    manner: Manner,
     stand: &mut Stand,
     line: &Line,
     writer: &mut W,
 ) -> Result<Life, DrillError>
-    ensures { (next : todo.Stand → Todo) → Leads result
-        (line_asks groups (line_view line.now) (stand_view stand.old) next)
+    ensures { (next : todo.Stand → Todo) → Leads manner.reasons result
+        (line_asks manner.groups (line_view line.now) (stand_view stand.old) next)
         (next (stand_view stand.new))
         life (W.contents writer.old) (W.contents writer.new) }
 {
     let mut life = life;
     let stop = life.relay.stop();
-    match play_line(alloc, &mut life.relay, groups, stand, line, writer) {
+    match play_line(alloc, &mut life.relay, manner, stand, line, writer) {
         Ok(()) => noted(life, stop),
         Err(error) => {
             life.let_go();
@@ -182,7 +183,7 @@ fn crash<W: Write>(
     stand: &mut Stand,
     writer: &mut W,
 ) -> Result<Life, DrillError>
-    ensures { (next : todo.Stand → Todo) → Leads result
+    ensures { (reasons : Bool) (next : todo.Stand → Todo) → Leads reasons result
         (todo.Crashing stand.old.moment (next (deserted (stand_view stand.old))))
         (next (stand_view stand.new))
         life (W.contents writer.old) (W.contents writer.new) }
@@ -202,21 +203,22 @@ fn crash<W: Write>(
 fn play_line<S: BlockStore, W: Write>(
     alloc: Global,
     relay: &mut System<S>,
-    groups: usize,
+    manner: Manner,
     stand: &mut Stand,
     line: &Line,
     writer: &mut W,
 ) -> Result<(), DrillError>
-    ensures { (next : todo.Stand → Todo) → Performs result
-        (line_asks groups (line_view line.now) (stand_view stand.old) next)
+    ensures { (next : todo.Stand → Todo) → Performs manner.reasons result
+        (line_asks manner.groups (line_view line.now) (stand_view stand.old) next)
         (next (stand_view stand.new))
         relay.old relay.new (W.contents writer.old) (W.contents writer.new) }
 {
+    let reasons = manner.reasons;
     match *line {
-        Line::Open(session, peer) => open(relay, stand, session, peer, writer),
+        Line::Open(session, peer) => open(relay, stand, session, peer, reasons, writer),
         Line::Bring(session, ref octets) => {
             let size = piece_size(stand, octets);
-            bring(alloc, relay, session, octets, size, writer)
+            bring(alloc, relay, session, octets, size, reasons, writer)
         }
         Line::Split(size) => {
             stand.piece = Some(size);
@@ -224,25 +226,25 @@ fn play_line<S: BlockStore, W: Write>(
         }
         Line::Turn(session, now) => {
             stand.moment = now;
-            perform(relay, Event::Turn { session, now }, writer)
+            perform(relay, Event::Turn { session, now }, reasons, writer)
         }
         Line::Write(group, now) => {
             stand.moment = now;
-            perform(relay, Event::Write { group, now }, writer)
+            perform(relay, Event::Write { group, now }, reasons, writer)
         }
         Line::Rounds(count, now) => {
             stand.moment = now;
-            rounds(relay, groups, &stand.sessions, count, now, writer)
+            rounds(relay, manner, &stand.sessions, count, now, writer)
         }
-        Line::Break(session) => perform(relay, Event::Break { session }, writer),
+        Line::Break(session) => perform(relay, Event::Break { session }, reasons, writer),
         Line::Expire(shard, now) => {
             stand.moment = now;
-            perform(relay, Event::Expire { shard, now }, writer)
+            perform(relay, Event::Expire { shard, now }, reasons, writer)
         }
         Line::Fail(_, _) => Ok(()),
         // Devices of no kind are repaired here.
         Line::Crash => Err(DrillError::Unrepaired),
-        Line::Restart => restart(relay, writer),
+        Line::Restart => restart(relay, reasons, writer),
         Line::Report => print_report(alloc, relay, writer),
     }
 }
@@ -253,7 +255,7 @@ fn print_report<S: BlockStore, W: Write>(
     relay: &System<S>,
     writer: &mut W,
 ) -> Result<(), DrillError>
-    ensures { (more : Todo) → Performs result (todo.Report more) more
+    ensures { (reasons : Bool) (more : Todo) → Performs reasons result (todo.Report more) more
         relay.now relay.now (W.contents writer.old) (W.contents writer.new) }
 {
     let text = report(alloc, relay)?;
@@ -279,9 +281,10 @@ fn open<S: BlockStore, W: Write>(
     stand: &mut Stand,
     session: u64,
     peer: usize,
+    reasons: bool,
     writer: &mut W,
 ) -> Result<(), DrillError>
-    ensures { (next : todo.Stand → Todo) → Performs result
+    ensures { (next : todo.Stand → Todo) → Performs reasons result
         (todo.Opening session peer (next (with_session (stand_view stand.old) session))
         (next (stand_view stand.old)))
         (next (stand_view stand.new))
@@ -290,7 +293,7 @@ fn open<S: BlockStore, W: Write>(
     let event = Event::Open { session, peer };
     let output = relay.step(&event);
     drop(event);
-    let printed = print(writer, &output);
+    let printed = print(writer, &output, reasons);
     let refused = is_refused(&output);
     drop(output);
     printed?;
@@ -315,10 +318,11 @@ fn bring<S: BlockStore, W: Write>(
     session: u64,
     octets: &[u8],
     size: usize,
+    reasons: bool,
     writer: &mut W,
 ) -> Result<(), DrillError>
     requires { 0 < length octets.now → 0 < size }
-    ensures { (more : Todo) → Performs result
+    ensures { (more : Todo) → Performs reasons result
         (bring_each session (pieces_in (length octets.now) size octets.now) more) more
         relay.old relay.new (W.contents writer.old) (W.contents writer.new) }
 {
@@ -326,7 +330,7 @@ fn bring<S: BlockStore, W: Write>(
     while !rest.is_empty() {
         let (piece, after) = rest.split_at(size.min(rest.len()));
         let piece = Octets::copied(alloc, piece)?;
-        perform(relay, Event::Bytes { session, piece }, writer)?;
+        perform(relay, Event::Bytes { session, piece }, reasons, writer)?;
         rest = after;
     }
     Ok(())
@@ -336,20 +340,20 @@ fn bring<S: BlockStore, W: Write>(
 /// its Write.
 fn rounds<S: BlockStore, W: Write>(
     relay: &mut System<S>,
-    groups: usize,
+    manner: Manner,
     sessions: &[u64],
     count: u64,
     now: u64,
     writer: &mut W,
 ) -> Result<(), DrillError>
-    ensures { (more : Todo) → Performs result
-        (round_each groups now sessions.now count more) more
+    ensures { (more : Todo) → Performs manner.reasons result
+        (round_each manner.groups now sessions.now count more) more
         relay.old relay.new (W.contents writer.old) (W.contents writer.new) }
 {
     for passed in 0..count {
         let _passed = passed;
-        turn_all(relay, sessions, now, writer)?;
-        write_all(relay, groups, now, writer)?;
+        turn_all(relay, sessions, now, manner.reasons, writer)?;
+        write_all(relay, manner, now, writer)?;
     }
     Ok(())
 }
@@ -359,13 +363,14 @@ fn turn_all<S: BlockStore, W: Write>(
     relay: &mut System<S>,
     sessions: &[u64],
     now: u64,
+    reasons: bool,
     writer: &mut W,
 ) -> Result<(), DrillError>
-    ensures { (more : Todo) → Performs result (turn_each now sessions.now more) more
+    ensures { (more : Todo) → Performs reasons result (turn_each now sessions.now more) more
         relay.old relay.new (W.contents writer.old) (W.contents writer.new) }
 {
     for session in sessions {
-        turn_open(relay, *session, now, writer)?;
+        turn_open(relay, *session, now, reasons, writer)?;
     }
     Ok(())
 }
@@ -375,42 +380,48 @@ fn turn_open<S: BlockStore, W: Write>(
     relay: &mut System<S>,
     session: u64,
     now: u64,
+    reasons: bool,
     writer: &mut W,
 ) -> Result<(), DrillError>
-    ensures { (more : Todo) → Performs result (todo.TurnOf session now more) more
+    ensures { (more : Todo) → Performs reasons result (todo.TurnOf session now more) more
         relay.old relay.new (W.contents writer.old) (W.contents writer.new) }
 {
     if !relay.is_running(session) {
         return Ok(());
     }
-    perform(relay, Event::Turn { session, now }, writer)
+    perform(relay, Event::Turn { session, now }, reasons, writer)
 }
 
-/// The writer of each of so many groups has its Write.
+/// The writer of each group has its Write.
 fn write_all<S: BlockStore, W: Write>(
     relay: &mut System<S>,
-    groups: usize,
+    manner: Manner,
     now: u64,
     writer: &mut W,
 ) -> Result<(), DrillError>
-    ensures { (more : Todo) → Performs result (write_each now 0 groups more) more
+    ensures { (more : Todo) → Performs manner.reasons result
+        (write_each now 0 manner.groups more) more
         relay.old relay.new (W.contents writer.old) (W.contents writer.new) }
 {
-    for group in 0..groups {
-        perform(relay, Event::Write { group, now }, writer)?;
+    for group in 0..manner.groups {
+        perform(relay, Event::Write { group, now }, manner.reasons, writer)?;
     }
     Ok(())
 }
 
 /// The relay is closed and started again, and it is printed whether it was.
-fn restart<S: BlockStore, W: Write>(relay: &mut System<S>, writer: &mut W) -> Result<(), DrillError>
-    ensures { (more : Todo) → Performs result (todo.Restarting more) more
+fn restart<S: BlockStore, W: Write>(
+    relay: &mut System<S>,
+    reasons: bool,
+    writer: &mut W,
+) -> Result<(), DrillError>
+    ensures { (more : Todo) → Performs reasons result (todo.Restarting more) more
         relay.old relay.new (W.contents writer.old) (W.contents writer.new) }
 {
     let event = Event::Restart;
     let output = relay.step(&event);
     drop(event);
-    let printed = print_restart(writer, &output);
+    let printed = print_restart(writer, &output, reasons);
     drop(output);
     printed?;
     Ok(())
@@ -420,14 +431,15 @@ fn restart<S: BlockStore, W: Write>(relay: &mut System<S>, writer: &mut W) -> Re
 fn perform<S: BlockStore, W: Write>(
     relay: &mut System<S>,
     event: Event,
+    reasons: bool,
     writer: &mut W,
 ) -> Result<(), DrillError>
-    ensures { (more : Todo) → Performs result (todo.Next (event_view event) more) more
+    ensures { (more : Todo) → Performs reasons result (todo.Next (event_view event) more) more
         relay.old relay.new (W.contents writer.old) (W.contents writer.new) }
 {
     let output = relay.step(&event);
     drop(event);
-    let printed = print(writer, &output);
+    let printed = print(writer, &output, reasons);
     drop(output);
     printed?;
     Ok(())

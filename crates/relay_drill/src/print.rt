@@ -1,41 +1,55 @@
 //! What the answer to an event prints (docs/FORMATS.md, Drill scripts: What is printed).
-ghost use Rattle.std.specs.Prelude.{◌≡◌, ◌<◌, ◌∷◌, length};
+ghost use Rattle.std.specs.Prelude.{◌≡◌, ◌<◌, ◌∷◌, ◌++◌, length, option_map};
+ghost use Rattle.article_verdict.specs.Verdict.{reason_view};
 ghost use Rattle.relay_core.specs.Views.{fault_view, output_view};
 ghost use Rattle.relay_drill.specs.Print as terms;
-ghost use Rattle.relay_drill.specs.Print.{lines_of, printed, repaired_text, restart_text};
-ghost use Rattle.relay_drill.specs.Print.{session_line, session_lines};
+ghost use Rattle.relay_drill.specs.Print.{lines_of, note_of, noted_lines, printed, repaired_text};
+ghost use Rattle.relay_drill.specs.Print.{restart_text, session_line, session_lines};
 ghost use Rattle.relay_report.specs.Written.{Writes};
 
+use article_verdict::Reason;
 use itoa::Buffer;
 use memchr::memmem;
 use relay_core::{CoreError, Output};
 use relay_report::{Unwritten, put, put_all};
 use std::io::Write;
 
-/// Prints an output.
-pub fn print<W: Write>(writer: &mut W, output: &Output) -> Result<(), Unwritten>
-    ensures { Writes result (printed (output_view output.now))
+/// Prints an output; the reason for which an article is refused where reasons are told.
+pub fn print<W: Write>(writer: &mut W, output: &Output, reasons: bool) -> Result<(), Unwritten>
+    ensures { Writes result (printed reasons (output_view output.now))
         (W.contents writer.old) (W.contents writer.new) }
 {
     match output {
         Output::Quiet => Ok(()),
         Output::Sent(session, octets) => print_lines(writer, *session, octets.as_slice()),
+        Output::Rejected(session, octets, reason) => {
+            if reasons {
+                print_noted(writer, *session, octets.as_slice(), Some(*reason))
+            } else {
+                print_lines(writer, *session, octets.as_slice())
+            }
+        }
         Output::Ended(session, octets) => {
             print_lines(writer, *session, octets.as_slice())?;
-            print_line(writer, *session, b"closed")
+            print_line(writer, *session, b"closed", None)
         }
         Output::Refused(error) => put_all(writer, &[b"refused ", fault_text(*error), b"\n"]),
     }
 }
 
 /// Prints the answer to a Restart. One that was done says nothing, so it is told by a word.
-pub fn print_restart<W: Write>(writer: &mut W, output: &Output) -> Result<(), Unwritten>
-    ensures { Writes result (restart_text (output_view output.now))
+pub fn print_restart<W: Write>(
+    writer: &mut W,
+    output: &Output,
+    reasons: bool,
+) -> Result<(), Unwritten>
+    ensures { Writes result (restart_text reasons (output_view output.now))
         (W.contents writer.old) (W.contents writer.new) }
 {
     match output {
         Output::Quiet => put(writer, b"restarted\n"),
-        Output::Sent(_, _) | Output::Ended(_, _) | Output::Refused(_) => print(writer, output),
+        Output::Sent(_, _) | Output::Rejected(_, _, _) | Output::Ended(_, _) | Output::Refused(_) =>
+            print(writer, output, reasons),
     }
 }
 
@@ -68,23 +82,49 @@ fn print_lines<W: Write>(writer: &mut W, session: u64, octets: &[u8]) -> Result<
     ensures { Writes result (session_lines session octets.now)
         (W.contents writer.old) (W.contents writer.new) }
 {
+    print_noted(writer, session, octets, None)
+}
+
+/// Prints the same lines, behind each why an article is refused, where it is.
+fn print_noted<W: Write>(
+    writer: &mut W,
+    session: u64,
+    octets: &[u8],
+    why: Option<Reason>,
+) -> Result<(), Unwritten>
+    ensures { Writes result
+        (noted_lines session octets.now (note_of (option_map reason_view why)))
+        (W.contents writer.old) (W.contents writer.new) }
+{
     let mut rest = octets;
     while !rest.is_empty() {
         let (line, after) = cut_line(rest);
-        print_line(writer, session, line)?;
+        print_line(writer, session, line, why)?;
         rest = after;
     }
     Ok(())
 }
 
-/// Prints a line that a session is sent.
-fn print_line<W: Write>(writer: &mut W, session: u64, line: &[u8]) -> Result<(), Unwritten>
-    ensures { Writes result (session_line session line.now)
+/// Prints a line that a session is sent, and behind it why an article is refused, where it is.
+fn print_line<W: Write>(
+    writer: &mut W,
+    session: u64,
+    line: &[u8],
+    why: Option<Reason>,
+) -> Result<(), Unwritten>
+    ensures { Writes result
+        (session_line session (line.now ++ note_of (option_map reason_view why)))
         (W.contents writer.old) (W.contents writer.new) }
 {
     let mut digits = Buffer::new();
     let number = digits.format(session).as_bytes();
-    put_all(writer, &[number, b" ", line, b"\n"])
+    match why {
+        Some(reason) => {
+            let name = reason.name().as_bytes();
+            put_all(writer, &[number, b" ", line, b" reason=", name, b"\n"])
+        }
+        None => put_all(writer, &[number, b" ", line, b"\n"]),
+    }
 }
 
 /// The first line, without its CRLF, and what follows it.

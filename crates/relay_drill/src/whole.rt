@@ -8,6 +8,7 @@ ghost use Rattle.relay_drill.specs.Stores.{AreStoresOf};
 ghost use Rattle.relay_drill.specs.declared.whole.Unread.TheVariants as reasons;
 
 use crate::fault::DrillError;
+use crate::manner::Manner;
 use crate::play::{Life, Store, play};
 use crate::script::read_script;
 use block_shelf::BeginError;
@@ -25,16 +26,18 @@ const MOST_TURNS: u64 = 1 << 40;
 const READ_ROOM: usize = 8_192;
 
 /// Reads a whole script, and runs it on a relay with this configuration, over memory. What the
-/// relay answers is written as docs/FORMATS.md, Drill scripts, says. A refused event is written,
-/// and the drill goes on. `rt` seeds the relay's hashers.
+/// relay answers is written as docs/FORMATS.md, Drill scripts, says: with the reason behind each
+/// reply by which an article is refused, where `reasons` says so. A refused event is written, and
+/// the drill goes on. `rt` seeds the relay's hashers.
 pub fn drill<R: Read, W: Write>(
     rt: &impl RandomSource,
     alloc: Global,
     config: Config,
+    reasons: bool,
     reader: &mut R,
     writer: &mut W,
 ) -> Result<(), DrillError>
-    ensures { DrillGives config result (R.remaining reader.old)
+    ensures { DrillGives reasons config result (R.remaining reader.old)
         (W.contents writer.old) (W.contents writer.new) }
 {
     let script = match read_all(alloc, reader) {
@@ -56,13 +59,14 @@ pub fn drill<R: Read, W: Write>(
         return Err(DrillError::Memory);
     };
     let groups = config.buffers.groups.len();
+    let manner = Manner { groups, reasons };
     match System::new(rt, alloc, config, stores) {
         Ok(relay) => {
             let life = Life {
                 relay,
                 history: None,
             };
-            match play(rt, alloc, life, groups, &lines, writer) {
+            match play(rt, alloc, life, manner, &lines, writer) {
                 Ok(life) => {
                     life.let_go();
                     Ok(())

@@ -6,9 +6,9 @@ use Rattle.relay_drill.proofs.Events.{breaks_told, goes_told, tells_repaired}
 use Rattle.relay_drill.proofs.play.crash.Goals as goal
 
 pub returns-in-Ok : goal.returns-in-Ok
-returns-in-Ok g c = λ next.
+returns-in-Ok g c = λ reasons next.
     let stand = stand_view c.args.stand.now in
-    let G : List ℕ → Type 0 = λ sessions. Goes
+    let G : List ℕ → Type 0 = λ sessions. Goes reasons
     (Crashing c.args.stand.now.moment (next (deserted stand)))
     (next (record stand { sessions = sessions })) c.args.life.relay c.in_ok-life.life.relay
     (g.W.Write.contents c.args.writer.now) (g.W.Write.contents c.print_repaired.new.writer) in
@@ -18,14 +18,14 @@ returns-in-Ok g c = λ next.
     c.in_ok-life.life.relay c.in_ok-life.ensures) c.in-Ok.ensures)
 
 pub returns-in-Err : goal.returns-in-Err
-returns-in-Err g c = λ next.
+returns-in-Err g c = λ reasons next.
     let stand = stand_view c.args.stand.now in
     breaks_told _ _ _ _ _ _ _
     (tells_repaired c.args.stand.now.moment (next (deserted stand)) c.args.life.relay
     c.in_ok-life.life.relay c.in_ok-life.ensures) c.in-Err.ensures
 
 pub returns-in_err-life : goal.returns-in_err-life
-returns-in_err-life g c = λ next.
+returns-in_err-life g c = λ reasons next.
     fails_at_crash _ c.from_residual.result _ c.args.stand.now.moment
     (next (deserted (stand_view c.args.stand.now))) c.args.life.relay
     (g.W.Write.contents c.args.writer.now) c.from_residual.ensures.0 c.from_residual.ensures.1

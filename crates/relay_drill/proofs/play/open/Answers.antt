@@ -21,7 +21,7 @@ pub returns : goal.returns
 returns g c = λ next.
     let stand = stand_view c.args.stand.now in
     let opened = next (with_session stand c.args.session) in
-    let G : List ℕ → Type 0 = λ sessions. Goes
+    let G : List ℕ → Type 0 = λ sessions. Goes c.args.reasons
     (Opening c.args.session c.args.peer opened (next stand))
     (next (record stand { sessions = sessions })) c.args.relay.now c.step-output.new.self
     (g.W.Write.contents c.args.writer.now) (g.W.Write.contents c.print-printed.new.writer) in

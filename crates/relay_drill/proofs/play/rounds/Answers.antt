@@ -8,31 +8,31 @@ pub loop-passed-init : goal.loop-passed-init
 loop-passed-init g c = λ more.
     let all : c.args.count ≡ c.args.count - 0 = omega arith in
     rw (← all) (goes_none
-    (round_each c.args.groups c.args.now c.args.sessions.now c.args.count more)
+    (round_each c.args.manner.groups c.args.now c.args.sessions.now c.args.count more)
     c.args.relay.now _)
 
 pub loop-passed-preserved : goal.loop-passed-preserved
 loop-passed-preserved g c = λ more.
     goes_on _ _ _ _ _ _ _ _ _
     (goes_next _ _ _ _ _ _ _ _ _ _
-    (round_next c.args.groups c.args.now c.loop-passed.passed c.args.count c.args.sessions.now more
-    (omega arith))
+    (round_next c.args.manner.groups c.args.now c.loop-passed.passed c.args.count
+    c.args.sessions.now more (omega arith))
     (c.loop-passed.invariant more) (c.in_ok-turn_all.ensures _))
     (c.in_ok-write_all.ensures _)
 
 pub returns : goal.returns
 returns g c = λ more.
     goes_to _ _ _ _ _ _ _
-    (round_last c.args.groups c.args.now c.loop-passed.passed c.args.count c.args.sessions.now more
-    (omega arith))
+    (round_last c.args.manner.groups c.args.now c.loop-passed.passed c.args.count
+    c.args.sessions.now more (omega arith))
     (c.loop-passed.invariant more)
 
 pub returns-in_err-turn_all : goal.returns-in_err-turn_all
 returns-in_err-turn_all g c = λ more.
     fails_next _ c.from_residual.result _ _ _ more _ _ _ _ _ _ c.from_residual.ensures.0
     c.from_residual.ensures.1
-    (round_next c.args.groups c.args.now c.loop-passed.passed c.args.count c.args.sessions.now more
-    (omega arith))
+    (round_next c.args.manner.groups c.args.now c.loop-passed.passed c.args.count
+    c.args.sessions.now more (omega arith))
     (c.loop-passed.invariant more) (c.in_err-turn_all.ensures _)
 
 pub returns-in_err-write_all : goal.returns-in_err-write_all
@@ -40,7 +40,7 @@ returns-in_err-write_all g c = λ more.
     fails_next _ c.from_residual-in_err-write_all.result _ _ _ more _ _ _ _ _ _
     c.from_residual-in_err-write_all.ensures.0 c.from_residual-in_err-write_all.ensures.1 refl
     (goes_next _ _ _ _ _ _ _ _ _ _
-    (round_next c.args.groups c.args.now c.loop-passed.passed c.args.count c.args.sessions.now more
-    (omega arith))
+    (round_next c.args.manner.groups c.args.now c.loop-passed.passed c.args.count
+    c.args.sessions.now more (omega arith))
     (c.loop-passed.invariant more) (c.in_ok-turn_all.ensures _))
     (c.in_err-write_all.ensures _)

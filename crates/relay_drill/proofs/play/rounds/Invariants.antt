@@ -5,6 +5,7 @@ use Rattle.relay_drill.proofs.play.rounds.Given as goal
 
 abbrev pub invariant-loop-passed : goal.invariant-loop-passed
 invariant-loop-passed g l =
-    (more : Todo) → Goes (round_each l.groups l.now l.sessions l.count more)
-    (round_each l.groups l.now l.sessions (l.count - l.passed) more) l.fn.relay l.relay
+    (more : Todo) → Goes l.manner.reasons
+    (round_each l.manner.groups l.now l.sessions l.count more)
+    (round_each l.manner.groups l.now l.sessions (l.count - l.passed) more) l.fn.relay l.relay
     (g.W.Write.contents l.fn.writer) (g.W.Write.contents l.writer)

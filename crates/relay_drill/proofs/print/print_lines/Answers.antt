@@ -1,23 +1,10 @@
-use Rattle.std.proofs.Common.{◌++◌}
-use Rattle.relay_drill.proofs.Prints.{front_of_lines, one_more_line}
-use Rattle.relay_drill.specs.Print.{session_line}
-use Rattle.relay_report.proofs.Writes.{appends_both, writes_failed}
+use Rattle.std.proofs.Common.{ℕ, List, subst}
+use Rattle.relay_drill.proofs.Prints.{unnoted}
+use Rattle.relay_report.specs.Written.{Writes}
 use Rattle.relay_drill.proofs.print.print_lines.Goals as goal
 
-pub loop-rest-preserved : goal.loop-rest-preserved
-loop-rest-preserved g c =
-    let so_far = c.loop-rest.invariant in (
-      so_far.0 ++ session_line c.args.session c.cut_line.result.0.now,
-      appends_both _ _ _ so_far.0
-          (session_line c.args.session c.cut_line.result.0.now) so_far.1 c.in_ok-print_line.ensures,
-      one_more_line c.args.session c.args.octets.now so_far.0 c.loop-rest.rest.now
-          c.cut_line.result.0.now c.cut_line.result.1.now so_far.2 c.cut_line.ensures.cut,
-    )
-
-pub returns-in_err-print_line : goal.returns-in_err-print_line
-returns-in_err-print_line g c =
-    let so_far = c.loop-rest.invariant in
-    writes_failed c.from_residual.result _ _ _ c.from_residual.ensures.0
-    (front_of_lines c.args.session c.args.octets.now so_far.0 c.loop-rest.rest.now
-    c.cut_line.result.0.now c.cut_line.result.1.now _ _ _ so_far.2 c.cut_line.ensures.cut so_far.1
-    c.in_err-print_line.ensures)
+pub returns : goal.returns
+returns g c =
+    subst (λ (text : List ℕ). Writes c.print_noted.result text
+    (g.W.Write.contents c.args.writer.now) (g.W.Write.contents c.print_noted.new.writer))
+    (unnoted c.args.session c.args.octets.now) c.print_noted.ensures

@@ -11,26 +11,26 @@ use Rattle.relay_drill.proofs.whole.drill.Goals as goal
 
 pub returns-in-Err : goal.returns-in-Err
 returns-in-Err g c =
-    unread (vec_items {Z = Global}) c.args.config c.in-Err.error (Err c.in-Err.error) _ _ refl refl
-    c.in-Err.ensures
+    unread c.args.reasons (vec_items {Z = Global}) c.args.config c.in-Err.error
+    (Err c.in-Err.error) _ _ refl refl c.in-Err.ensures
 
 pub returns-in-Err-read_script : goal.returns-in-Err-read_script
 returns-in-Err-read_script g c =
-    bad_line (vec_items {Z = Global}) c.args.config c.in-Err-read_script.error
+    bad_line c.args.reasons (vec_items {Z = Global}) c.args.config c.in-Err-read_script.error
     (Err c.in-Err-read_script.error) _ c.in-Ok.script.items _ refl refl c.in-Ok.ensures
     (rw (← c.deref.ensures.value) c.in-Err-read_script.ensures)
 
 pub returns-in_default : goal.returns-in_default
 returns-in_default g c =
-    memory_at_once c.args.config (g.R.Read.remaining c.args.reader.now)
+    memory_at_once c.args.reasons c.args.config (g.R.Read.remaining c.args.reader.now)
     (g.W.Write.contents c.args.writer.now)
 
 pub returns : goal.returns
 returns g c =
-    unbegun c.args.config c.in-Err-new.error c.refused.result (g.R.Read.remaining c.args.reader.now)
-    (g.W.Write.contents c.args.writer.now) c.in-Ok.script.items
-    (map line_view c.in-Ok-read_script.lines.items) c.refused.ensures c.in-Ok.ensures
-    (rw (← c.deref.ensures.value) c.in-Ok-read_script.ensures)
+    unbegun c.args.reasons c.args.config c.in-Err-new.error c.refused.result
+    (g.R.Read.remaining c.args.reader.now) (g.W.Write.contents c.args.writer.now)
+    c.in-Ok.script.items (map line_view c.in-Ok-read_script.lines.items) c.refused.ensures
+    c.in-Ok.ensures (rw (← c.deref.ensures.value) c.in-Ok-read_script.ensures)
 
 pub returns-in-Ok-play : goal.returns-in-Ok-play
 returns-in-Ok-play g c =
@@ -40,12 +40,12 @@ returns-in-Ok-play g c =
     let says : lines_of_script c.args.config c.in-Ok.script.items
     ≡ Ok (map line_view c.in-Ok-read_script.lines.items) =
     rw (← c.deref.ensures.value) c.in-Ok-read_script.ensures in
-    let Q : List Line → Type 0 = λ read. Leads c.play.result
+    let Q : List Line → Type 0 = λ read. Leads c.args.reasons c.play.result
     (lines_ask c.len-groups.result (map line_view read) first_stand) Done life before after in
-    let R : ℕ → Type 0 = λ groups. Leads c.play.result
+    let R : ℕ → Type 0 = λ groups. Leads c.args.reasons c.play.result
     (lines_ask groups (map line_view c.in-Ok-read_script.lines.items) first_stand) Done life
     before after in
-    drill_done c.args.config c.play.result (g.R.Read.remaining c.args.reader.now)
+    drill_done c.args.reasons c.args.config c.play.result (g.R.Read.remaining c.args.reader.now)
     c.in-Ok.script.items
     (map line_view c.in-Ok-read_script.lines.items) life c.in-Ok-play.life before after
     c.in-Ok.ensures
@@ -62,12 +62,12 @@ returns-in-Ok-new g c =
     let says : lines_of_script c.args.config c.in-Ok.script.items
     ≡ Ok (map line_view c.in-Ok-read_script.lines.items) =
     rw (← c.deref.ensures.value) c.in-Ok-read_script.ensures in
-    let Q : List Line → Type 0 = λ read. Leads c.play.result
+    let Q : List Line → Type 0 = λ read. Leads c.args.reasons c.play.result
     (lines_ask c.len-groups.result (map line_view read) first_stand) Done life before after in
-    let R : ℕ → Type 0 = λ groups. Leads c.play.result
+    let R : ℕ → Type 0 = λ groups. Leads c.args.reasons c.play.result
     (lines_ask groups (map line_view c.in-Ok-read_script.lines.items) first_stand) Done life
     before after in
-    drill_stops c.args.config c.play.result (g.R.Read.remaining c.args.reader.now)
+    drill_stops c.args.reasons c.args.config c.play.result (g.R.Read.remaining c.args.reader.now)
     c.in-Ok.script.items
     (map line_view c.in-Ok-read_script.lines.items) life c.in-Err-play.error before after
     c.in-Ok.ensures
