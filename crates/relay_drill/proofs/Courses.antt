@@ -270,6 +270,16 @@ module _ {S : Type 0} {g : Ghosts S} {reasons : Bool} where
       (Breaks reasons a old before after) (Kills reasons a old before after) is e
       (halts_there a b old mid before after first)
 
+  -- Writing failed.
+  pub fails_unwritten : (result : Result (Unit {0}) DrillError) (a b : Todo)
+      (old new : System S g) (before after : Option (List ℕ)) → IsErr result
+      → IsErrAnd result (λ e. e ≡ faults.Unwritten) → Breaks reasons a old before after
+      → Performs reasons result a b old new before after
+  fails_unwritten result a b old new before after is e breaks =
+      error_gives faults.Unwritten result (λ fine. Goes reasons a b old new before after)
+      (Halts reasons a old before after) _ (Kills reasons a old before after) is e breaks
+
+module _ {S : Type 0} {g : Ghosts S} (reasons : Bool) where
   -- Nothing was done before a crash, and then a call failed so.
   pub fails_at_crash : {A : Type 0} (error : DrillError) (result : Result A DrillError)
       (done : A → Type 0) (moment : ℕ) (more : Todo) (old : System S g) (held : Option (List ℕ))
@@ -279,17 +289,8 @@ module _ {S : Type 0} {g : Ghosts S} {reasons : Bool} where
       (Kills reasons (Crashing moment more) old held held)
   fails_at_crash error result done moment more old held is e fails =
       let todo = Crashing moment more in
-      let none = goes_none todo old held in
+      let none : Goes reasons todo todo old old held held = goes_none todo old held in
       error_gives error result done _ _ _ is e
       (fail_map error {halted = ⊤} {broken = ⊥} {killed = ⊤}
       (λ t. halts_there todo todo old old held held none) (λ b. absurd b)
       (λ t. kills_there todo moment more old old held held none) fails)
-
-  -- Writing failed.
-  pub fails_unwritten : (result : Result (Unit {0}) DrillError) (a b : Todo)
-      (old new : System S g) (before after : Option (List ℕ)) → IsErr result
-      → IsErrAnd result (λ e. e ≡ faults.Unwritten) → Breaks reasons a old before after
-      → Performs reasons result a b old new before after
-  fails_unwritten result a b old new before after is e breaks =
-      error_gives faults.Unwritten result (λ fine. Goes reasons a b old new before after)
-      (Halts reasons a old before after) _ (Kills reasons a old before after) is e breaks

@@ -8,7 +8,7 @@ use Rattle.relay_drill.specs.Todo.{Stand, Todo, line_asks}
 use Rattle.relay_drill.specs.declared.fault.DrillError.{DrillError}
 use Rattle.relay_drill.specs.declared.line.Line.{Line}
 
-module _ {S : Type 0} {g : Ghosts S} {reasons : Bool} (result : Result (Unit {0}) DrillError)
+module _ {S : Type 0} {g : Ghosts S} (reasons : Bool) (result : Result (Unit {0}) DrillError)
     (old new : System S g) (before after : Option (List ℕ)) where
   -- What was done for a line was done for the line that it is.
   pub done_for : (to : Todo) (groups : ℕ) (line one : Line) (stand : Stand) (next : Stand → Todo)

@@ -1,6 +1,6 @@
 //! What the answer to an event prints (docs/FORMATS.md, Drill scripts: What is printed).
 ghost use Rattle.std.specs.Prelude.{◌≡◌, ◌<◌, ◌∷◌, ◌++◌, length, option_map};
-ghost use Rattle.article_verdict.specs.Verdict.{reason_view};
+ghost use Rattle.article_verdict.specs.Verdict.{reason_name, reason_view};
 ghost use Rattle.relay_core.specs.Views.{fault_view, output_view};
 ghost use Rattle.relay_drill.specs.Print as terms;
 ghost use Rattle.relay_drill.specs.Print.{lines_of, note_of, noted_lines, printed, repaired_text};
@@ -120,11 +120,18 @@ fn print_line<W: Write>(
     let number = digits.format(session).as_bytes();
     match why {
         Some(reason) => {
-            let name = reason.name().as_bytes();
+            let name = name_of(&reason);
             put_all(writer, &[number, b" ", line, b" reason=", name, b"\n"])
         }
         None => put_all(writer, &[number, b" ", line, b"\n"]),
     }
+}
+
+/// The name of a reason.
+fn name_of(reason: &Reason) -> &[u8]
+    ensures { result.now ≡ reason_name (reason_view reason.now) }
+{
+    reason.name().as_bytes()
 }
 
 /// The first line, without its CRLF, and what follows it.

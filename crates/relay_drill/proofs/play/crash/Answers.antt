@@ -26,7 +26,7 @@ returns-in-Err g c = λ reasons next.
 
 pub returns-in_err-life : goal.returns-in_err-life
 returns-in_err-life g c = λ reasons next.
-    fails_at_crash _ c.from_residual.result _ c.args.stand.now.moment
+    fails_at_crash reasons _ c.from_residual.result _ c.args.stand.now.moment
     (next (deserted (stand_view c.args.stand.now))) c.args.life.relay
     (g.W.Write.contents c.args.writer.now) c.from_residual.ensures.0 c.from_residual.ensures.1
     c.in_err-life.ensures
