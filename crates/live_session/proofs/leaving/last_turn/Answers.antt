@@ -12,7 +12,7 @@ pub returns-in-Says : goal.returns-in-Says
 returns-in-Says g c =
     let w = terms_of c.args.context.now.config.now in
     let live = c.args.talk.now.live in
-    let new = c.turn.new.live in
+    let new = c.turn-turned.new.live in
     let wire = c.args.talk.now.wire in
     let said = c.say.new.talk.wire in
     let before = carried (g.H.Hears.heard wire.reader) (g.W.Says.said wire.writer) wire.outbox
@@ -22,8 +22,8 @@ returns-in-Says g c =
     subst (λ l. HadLastTurn w c.args.context.now.channels.now live l before after
     c.args.talk.now.counts c.say.new.talk.counts) (sym c.say.ensures.live)
     (record {
-      seat = c.turn.ensures.seat;
-      end = c.turn.ensures.end;
+      seat = c.turn-turned.ensures.seat;
+      end = c.turn-turned.ensures.end;
       served = served_turn w live new c.in-Says.said.items before after c.in-Says.ensures.went
           c.say.ensures.on;
       ends = c.say.ensures.ends;
@@ -38,11 +38,11 @@ returns-in-Rests g c =
     let same = carried (g.H.Hears.heard wire.reader) (g.W.Says.said wire.writer) wire.outbox
     wire.finish in
     record {
-      seat = c.turn.ensures.seat;
-      end = c.turn.ensures.end;
-      served = served_still w live c.turn.new.live
-          (subst (λ said. WentOn w live said c.turn.new.live)
-          (unsaid c.turn.result c.in-Rests.is) c.turn.ensures.went) same same
+      seat = c.turn-turned.ensures.seat;
+      end = c.turn-turned.ensures.end;
+      served = served_still w live c.turn-turned.new.live
+          (subst (λ said. WentOn w live said c.turn-turned.new.live)
+          (unsaid c.turn-turned.result c.in-Rests.is) c.turn-turned.ensures.went) same same
           (λ came replies parted carries. carries);
       ends = lasts_same wire.finish;
       turns = refl;
@@ -54,10 +54,10 @@ returns-in-Memory g c =
     let same = carried (g.H.Hears.heard wire.reader) (g.W.Says.said wire.writer) wire.outbox
     wire.finish in
     record {
-      seat = c.turn.ensures.seat;
-      end = c.turn.ensures.end;
+      seat = c.turn-turned.ensures.seat;
+      end = c.turn-turned.ensures.end;
       served = served_still (terms_of c.args.context.now.config.now) c.args.talk.now.live
-          c.turn.new.live c.in-Memory.ensures.went same same
+          c.turn-turned.new.live c.in-Memory.ensures.went same same
           (λ came replies parted carries. carries);
       ends = lasts_same wire.finish;
       turns = refl;
