@@ -4,7 +4,9 @@ use Rattle.live_session.specs.declared.wire.Finish.{Finish}
 use Rattle.live_session.specs.declared.wire.Finish.TheVariants as finishes
 use Rattle.live_wire.specs.declared.tally.Tally.{Tally}
 use Rattle.relay_serve.specs.declared.gate.CountingGate.{CountingGate}
+use Rattle.relay_serve.specs.declared.refusals.Placed.{Placed}
 use Rattle.relay_serve.specs.declared.refusals.Refused.{Refused}
+use Rattle.relay_serve.specs.declared.refusals.Worded.{Worded}
 
 -- how a session ended, in one word
 abbrev pub finish_word : Finish → List ℕ
@@ -23,17 +25,26 @@ told_text tally =
     ++ (codes " later=" ++ (decimal tally.later
     ++ (codes " octets=" ++ decimal tally.octets))))))))
 
--- how many articles were refused for each reason, as a line tells it
+-- how many articles were refused for what their text or their id is, as a line tells it
+abbrev pub worded_text : Worded → List ℕ
+worded_text worded =
+    codes "Size=" ++ (decimal worded.size
+    ++ (codes " Grammar=" ++ (decimal worded.grammar
+    ++ (codes " IdMismatch=" ++ (decimal worded.id_mismatch
+    ++ (codes " BadPath=" ++ decimal worded.bad_path))))))
+
+-- the same of where and when they come from, and of where they would go
+abbrev pub placed_text : Placed → List ℕ
+placed_text placed =
+    codes "Loop=" ++ (decimal placed.loops
+    ++ (codes " Date=" ++ (decimal placed.date
+    ++ (codes " NoClass=" ++ (decimal placed.no_class
+    ++ (codes " TooLarge=" ++ decimal placed.too_large))))))
+
+-- how many were refused for each reason
 abbrev pub refusals_text : Refused → List ℕ
 refusals_text refused =
-    codes "Size=" ++ (decimal refused.size
-    ++ (codes " Grammar=" ++ (decimal refused.grammar
-    ++ (codes " IdMismatch=" ++ (decimal refused.id_mismatch
-    ++ (codes " BadPath=" ++ (decimal refused.bad_path
-    ++ (codes " Loop=" ++ (decimal refused.loops
-    ++ (codes " Date=" ++ (decimal refused.date
-    ++ (codes " NoClass=" ++ (decimal refused.no_class
-    ++ (codes " TooLarge=" ++ decimal refused.too_large))))))))))))))
+    worded_text refused.worded ++ (codes " " ++ placed_text refused.placed)
 
 -- the line of a peer in a report: its name, how many of its sessions are open, what they have said
 -- and read so far, and how many offers they have open

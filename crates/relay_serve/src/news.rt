@@ -65,34 +65,6 @@ impl<'a> News<'a> {
     }
 }
 
-/// What writes the news log in a file of the machine.
-#[derive(Drop)]
-pub(crate) struct HostNewsWriting<'a, R> {
-    writing: NewsWriting<'a, HostNews<'a, R>, PrintedNewsLines<'a, R>>,
-}
-
-impl<'a, R: Files<File = File> + Eprint> HostNewsWriting<'a, R> {
-    /// What writes what is put there in the file of this path, which lies in the folder where it is
-    /// relative.
-    fn at(
-        rt: &'a R,
-        alloc: Global,
-        folder: &str,
-        path: &str,
-        pending: &'a PendingLines,
-    ) -> Result<HostNewsWriting<'a, R>, AllocError> {
-        let file = HostNews::at(rt, alloc, folder, path)?;
-        let writer = NewsWriter::new(file, PrintedNewsLines::new(rt));
-        let writing = NewsWriting::new(alloc, writer, pending, ROOM)?;
-        Ok(HostNewsWriting { writing })
-    }
-
-    /// The same, without the machine's name.
-    pub(crate) fn into_writing(self) -> NewsWriting<'a, HostNews<'a, R>, PrintedNewsLines<'a, R>> {
-        self.writing
-    }
-}
-
 /// Where a relay's lines wait: with room where it logs any.
 pub(crate) fn pending_of(alloc: Global, relay: &Relay) -> Result<PendingLines, AllocError> {
     let room = if relay.log.is_some() { ROOM } else { 0 };
@@ -101,18 +73,20 @@ pub(crate) fn pending_of(alloc: Global, relay: &Relay) -> Result<PendingLines, A
 
 /// What writes a relay's news log in its folder, where it has one. A path that is no UTF-8 names no
 /// file: that is told, and its lines are lost.
-pub(crate) fn writing_of<'a, R: Files<File = File> + Eprint>(
+pub(crate) fn writing_of<'a, 'n, R: Files<File = File> + Eprint>(
     rt: &'a R,
     alloc: Global,
     folder: &str,
-    news: Option<News<'a>>,
-) -> Result<Option<HostNewsWriting<'a, R>>, AllocError> {
+    news: Option<News<'n>>,
+) -> Result<Option<NewsWriting<'n, HostNews<'a, R>, PrintedNewsLines<'a, R>>>, AllocError> {
     let Some(news) = news else {
         return Ok(None);
     };
     match news.path() {
         Some(path) => {
-            let writing = HostNewsWriting::at(rt, alloc, folder, path, news.pending)?;
+            let file = HostNews::at(rt, alloc, folder, path)?;
+            let writer = NewsWriter::new(file, PrintedNewsLines::new(rt));
+            let writing = NewsWriting::new(alloc, writer, news.pending, ROOM)?;
             Ok(Some(writing))
         }
         None => {

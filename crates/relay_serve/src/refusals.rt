@@ -1,6 +1,6 @@
 //! The articles that were refused, by their reasons.
-ghost use Rattle.std.specs.Prelude.{◌≡◌, ◌++◌, OnOk, Some};
-ghost use Rattle.relay_serve.specs.Gates.{IsReasonsLine, refusals_text};
+ghost use Rattle.std.specs.Prelude.{◌≡◌, ◌++◌, List, ℕ, OnOk, Some};
+ghost use Rattle.relay_serve.specs.Gates.{IsReasonsLine, placed_text, refusals_text, worded_text};
 
 use article_verdict::Reason;
 use std::alloc::{AllocError, Global};
@@ -54,14 +54,18 @@ impl Refusals {
     /// How many were so far.
     fn told(&self) -> Refused {
         Refused {
-            size: self.size.load(Ordering::SeqCst),
-            grammar: self.grammar.load(Ordering::SeqCst),
-            id_mismatch: self.id_mismatch.load(Ordering::SeqCst),
-            bad_path: self.bad_path.load(Ordering::SeqCst),
-            loops: self.loops.load(Ordering::SeqCst),
-            date: self.date.load(Ordering::SeqCst),
-            no_class: self.no_class.load(Ordering::SeqCst),
-            too_large: self.too_large.load(Ordering::SeqCst),
+            worded: Worded {
+                size: self.size.load(Ordering::SeqCst),
+                grammar: self.grammar.load(Ordering::SeqCst),
+                id_mismatch: self.id_mismatch.load(Ordering::SeqCst),
+                bad_path: self.bad_path.load(Ordering::SeqCst),
+            },
+            placed: Placed {
+                loops: self.loops.load(Ordering::SeqCst),
+                date: self.date.load(Ordering::SeqCst),
+                no_class: self.no_class.load(Ordering::SeqCst),
+                too_large: self.too_large.load(Ordering::SeqCst),
+            },
         }
     }
 
@@ -81,28 +85,46 @@ impl Refusals {
     }
 }
 
-/// How many articles were refused, for each reason.
+/// How many articles were refused for what their text or their id is.
 #[derive(Clone, Copy)]
-pub(crate) struct Refused {
+struct Worded {
     size: u64,
     grammar: u64,
     id_mismatch: u64,
     bad_path: u64,
+}
+
+impl Display for Worded {
+    ghost output = { λ worded. Some (worded_text worded) };
+
+    fn fmt<W: fmt::Write>(&self, formatter: &mut Formatter<W>) -> fmt::Result {
+        let Worded {
+            size,
+            grammar,
+            id_mismatch,
+            bad_path,
+        } = self;
+        write!(
+            formatter,
+            "Size={size} Grammar={grammar} IdMismatch={id_mismatch} BadPath={bad_path}",
+        )
+    }
+}
+
+/// How many articles were refused for where and when they come from, or for where they would go.
+#[derive(Clone, Copy)]
+struct Placed {
     loops: u64,
     date: u64,
     no_class: u64,
     too_large: u64,
 }
 
-impl Display for Refused {
-    ghost output = { λ refused. Some (refusals_text refused) };
+impl Display for Placed {
+    ghost output = { λ placed. Some (placed_text placed) };
 
     fn fmt<W: fmt::Write>(&self, formatter: &mut Formatter<W>) -> fmt::Result {
-        let Refused {
-            size,
-            grammar,
-            id_mismatch,
-            bad_path,
+        let Placed {
             loops,
             date,
             no_class,
@@ -110,8 +132,23 @@ impl Display for Refused {
         } = self;
         write!(
             formatter,
-            "Size={} Grammar={} IdMismatch={} BadPath={} Loop={} Date={} NoClass={} TooLarge={}",
-            size, grammar, id_mismatch, bad_path, loops, date, no_class, too_large,
+            "Loop={loops} Date={date} NoClass={no_class} TooLarge={too_large}",
         )
+    }
+}
+
+/// How many articles were refused, for each reason.
+#[derive(Clone, Copy)]
+struct Refused {
+    worded: Worded,
+    placed: Placed,
+}
+
+impl Display for Refused {
+    ghost output = { λ refused. Some (refusals_text refused) };
+
+    fn fmt<W: fmt::Write>(&self, formatter: &mut Formatter<W>) -> fmt::Result {
+        let Refused { worded, placed } = self;
+        write!(formatter, "{worded} {placed}")
     }
 }

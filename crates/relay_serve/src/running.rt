@@ -23,6 +23,7 @@ use cyc_block::BlockStore;
 use live_journal::PendingJournal;
 use live_store::{ArticleLog, StorePremises};
 use live_wire::Port;
+use news_log::{NewsFile, NewsLines};
 use relay_conf::Config;
 use relay_core::Stopped;
 use relay_folder::{JournalFile, Origin};
@@ -31,7 +32,6 @@ use relay_live::{Counted, Keeper, LiveError, PeerSource, RegisterRef, Serving, S
 use relay_report::ServeError;
 use relay_startup::{Beginning, Looked, hasher_of, unbegun, unformatted};
 use std::alloc::Global;
-use std::fs::{File, Files};
 use std::random::RandomSource;
 use std::sync::Wait;
 use std::sync::ledger::{Blank, Book, Ledger, Share};
@@ -61,7 +61,7 @@ pub(crate) struct Records<'a> {
 
 /// What stands around a relay.
 #[derive(Drop)]
-pub(crate) struct Surroundings<'a, O, K, R> {
+pub(crate) struct Surroundings<'a, O, K, N, M, R> {
     /// The clock that it goes by.
     pub clock: &'a MachineClock<'a, R>,
     /// What lets its sessions' commands in, and is told of them.
@@ -71,7 +71,7 @@ pub(crate) struct Surroundings<'a, O, K, R> {
     /// What is said to its journal.
     pub pending: &'a PendingJournal,
     /// What is written beside it.
-    pub writers: Writers<'a, O, K, R>,
+    pub writers: Writers<'a, O, K, N, M>,
 }
 
 /// Runs a relay of this configuration over these stores, the i-th for buffer i: an end behind each
@@ -88,7 +88,9 @@ pub(crate) fn run_relay<
     L: Ledger + Send + Sync,
     O: JournalFile + Drop + Send,
     K: JournalLines + Drop + Send,
-    R: Threads + Wait + Clock + Eprint + Files<File = File> + RandomSource + Sync,
+    N: NewsFile + Drop + Send,
+    M: NewsLines + Drop + Send,
+    R: Threads + Wait + Clock + Eprint + RandomSource + Sync,
 >(
     rt: &R,
     alloc: Global,
@@ -96,7 +98,7 @@ pub(crate) fn run_relay<
     beginning: Beginning<S>,
     records: Records<'_>,
     peer_sources: Vec<PeerSource<Port<'_>>>,
-    surroundings: Surroundings<'_, O, K, R>,
+    surroundings: Surroundings<'_, O, K, N, M, R>,
 ) -> Result<Finished<S>, ServeError>
     requires register { records.register.now ≡ J.register }
     requires holds { J.holds ≡ has_buffer config.now.buffers }
@@ -241,7 +243,9 @@ fn attended<
     L: Ledger + Send + Sync,
     O: JournalFile + Drop + Send,
     K: JournalLines + Drop + Send,
-    R: Threads + Wait + Clock + Eprint + Files<File = File> + Sync,
+    N: NewsFile + Drop + Send,
+    M: NewsLines + Drop + Send,
+    R: Threads + Wait + Clock + Eprint + Sync,
 >(
     rt: &R,
     alloc: Global,
@@ -252,7 +256,7 @@ fn attended<
     clock: &'a MachineClock<'a, R>,
     side: &Desk<'_>,
     pending: &'a PendingJournal,
-    writers: Writers<'a, O, K, R>,
+    writers: Writers<'a, O, K, N, M>,
 ) -> Result<Counted, ServeError>
     requires register { register.now ≡ J.register }
     requires holds { J.holds ≡ has_buffer serving.config.now.buffers }
@@ -282,13 +286,15 @@ fn run_beside<
     F: Figured<R> + Sync,
     O: JournalFile + Drop + Send,
     K: JournalLines + Drop + Send,
-    R: Threads + Wait + Clock + Eprint + Files<File = File> + Sync,
+    N: NewsFile + Drop + Send,
+    M: NewsLines + Drop + Send,
+    R: Threads + Wait + Clock + Eprint + Sync,
 >(
     rt: &R,
     run: W,
     side: &Desk<'_>,
     served: &F,
-    writers: Writers<'_, O, K, R>,
+    writers: Writers<'_, O, K, N, M>,
 ) -> Result<Counted, ServeError>
     requires { W.pre run }
     ensures { (result ≡ Err faults.NoThread) ⊎ W.post run result }

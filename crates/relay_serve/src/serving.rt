@@ -25,6 +25,7 @@ use file_blocks::FileBlocks;
 use live_journal::PendingJournal;
 use live_store::ArticleLog;
 use live_wire::{Callers, Port, Stop};
+use news_log::{HostNews, PrintedNewsLines};
 use relay_conf::Config;
 use relay_folder::{
     Control, HistoryPlace, HostHistory, HostJournal, JournalFile, JournalPlace, Origin,
@@ -354,7 +355,16 @@ where
         None => None,
     };
     let news = writing_of(rt, alloc, access.folder, access.gate.news())?;
-    run_relay::<Watched<'a, FileBlocks, R>, Brand, Brand, O, PrintedLines<'a, R>, R>(
+    run_relay::<
+        Watched<'a, FileBlocks, R>,
+        Brand,
+        Brand,
+        O,
+        PrintedLines<'a, R>,
+        HostNews<'a, R>,
+        PrintedNewsLines<'a, R>,
+        R,
+    >(
         rt,
         alloc,
         config,

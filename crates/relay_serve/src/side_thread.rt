@@ -10,16 +10,15 @@ use crate::desk::Desk;
 use crate::figures::figures_of;
 use crate::filled::put_sizes;
 use crate::gate::CountingGate;
-use crate::news::HostNewsWriting;
 use cyc_block::BlockStore;
 use live_store::StorePremises;
+use news_log::{NewsFile, NewsLines, NewsWriting};
 use relay_conf::Config;
 use relay_folder::JournalFile;
 use relay_journal::{JournalLines, Journaling};
 use relay_live::{Shared, expire_round};
 use relay_report::{Figures, text_of};
 use std::alloc::{AllocError, Global};
-use std::fs::{File, Files};
 use std::sync::Wait;
 use std::sync::ledger::Ledger;
 use std::thread::{JoinHandle, Scope, Threads};
@@ -88,11 +87,11 @@ fn join_one<R: Threads + Wait>(rt: &R, thread: Option<JoinHandle<()>>) {
 
 /// What is written beside a relay that is served.
 #[derive(Drop)]
-pub(crate) struct Writers<'a, O, K, R> {
+pub(crate) struct Writers<'a, O, K, N, M> {
     /// Its journal, where there is one.
     pub(crate) journaling: Option<Journaling<'a, O, K>>,
     /// Its news log, where it has one.
-    pub(crate) news: Option<HostNewsWriting<'a, R>>,
+    pub(crate) news: Option<NewsWriting<'a, N, M>>,
 }
 
 /// Starts the threads of what goes on beside a relay, none where one is not to be had: of whoever
@@ -104,19 +103,22 @@ pub(crate) fn start_beside<
     F: Figured<R> + Sync,
     O: JournalFile + Drop + Send + 's,
     K: JournalLines + Drop + Send + 's,
-    R: Threads + Wait + Clock + Eprint + Files<File = File> + Sync,
+    N: NewsFile + Drop + Send + 's,
+    M: NewsLines + Drop + Send + 's,
+    R: Threads + Wait + Clock + Eprint + Sync,
 >(
     scope: &'s Scope<'s, E>,
     rt: &'s R,
     side: &'s Desk<'s>,
     relay: &'s F,
-    writers: Writers<'s, O, K, R>,
+    writers: Writers<'s, O, K, N, M>,
 ) -> Option<Beside>
     ensures syncing { IfSome result (λ beside.
         is_some beside.syncing ≡ is_some (syncing_in side.now)) }
     ensures journaling { IfSome result (λ beside.
-        is_some beside.journaling ≡ is_some writers.journaling) }
-    ensures news { IfSome result (λ beside. is_some beside.news ≡ is_some writers.news) }
+        is_some beside.journaling ≡ is_some writers.entry.journaling) }
+    ensures news { IfSome result (λ beside.
+        is_some beside.news ≡ is_some writers.entry.news) }
 {
     let Writers { journaling, news } = writers;
     let Some(attending) = start_side_thread(scope, rt, side, relay) else {
@@ -148,11 +150,17 @@ pub(crate) fn start_beside<
 
 /// Starts the threads of whoever writes the news log and of whoever flushes files, neither where
 /// one is not to be had.
-fn start_files<'s, E, R: Threads + Wait + Clock + Eprint + Files<File = File> + Sync>(
+fn start_files<
+    's,
+    E,
+    N: NewsFile + Drop + Send + 's,
+    M: NewsLines + Drop + Send + 's,
+    R: Threads + Wait + Clock + Eprint + Sync,
+>(
     scope: &'s Scope<'s, E>,
     rt: &'s R,
     side: &'s Desk<'s>,
-    news: Option<HostNewsWriting<'s, R>>,
+    news: Option<NewsWriting<'s, N, M>>,
 ) -> Result<(Option<JoinHandle<()>>, Option<JoinHandle<()>>), NoThread>
     ensures news { IfOk result (λ started. is_some started.0 ≡ is_some news.entry) }
     ensures syncing { IfOk result (λ started.
@@ -170,18 +178,24 @@ fn start_files<'s, E, R: Threads + Wait + Clock + Eprint + Files<File = File> + 
 }
 
 /// Starts the thread of whoever writes the news log, where there is one.
-fn start_news<'s, E, R: Threads + Wait + Clock + Eprint + Files<File = File> + Sync>(
+fn start_news<
+    's,
+    E,
+    N: NewsFile + Drop + Send + 's,
+    M: NewsLines + Drop + Send + 's,
+    R: Threads + Wait + Clock + Sync,
+>(
     scope: &'s Scope<'s, E>,
     rt: &'s R,
     side: &'s Desk<'s>,
-    news: Option<HostNewsWriting<'s, R>>,
+    news: Option<NewsWriting<'s, N, M>>,
 ) -> Result<Option<JoinHandle<()>>, NoThread>
     ensures { IfOk result (λ started. is_some started ≡ is_some news.entry) }
 {
     let Some(writing) = news else {
         return Ok(None);
     };
-    match scope.spawn(move || side.write_news(rt, writing.into_writing())) {
+    match scope.spawn(move || side.write_news(rt, writing)) {
         Ok(started) => Ok(Some(started)),
         Err(_) => Err(NoThread),
     }

@@ -7,11 +7,11 @@ use Rattle.relay_serve.proofs.gate.CountingGate.put_addresses.Goals as goal
 
 -- There is no line yet.
 pub loop-counts-init : goal.loop-counts-init
-loop-counts-init c = ([], refl, sym (append-nil c.args.text.now.items))
+loop-counts-init g c = ([], refl, sym (append-nil c.args.text.now.items))
 
 -- That of the next stands behind them.
 pub loop-counts-preserved : goal.loop-counts-preserved
-loop-counts-preserved c =
+loop-counts-preserved g c =
     let told = c.loop-counts.invariant in
     let own = c.in_ok-put_from.ensures in
     let one = c.counts-item.result in

@@ -3,7 +3,7 @@ use Rattle.relay_serve.proofs.gate.CountingGate.put_peers.Goals as goal
 
 -- The lines of the peers, then their reasons, then their addresses.
 pub returns : goal.returns
-returns c =
+returns g c =
     let peers = c.in_ok-put_counts.ensures in
     let reasons = c.in_ok-put_refusals.ensures in
     let addresses = c.in_ok-put_addresses.ensures in
