@@ -8,37 +8,32 @@ use std::alloc::{AllocError, Global};
 use std::fs::{File, Files, OpenOptions};
 use std::io;
 use std::io::{ErrorKind, Write};
-use std::path::{Path, PathBuf};
+use std::path::Path;
 
-/// A file of the machine, of a path. Nothing of it stays open between two calls: one that was moved
-/// away is made anew by the next.
-pub struct HostNews<'a, R> {
-    rt: &'a R,
-    path: PathBuf,
+/// A file of the machine that lines go behind, open; none where it couldn't be opened.
+#[derive(Drop)]
+pub struct HostNews {
+    file: Option<File>,
 }
 
-// Written out, so that no crate above proves anew how each part is let go.
-impl<R> Drop for HostNews<'_, R> {
-    fn drop(self) {
-        let HostNews { rt: _, path: _ } = self;
-    }
-}
-
-impl<'a, R> HostNews<'a, R> {
-    /// The file of this path, which lies in the folder where it is relative. It is neither opened
-    /// nor made.
-    pub fn at(
-        rt: &'a R,
+impl HostNews {
+    /// The file of this path, which lies in the folder where it is relative: opened here, once, and
+    /// made where it isn't there.
+    pub fn at<R: Files<File = File>>(
+        rt: &R,
         alloc: Global,
         folder: &str,
         path: &str,
-    ) -> Result<HostNews<'a, R>, AllocError> {
+    ) -> Result<HostNews, AllocError> {
         let path = Path::new(folder).join(alloc, path)?;
-        Ok(HostNews { rt, path })
+        match end_of(rt, path.as_str()) {
+            Ok(file) => Ok(HostNews { file: Some(file) }),
+            Err(_) => Ok(HostNews { file: None }),
+        }
     }
 }
 
-impl<R: Files<File = File>> NewsFile for HostNews<'_, R> {
+impl NewsFile for HostNews {
     // Of a file of the machine nothing is promised, so contracts see no octet of it, and nothing
     // says that it is honest.
     ghost written = { λ news. [] };
@@ -46,8 +41,10 @@ impl<R: Files<File = File>> NewsFile for HostNews<'_, R> {
     ghost honest = { λ news. ⊥ };
 
     fn append(&mut self, octets: &[u8]) -> io::Result<()> {
-        let mut file = end_of(self.rt, self.path.as_str())?;
-        file.write_all(octets)
+        match &mut self.file {
+            Some(file) => file.write_all(octets),
+            None => Err(io::Error::from(ErrorKind::NotFound)),
+        }
     }
 }
 

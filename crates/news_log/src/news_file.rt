@@ -12,8 +12,7 @@ pub trait NewsFile {
     /// Nobody else writes it, and what was written stays.
     ghost honest: { Self → Type 0 };
 
-    /// Opens the file, which is made where it isn't there, puts octets behind what is in it, and
-    /// closes it. Where that fails, a front of the octets may stand there.
+    /// Puts octets behind what is in the file. Where that fails, a front of them may stand there.
     fn append(&mut self, octets: &[u8]) -> io::Result<()>
         ensures written { honest self.old
             → OnOk result (written self.new ≡ written self.old ++ octets.now) }

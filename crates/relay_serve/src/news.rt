@@ -78,7 +78,7 @@ pub(crate) fn writing_of<'a, 'n, R: Files<File = File> + Eprint>(
     alloc: Global,
     folder: &str,
     news: Option<News<'n>>,
-) -> Result<Option<NewsWriting<'n, HostNews<'a, R>, PrintedNewsLines<'a, R>>>, AllocError> {
+) -> Result<Option<NewsWriting<'n, HostNews, PrintedNewsLines<'a, R>>>, AllocError> {
     let Some(news) = news else {
         return Ok(None);
     };

@@ -361,7 +361,7 @@ where
         Brand,
         O,
         PrintedLines<'a, R>,
-        HostNews<'a, R>,
+        HostNews,
         PrintedNewsLines<'a, R>,
         R,
     >(
