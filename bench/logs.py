@@ -2,8 +2,9 @@
 """Measures what the news log costs, and prints the table of RESULTS.md, The news log.
 
 logs.py CNRELAY LOAD [ROUNDS]: CNRELAY is the program, LOAD that of bench/load. Three relays run all the time, without a
-log, with `log refused` and with `log all`; each round sends each of them the same, the first by turns. Each line of a
-log is counted at the end. Ends with status 1 where a relay answers what it shouldn't, or a line is missing.
+log, with `log refused` and with `log all`; each round sends each of them the same, the first by turns. The lines of the
+logs are counted at the end: those that came faster than they are written are lost. Ends with status 1 where a relay
+answers what it shouldn't, or a log has a line of what it isn't for.
 """
 import shutil
 import statistics
@@ -84,12 +85,14 @@ def run(folder):
             print(f"| {done} | {connections} | {rates[0]:,.0f} | {rates[1] / rates[0]:.2f} | {rates[2] / rates[0]:.2f}"
                   f" | {costs[0]:.1f} | {costs[1]:.1f} | {costs[2]:.1f} |")
         wanted = [{"+": 0, "-": 0}, {**kinds[1].sent, "+": 0}, kinds[2].sent]
-        for kind, lines in zip(kinds, wanted):
-            if kind.lines() != lines:
-                raise servers.Trouble(f"the log of {kind.name} has {kind.lines()}, not {lines}")
+        print()
+        for kind, most in zip(kinds, wanted):
+            lines = kind.lines()
+            if any(lines[mark] > most[mark] for mark in lines):
+                raise servers.Trouble(f"the log of {kind.name} has {lines}, more than {most}")
             if not kind.server.is_running():
                 raise servers.Trouble(f"{kind.name} ended by itself")
-        print(f"\nEach of {sum(kinds[2].sent.values()):,} lines is there.")
+            print(f"- {kind.name}: {sum(lines.values()):,} of {sum(most.values()):,} lines")
     finally:
         for kind in kinds:
             kind.server.stop()
