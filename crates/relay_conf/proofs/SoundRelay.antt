@@ -83,7 +83,12 @@ name_at : (peers : List Peer) (said : List SaidLine) (i : ℕ) (feed : Feed)
 name_at peers [] i feed e = cc
 name_at peers (Ok (FeedLine name ring expression) ∷ said) zero feed e =
     let one : Feed =
-    record { peer = peer_number peers name; ring = ring; expression = expression } in
+    record {
+      peer = peer_number peers name;
+      ring = ring;
+      expression = expression;
+      hash = None;
+    } in
     (name, refl, ap (λ (f : Feed). f.peer) (sym (same_Some one feed e)))
 name_at peers (Ok (FeedLine name ring expression) ∷ said) (suc i) feed e =
     name_at peers said i feed e

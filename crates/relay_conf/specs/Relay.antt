@@ -281,7 +281,12 @@ feed_of peers (Ok (PeerLine name identity port)) = None
 feed_of peers (Ok (ConnectionsLine name connections)) = None
 feed_of peers (Ok (AllowLine name ranges)) = None
 feed_of peers (Ok (FeedLine name ring expression)) =
-    Some (record { peer = peer_number peers name; ring = ring; expression = expression })
+    Some (record {
+      peer = peer_number peers name;
+      ring = ring;
+      expression = expression;
+      hash = None;
+    })
 
 -- a range of the peer of a name, over these peers (docs/FORMATS.md, Configuration)
 abbrev pub allow_of : List Peer → (name : List ℕ) → Range → Allow

@@ -288,7 +288,12 @@ named_said peers named = unless_fault (first_unknown peers named) (Ok tt)
 -- a feed by the number of its peer
 abbrev pub numbered_feed : List Peer → NamedFeed → Feed
 numbered_feed peers feed =
-    record { peer = peer_number peers feed.name; ring = feed.ring; expression = feed.expression }
+    record {
+      peer = peer_number peers feed.name;
+      ring = feed.ring;
+      expression = feed.expression;
+      hash = None;
+    }
 
 -- a range by the number of its peer
 abbrev pub numbered_allow : List Peer → NamedAllow → Allow

@@ -74,6 +74,7 @@ pub(crate) fn numbered(
             peer,
             ring,
             expression,
+            hash: None,
         })?;
     }
     Ok(feeds)

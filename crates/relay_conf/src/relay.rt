@@ -13,6 +13,7 @@ use crate::binds::{add_bind, binds_or_each};
 use crate::drafts::{LineByLine, read_lines, set_once};
 use crate::expressions::expression_of;
 use crate::faults::{ConfError, Fault, LineFault, Refusal};
+use crate::hash_feeds::HashFeed;
 use crate::names::add_name;
 use crate::peers::{connect, is_peer, known_names, numbered, numbered_allows};
 use crate::reach::{NamedAllow, push_ranges};
@@ -40,13 +41,14 @@ pub struct PeerConnections {
     pub connections: u32,
 }
 
-/// A feed: the number of its peer, the tokens that its ring holds, and the newsgroups that it
-/// takes.
+/// A feed: the number of its peer, the tokens that its ring holds, the newsgroups that it takes,
+/// and the part of the articles that it may have; all of them where none is set.
 #[derive(Drop)]
 pub struct Feed {
     pub peer: u16,
     pub ring: u32,
     pub expression: Expr,
+    pub hash: Option<HashFeed>,
 }
 
 /// The articles' largest size without `maxart`.
