@@ -1,5 +1,5 @@
 //! The part of the articles that a hash feed may have (INN's newsfeeds(5), flag Q).
-ghost use Rattle.std.specs.Prelude.{◌≡◌, ◌≤◌, ◌+◌, ◌%◌, ◌&&◌, nat_le, option_map};
+ghost use Rattle.std.specs.Prelude.{◌≡◌, ◌≤◌, ◌+◌, ◌%◌, ◌&&◌, nat_le, option_map, IfSome};
 ghost use Rattle.relay_model.specs.HashFeeds.{in_hash_feed};
 ghost use Rattle.relay_model.specs.HashFeeds as terms;
 ghost use Rattle.feed_queue.specs.Permission.{hash_view};

@@ -1,6 +1,6 @@
 //! Which feeds may have an article (RFC 5537, section 3.6; docs/PROTOCOL.md, Judging).
 ghost use Rattle.std.specs.Prelude.{◌≡◌, ◌≤◌, [], length, map, slice_get, take, unwrap_or, IfOk};
-ghost use Rattle.std.specs.Option.{IfSome};
+ghost use Rattle.std.specs.Prelude.{IfSome};
 ghost use Rattle.article_parse.specs.Article.{article_view};
 ghost use Rattle.news_terms.specs.Pattern.{permits};
 ghost use Rattle.news_terms.specs.Article as articles;
