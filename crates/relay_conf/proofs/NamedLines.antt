@@ -1,9 +1,12 @@
 -- Lines of relay.conf that begin with the name of a peer.
 use Rattle.std.proofs.Common.{◌≡◌, ℕ, ◌+◌, ◌<◌, Bool, true, false, List, length, drop, get_or}
-use Rattle.std.proofs.Common.{Option, Some, None, Err, refl, ap, ◌∙◌}
+use Rattle.std.proofs.Common.{[], ◌∷◌, Option, Some, None, Result, Err, refl, ap, ap₂, sym, ◌∙◌}
 use Rattle.std.specs.Prelude.{bytes_eq, if◌then◌else◌}
 use Rattle.line_words.specs.Numbers.{number_within}
+use Rattle.relay_conf.specs.declared.faults.Fault.{Fault}
 use Rattle.relay_conf.specs.declared.faults.Fault.TheVariants.{Syntax}
+use Rattle.relay_conf.specs.declared.hash_feeds.HashFeed.{HashFeed}
+use Rattle.relay_conf.specs.HashLines.{hash_behind}
 use Rattle.relay_conf.specs.RelayLines.{RawLine, connections_line, connections_numbered}
 use Rattle.relay_conf.specs.RelayLines.{feed_line, feed_ringed}
 use Rattle.relay_conf.specs.Relay.{connections_for, is_peer}
@@ -39,14 +42,16 @@ connections_said words word number name connections two names numbers =
     ∙ ap connections_line two
 
 -- and with a feed.
-pub feed_said : (words : Option (List ℕ × List ℕ × List ℕ)) (word number text : List ℕ)
-    (name : Option (List ℕ)) (ring : Option ℕ) → Some (word, number, text) ≡ words
-    → name ≡ (if is_name word then Some word else None) → ring ≡ number_within 1 65536 number
-    → named (λ n. feed_ringed n text ring) name ≡ feed_line words
-feed_said words word number text name ring three names numbers =
-    named_if (λ n. feed_ringed n text ring) (is_name word) word name names
-    ∙ ap (λ (r : Option ℕ). if is_name word then feed_ringed word text r else Err Syntax) numbers
-    ∙ ap feed_line three
+pub feed_said : (words : List (List ℕ)) (word number text : List ℕ) (more : List (List ℕ))
+    (name : Option (List ℕ)) (hash : Result (Option HashFeed) Fault) (ring : Option ℕ)
+    → words ≡ word ∷ number ∷ text ∷ more → name ≡ (if is_name word then Some word else None)
+    → hash ≡ hash_behind more → ring ≡ number_within 1 65536 number
+    → named (λ n. feed_ringed n text hash ring) name ≡ feed_line words
+feed_said words word number text more name hash ring is names hashes numbers =
+    named_if (λ n. feed_ringed n text hash ring) (is_name word) word name names
+    ∙ ap₂ (λ (h : Result (Option HashFeed) Fault) (r : Option ℕ).
+    if is_name word then feed_ringed word text h r else Err Syntax) hashes numbers
+    ∙ ap feed_line (sym is)
 
 -- The connections of a name aren't those of another one,
 pub of_another : (all : List PeerConnections) (name : List ℕ) (i : ℕ) (d : PeerConnections)
