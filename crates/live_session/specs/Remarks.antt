@@ -67,6 +67,15 @@ remark_of wants taken (steps.Take id) answer = known_remark id answer
 remark_of wants taken steps.Slot answer = stored_remark wants taken answer
 remark_of wants taken other answer = None
 
+-- what is left of what was taken up once this is remarked: nothing where it was told, else all
+abbrev pub taken_left : Option Taken → Option Remark → Option Taken
+taken_left taken (Some (remarks.Stored told)) = None
+taken_left taken other = taken
+
+-- by this nothing of what was taken up is told, whatever that is
+abbrev pub TellsNoTaken : Option Remark → Type 0
+TellsNoTaken remark = (taken : Option Taken) → taken_left taken remark ≡ taken
+
 -- the article was known
 abbrev pub is_known : Option Remark → Bool
 is_known (Some (remarks.Known id)) = true
@@ -78,7 +87,8 @@ Prepares old (steps.Push group) job new = TakesUp old job new
 Prepares old other job new = new ≡ old
 
 -- The step was done, and the session heard what it is answered; what is remarked is of this step
--- and this answer, and of an article that is stored what was taken up of it.
+-- and this answer, and of an article that is stored what was taken up of it, which stays until it
+-- is told.
 pub record HasRemarked {J : Type 0} {g : Ghosts J} (channels : List JobChannel) (step : Step)
     (old : LiveSession J g) (turned : Turned) (new : LiveSession J g) (before after : Remarks)
     : Type 0 where
@@ -89,6 +99,8 @@ pub record HasRemarked {J : Type 0} {g : Ghosts J} (channels : List JobChannel) 
   pub did : DidStep channels step old answer between
   pub heard : HasHeard between answer turned new
   pub remark : after.remark ≡ remark_of mid.wants_stored mid.taken step answer
+  pub left : after.taken ≡ taken_left mid.taken after.remark
+  pub wants : after.wants_stored ≡ mid.wants_stored
 
 -- the same of each step but one that reads a block, of which nothing is remarked
 abbrev pub RemarksOn : {J : Type 0} {g : Ghosts J} → List JobChannel → Step

@@ -3,7 +3,7 @@ ghost use Rattle.std.specs.Prelude.{◌≡◌, IfOk, IfSome, None};
 ghost use Rattle.std.specs.Option.{option_copied};
 ghost use Rattle.live_session.specs.Remarks as terms;
 ghost use Rattle.live_session.specs.Remarks.{IsOfJob, Prepares, TakesUp, remark_in, remark_of};
-ghost use Rattle.live_session.specs.Remarks.{taken_in, wants_in};
+ghost use Rattle.live_session.specs.Remarks.{TellsNoTaken, taken_in, taken_left, wants_in};
 
 use article_verdict::Reason;
 use buffer_group::Job;
@@ -101,6 +101,8 @@ impl Remarks {
     pub(crate) fn note(&mut self, step: Step, answer: &Answer<'_>)
         ensures remark { remark_in self.new
             ≡ remark_of (wants_in self.old) (taken_in self.old) step answer.now }
+        // What was taken up stays until it is told.
+        ensures left { taken_in self.new ≡ taken_left (taken_in self.old) (remark_in self.new) }
         ensures wants { wants_in self.new ≡ wants_in self.old }
     {
         self.remark = match step {
@@ -118,6 +120,7 @@ impl Remarks {
     fn stored(&mut self, answer: &Answer<'_>) -> Option<Remark>
         ensures remark { result
             ≡ terms.stored_remark (wants_in self.old) (taken_in self.old) answer.now }
+        ensures left { taken_in self.new ≡ taken_left (taken_in self.old) result }
         ensures wants { wants_in self.new ≡ wants_in self.old }
     {
         match answer {
@@ -151,7 +154,8 @@ fn taken_of(alloc: Global, job: &Job) -> Option<Taken>
 
 /// What is remarked where an article was refused.
 fn refused(id: MsgId, reason: Reason, answer: &Answer<'_>) -> Option<Remark>
-    ensures { result ≡ terms.refused_remark id reason answer.now }
+    ensures remark { result ≡ terms.refused_remark id reason answer.now }
+    ensures left { TellsNoTaken result }
 {
     match answer {
         Answer::Nothing => Some(Remark::Refused(id, reason)),
@@ -164,7 +168,8 @@ fn refused(id: MsgId, reason: Reason, answer: &Answer<'_>) -> Option<Remark>
 
 /// What is remarked where an accepted article was to be stored.
 fn known(id: MsgId, answer: &Answer<'_>) -> Option<Remark>
-    ensures { result ≡ terms.known_remark id answer.now }
+    ensures remark { result ≡ terms.known_remark id answer.now }
+    ensures left { TellsNoTaken result }
 {
     match answer {
         Answer::Take(Take::Seen) => Some(Remark::Known(id)),

@@ -7,6 +7,8 @@ use http_server::Log;
 /// What is told of the news log.
 #[derive(Clone, Copy)]
 pub enum NewsLine {
+    /// The file at the log's path can't be opened.
+    Unopened,
     /// Lines can't be written.
     Unwritten,
     /// So many lines were lost.
@@ -54,6 +56,7 @@ impl<R: Eprint> NewsLines for PrintedNewsLines<'_, R> {
 /// Prints a line of the news log on standard error.
 fn print_line<R: Eprint>(rt: &R, line: NewsLine) {
     let _lost = match line {
+        NewsLine::Unopened => eprintln!(rt; "failed file=log kind=Open"),
         NewsLine::Unwritten => eprintln!(rt; "failed file=log kind=Write"),
         NewsLine::Lost(count) => eprintln!(rt; "left file=log lines={count}"),
     };

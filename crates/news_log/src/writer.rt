@@ -1,16 +1,17 @@
 //! Lines are written to their file.
 ghost use Rattle.std.specs.Prelude.{◌≡◌};
 ghost use Rattle.news_log.specs.Writing as terms;
-ghost use Rattle.news_log.specs.Writing.{IsNewWriter, Loses, TellsLost, Writes, WritesBatch};
-ghost use Rattle.news_log.specs.Writing.{WritesSome};
+ghost use Rattle.news_log.specs.Writing.{Appends, IsNewWriter, Looks, Loses, TellsLost, Writes};
+ghost use Rattle.news_log.specs.Writing.{WritesBatch, WritesSome};
 
 use crate::news_file::NewsFile;
 use crate::news_lines::{NewsLine, NewsLines};
 use crate::waiting::Lines;
 
-/// Who writes lines to their file. Lines that can't be written count as lost, and so do those that
-/// never came; how many were lost is told once lines are written again. Of the writes that fail
-/// until then the first is told.
+/// Who writes lines to their file, which is looked at before each write, so that one that was moved
+/// is written on to no more. Lines that can't be written count as lost, and so do those that never
+/// came; how many were lost is told once lines are written again. Of the writes that fail until
+/// then the first is told, and of the looks that fail until one doesn't.
 #[derive(Drop)]
 pub struct NewsWriter<F, L> {
     file: F,
@@ -19,6 +20,8 @@ pub struct NewsWriter<F, L> {
     lost: u64,
     /// Whether it is told that lines can't be written, since some were last.
     is_told: bool,
+    /// Whether it is told that the file can't be opened, since it was last.
+    is_unopened: bool,
 }
 
 impl<F: NewsFile, L: NewsLines> NewsWriter<F, L> {
@@ -31,6 +34,17 @@ impl<F: NewsFile, L: NewsLines> NewsWriter<F, L> {
             lines,
             lost: 0,
             is_told: false,
+            is_unopened: false,
+        }
+    }
+
+    /// Looks whether the file is still what stands at its path, and opens it where it isn't.
+    pub fn look(&mut self)
+        ensures { Looks ⟦<F as NewsFile>⟧ L.NewsLines self.old self.new }
+    {
+        match self.file.look() {
+            Ok(()) => self.is_unopened = false,
+            Err(_) => self.tell_unopened(),
         }
     }
 
@@ -72,9 +86,17 @@ impl<F: NewsFile, L: NewsLines> NewsWriter<F, L> {
         true
     }
 
-    /// Writes the octets of lines.
+    /// Writes the octets of lines to the file that stands at its path by now.
     fn write(&mut self, octets: &[u8])
         ensures { Writes ⟦<F as NewsFile>⟧ L.NewsLines octets.now self.old self.new }
+    {
+        self.look();
+        self.append(octets);
+    }
+
+    /// Puts the octets of lines behind what the file has.
+    fn append(&mut self, octets: &[u8])
+        ensures { Appends ⟦<F as NewsFile>⟧ L.NewsLines octets.now self.old self.new }
     {
         match self.file.append(octets) {
             Ok(()) => {
@@ -85,6 +107,16 @@ impl<F: NewsFile, L: NewsLines> NewsWriter<F, L> {
                 self.lose(lines_in(octets));
                 self.tell_unwritten();
             }
+        }
+    }
+
+    /// Tells that the file can't be opened, where that isn't told.
+    fn tell_unopened(&mut self)
+        ensures { terms.TellsUnopened L.NewsLines self.old self.new }
+    {
+        if !self.is_unopened {
+            self.lines.tell(NewsLine::Unopened);
+            self.is_unopened = true;
         }
     }
 

@@ -57,6 +57,8 @@ impl<'a, F: NewsFile + Drop, L: NewsLines + Drop> NewsWriting<'a, F, L> {
             spare,
         } = self;
         let mut batch = spare;
+        // Before any line comes, so that whoever started the relay sees what is wrong with it.
+        writer.look();
         for _ in rt.forever() {
             // Asked before the batch is taken, so that the last one has all that was put.
             let has_ended = end.load(Ordering::SeqCst);

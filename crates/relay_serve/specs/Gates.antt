@@ -1,8 +1,11 @@
 -- What is told of a peer's sessions (docs/OPERATING.md, Lines).
-use Rattle.std.specs.Prelude.{◌≡◌, ◌⊎◌, ℕ, List, [], ◌∷◌, ◌++◌, codes, decimal, map}
+use Rattle.std.specs.Prelude.{◌≡◌, ◌⊎◌, ℕ, Bool, List, [], ◌∷◌, ◌++◌, Option, codes, decimal}
+use Rattle.std.specs.Prelude.{map}
+use Rattle.std.specs.Option.{option_map}
 use Rattle.live_session.specs.declared.wire.Finish.{Finish}
 use Rattle.live_session.specs.declared.wire.Finish.TheVariants as finishes
 use Rattle.live_wire.specs.declared.tally.Tally.{Tally}
+use Rattle.relay_serve.specs.News.{all_in}
 use Rattle.relay_serve.specs.declared.gate.CountingGate.{CountingGate}
 use Rattle.relay_serve.specs.declared.refusals.Placed.{Placed}
 use Rattle.relay_serve.specs.declared.refusals.Refused.{Refused}
@@ -80,6 +83,10 @@ IsFromLine name line = (line ≡ []) ⊎ ((address : List ℕ) × (line ≡ from
 -- the names of a gate's peers, in their order
 abbrev pub names_of : CountingGate → List (List ℕ)
 names_of gate = map (λ counts. counts.name.now) gate.counts.items
+
+-- of which articles a gate has lines put, where it has any put
+abbrev pub news_in : CountingGate → Option Bool
+news_in gate = option_map all_in gate.news
 
 -- the text is what is told of each of these peers, in their order
 abbrev pub AreLinesOf : (IsLine : List ℕ → List ℕ → Type 0) → (names : List (List ℕ))

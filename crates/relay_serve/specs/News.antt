@@ -1,11 +1,29 @@
 -- The line of what became of an article (docs/FORMATS.md, News log).
-use Rattle.std.specs.Prelude.{ℕ, List, bytes_eq, codes, take, Some, None, if◌then◌else◌}
+use Rattle.std.specs.Prelude.{ℕ, Bool, false, List, bytes_eq, codes, take, Option, Some, None}
+use Rattle.std.specs.Prelude.{if◌then◌else◌}
 use Rattle.article_verdict.specs.Verdict.{reason_name, reason_view}
 use Rattle.live_session.specs.declared.remarks.Remark.{Remark}
 use Rattle.live_session.specs.declared.remarks.Remark.TheVariants as remarks
 use Rattle.news_log.specs.Lines.{IsAcceptedLine, IsRefusedLine}
 use Rattle.news_log.specs.declared.moments.Moment.{Moment}
+use Rattle.relay_conf.specs.declared.settings.NewsLog.{NewsLog}
 use Rattle.relay_conf.specs.declared.settings.Relay.{Relay}
+use Rattle.relay_serve.specs.declared.news.News.{News}
+use Rattle.std.specs.Option.{option_map}
+
+-- the lines of stored articles are put too
+abbrev pub all_in : News → Bool
+all_in news = news.all
+
+-- of which articles a relay with this setting has lines put, where it logs any: of all that it
+-- takes or refuses, or of those that it refuses
+abbrev pub all_of : Relay → Option Bool
+all_of relay = option_map (λ (log : NewsLog). log.all) relay.log
+
+-- lines of stored articles are put, where any are
+abbrev pub wants_all : Option Bool → Bool
+wants_all None = false
+wants_all (Some all) = all
 
 -- the code of the reply by which an article isn't taken: 437 to IHAVE, 439 to TAKETHIS (RFC 3977
 -- section 6.3.2, RFC 4644 section 2.5)

@@ -1,9 +1,11 @@
 //! The gate of a relay that is served.
 ghost use Rattle.std.specs.Prelude.{◌≡◌, ◌++◌, List, ℕ, Some, IfOk, OnOk, length};
+ghost use Rattle.std.specs.Option.{option_map};
 ghost use Rattle.relay_serve.specs.Gates.{AreFromLines, ArePeerLines, ArePeersTold};
 ghost use Rattle.relay_serve.specs.Gates.{AreReasonsLines, IsFromLine, IsPeerLine};
 ghost use Rattle.relay_serve.specs.Gates.{IsReasonsLine, finish_word};
-ghost use Rattle.relay_serve.specs.Gates.{names_of, told_text};
+ghost use Rattle.relay_serve.specs.Gates.{names_of, news_in, told_text};
+ghost use Rattle.relay_serve.specs.News.{all_in, wants_all};
 
 use crate::news::News;
 use crate::refusals::Refusals;
@@ -164,7 +166,8 @@ impl<'a> CountingGate<'a> {
         peers: &'a [Peer],
         news: Option<News<'a>>,
     ) -> Result<CountingGate<'a>, AllocError>
-        ensures { IfOk result (λ gate. length (names_of gate) ≡ length peers.now) }
+        ensures names { IfOk result (λ gate. length (names_of gate) ≡ length peers.now) }
+        ensures news { IfOk result (λ gate. news_in gate ≡ option_map all_in news.entry) }
     {
         let mut counts = Vec::new(alloc);
         for peer in peers {
@@ -175,11 +178,6 @@ impl<'a> CountingGate<'a> {
             counts,
             news,
         })
-    }
-
-    /// Where lines of articles are put, if they are.
-    pub(crate) fn news(&self) -> Option<News<'a>> {
-        self.news
     }
 
     /// Puts what is told of each peer behind a text.
@@ -267,7 +265,9 @@ impl<R: Eprint + Wait + Clock> Gate<R> for CountingGate<'_> {
         }
     }
 
-    fn wants_stored(&self) -> bool {
+    fn wants_stored(&self) -> bool
+        ensures { result ≡ wants_all (news_in self.now) }
+    {
         match &self.news {
             Some(news) => news.is_of_all(),
             None => false,

@@ -1,16 +1,16 @@
 //! Lines of articles in the news log (docs/FORMATS.md, News log).
 ghost use Rattle.std.specs.Prelude.{◌≡◌, IfOk};
+ghost use Rattle.std.specs.Option.{option_map};
 ghost use Rattle.news_log.specs.Lines.{IsAcceptedLine};
-ghost use Rattle.relay_serve.specs.News.{IsNewsLine, code_in};
+ghost use Rattle.relay_serve.specs.News.{IsNewsLine, all_in, all_of, code_in};
 
 use live_session::{Remark, Taken};
 use news_log::{
-    HostNews, Moment, NewsWriter, NewsWriting, PendingLines, PrintedNewsLines, ROOM, accepted_line,
+    Moment, NewsFile, NewsWriter, NewsWriting, PendingLines, PrintedNewsLines, ROOM, accepted_line,
     moment_of, refused_line,
 };
 use relay_conf::Relay;
 use std::alloc::{AllocError, Global};
-use std::fs::{File, Files};
 use std::str;
 use std::sync::Wait;
 use std::time::Clock;
@@ -26,7 +26,9 @@ pub(crate) struct News<'a> {
 
 impl<'a> News<'a> {
     /// Where a relay's lines are put, if it logs any.
-    pub(crate) fn of(relay: &'a Relay, pending: &'a PendingLines) -> Option<News<'a>> {
+    pub(crate) fn of(relay: &'a Relay, pending: &'a PendingLines) -> Option<News<'a>>
+        ensures { option_map all_in result ≡ all_of relay.now }
+    {
         match &relay.log {
             Some(log) => Some(News {
                 relay,
@@ -44,7 +46,9 @@ impl<'a> News<'a> {
     }
 
     /// Whether stored articles have lines too.
-    pub(crate) fn is_of_all(&self) -> bool {
+    pub(crate) fn is_of_all(&self) -> bool
+        ensures { result ≡ all_in self.now }
+    {
         self.all
     }
 
@@ -71,20 +75,22 @@ pub(crate) fn pending_of(alloc: Global, relay: &Relay) -> Result<PendingLines, A
     PendingLines::new(alloc, room)
 }
 
-/// What writes a relay's news log in its folder, where it has one. A path that is no UTF-8 names no
-/// file: that is told, and its lines are lost.
-pub(crate) fn writing_of<'a, 'n, R: Files<File = File> + Eprint>(
+/// What writes a relay's news log in its folder, where it has one, to this file. A path that is no
+/// UTF-8 names no file: that is told, and its lines are lost.
+pub(crate) fn writing_of<'a, 'n, N: NewsFile + Drop, R: Eprint>(
     rt: &'a R,
     alloc: Global,
     folder: &str,
     news: Option<News<'n>>,
-) -> Result<Option<NewsWriting<'n, HostNews, PrintedNewsLines<'a, R>>>, AllocError> {
+    file: N,
+) -> Result<Option<NewsWriting<'n, N, PrintedNewsLines<'a, R>>>, AllocError> {
+    let mut file = file;
     let Some(news) = news else {
         return Ok(None);
     };
     match news.path() {
         Some(path) => {
-            let file = HostNews::at(rt, alloc, folder, path)?;
+            file.name(alloc, folder, path)?;
             let writer = NewsWriter::new(file, PrintedNewsLines::new(rt));
             let writing = NewsWriting::new(alloc, writer, news.pending, ROOM)?;
             Ok(Some(writing))

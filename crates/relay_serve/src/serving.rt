@@ -25,7 +25,7 @@ use file_blocks::FileBlocks;
 use live_journal::PendingJournal;
 use live_store::ArticleLog;
 use live_wire::{Callers, Port, Stop};
-use news_log::{HostNews, PrintedNewsLines};
+use news_log::{NewsFile, NewsLines, NewsWriting};
 use relay_conf::Config;
 use relay_folder::{
     Control, HistoryPlace, HostHistory, HostJournal, JournalFile, JournalPlace, Origin,
@@ -57,14 +57,16 @@ use std::time::Clock;
 /// is asked. Then it begins: from nothing where that is asked for (`fresh`), or where neither a
 /// history nor a buffer was kept there, else from what it was stopped with. Once it was told to
 /// stop, or each port has served so many connections, it is stopped, its history is kept, and the
-/// report is written. What it does is told in lines on standard error.
-pub fn serve_on<R, W: Write>(
+/// report is written. What it does is told in lines on standard error. `news` is the file of its
+/// news log, which is named here where the relay has one.
+pub fn serve_on<R, N: NewsFile + Drop + Send, W: Write>(
     rt: &R,
     alloc: Global,
     config: &Config,
     folder: &str,
     sessions: Option<u32>,
     fresh: bool,
+    news: N,
     writer: &mut W,
 ) -> Result<(), ServeError>
 where
@@ -85,7 +87,9 @@ where
         lines: PrintedLines::new(rt),
     };
     let lines = pending_of(alloc, &config.relay)?;
-    let gate = CountingGate::new(alloc, &config.relay.peers, News::of(&config.relay, &lines))?;
+    let logged = News::of(&config.relay, &lines);
+    let gate = CountingGate::new(alloc, &config.relay.peers, logged)?;
+    let writing = writing_of(rt, alloc, folder, logged, news)?;
     let callers = callers_of(alloc, &config.relay)?;
     let stop = Stop::new();
     let asked = Asked {
@@ -101,6 +105,7 @@ where
         &asked,
         &stop,
         &gate,
+        writing,
         &mut history,
         &mut journal,
         writer,
@@ -137,13 +142,22 @@ struct Asked<'a> {
 
 /// Opens what a relay is served over, last the socket by which it is asked, runs the relay, and
 /// takes the socket away.
-fn open_and_run<R, H: HistoryPlace, P: JournalPlace, L: JournalLines, W: Write>(
+fn open_and_run<
+    R,
+    N: NewsFile + Drop + Send,
+    M: NewsLines + Drop + Send,
+    H: HistoryPlace,
+    P: JournalPlace,
+    L: JournalLines,
+    W: Write,
+>(
     rt: &R,
     alloc: Global,
     config: &Config,
     asked: &Asked<'_>,
     stop: &Stop,
     gate: &CountingGate<'_>,
+    news: Option<NewsWriting<'_, N, M>>,
     history: &mut H,
     journal: &mut ToldJournal<P, L>,
     writer: &mut W,
@@ -169,10 +183,10 @@ where
             let desk = Desk::new(alloc, stop, gate, control, doors, syncing);
             tell_serving(rt, peer_sources.len(), unbegun.stores.len());
             let access = Access {
-                folder: asked.folder,
                 peer_sources,
                 gate,
                 desk: &desk,
+                news,
             };
             let answer = begin_and_run(
                 rt, alloc, config, unbegun, history, journal, access, writer,
@@ -182,6 +196,7 @@ where
             answer
         }
         Err(error) => {
+            drop(news);
             drop(doors);
             drop(syncing);
             drop(peer_sources);
@@ -233,26 +248,34 @@ fn tell_serving<R: Eprint>(rt: &R, ports: usize, buffers: usize) {
 
 /// How a relay is had from outside.
 #[derive(Drop)]
-struct Access<'a> {
-    /// Its folder.
-    folder: &'a str,
+struct Access<'a, N, M> {
     /// The ports of its peers.
     peer_sources: Vec<PeerSource<Port<'a>>>,
     gate: &'a CountingGate<'a>,
     desk: &'a Desk<'a>,
+    /// What writes its news log, where it has one.
+    news: Option<NewsWriting<'a, N, M>>,
 }
 
 /// Finds out what the relay begins from, runs it, keeps its history once all that its stores were
 /// given is on their devices, and writes the report. Where there is no memory for the totals the
 /// history is kept all the same.
-fn begin_and_run<R, H: HistoryPlace, P: JournalPlace, L: JournalLines, W: Write>(
+fn begin_and_run<
+    R,
+    N: NewsFile + Drop + Send,
+    M: NewsLines + Drop + Send,
+    H: HistoryPlace,
+    P: JournalPlace,
+    L: JournalLines,
+    W: Write,
+>(
     rt: &R,
     alloc: Global,
     config: &Config,
     unbegun: Unbegun,
     history: &mut H,
     journal: &mut ToldJournal<P, L>,
-    access: Access<'_>,
+    access: Access<'_, N, M>,
     writer: &mut W,
 ) -> Result<(), ServeError>
 where
@@ -299,14 +322,22 @@ fn tell_start<R: Eprint>(rt: &R, origin: &Origin) {
 /// completed, and a relay that was left without a stop repaired first; then a journal of the stop
 /// that is gone on from is begun. Nothing says that a file of the machine is honest, so nothing is
 /// promised of what the stores give.
-fn run_begun<'a, R, H: HistoryPlace, P: JournalPlace, L: JournalLines>(
+fn run_begun<
+    'a,
+    R,
+    N: NewsFile + Drop + Send,
+    M: NewsLines + Drop + Send,
+    H: HistoryPlace,
+    P: JournalPlace,
+    L: JournalLines,
+>(
     rt: &'a R,
     alloc: Global,
     config: &'a Config,
     begun: Beginning<FileBlocks>,
     history: &mut H,
     journal: &mut ToldJournal<P, L>,
-    access: Access<'_>,
+    access: Access<'_, N, M>,
 ) -> Result<Finished<Watched<'a, FileBlocks, R>>, ServeError>
 where
     R: Threads + Wait + Clock + Eprint + Files<File = File> + RandomSource + Sync,
@@ -327,13 +358,19 @@ where
 
 /// Runs the relay over stores that are watched, by the machine's clock. Where no journal was begun
 /// there is no room for what is said to it.
-fn run_watched<'a, R, O: JournalFile + Drop + Send>(
+fn run_watched<
+    'a,
+    R,
+    N: NewsFile + Drop + Send,
+    M: NewsLines + Drop + Send,
+    O: JournalFile + Drop + Send,
+>(
     rt: &'a R,
     alloc: Global,
     config: &'a Config,
     beginning: Beginning<Watched<'a, FileBlocks, R>>,
     begun_journal: Option<BegunJournal<O>>,
-    access: Access<'_>,
+    access: Access<'_, N, M>,
 ) -> Result<Finished<Watched<'a, FileBlocks, R>>, ServeError>
 where
     R: Threads + Wait + Clock + Eprint + Files<File = File> + RandomSource + Sync,
@@ -354,17 +391,8 @@ where
         }
         None => None,
     };
-    let news = writing_of(rt, alloc, access.folder, access.gate.news())?;
-    run_relay::<
-        Watched<'a, FileBlocks, R>,
-        Brand,
-        Brand,
-        O,
-        PrintedLines<'a, R>,
-        HostNews,
-        PrintedNewsLines<'a, R>,
-        R,
-    >(
+    let news = access.news;
+    run_relay::<Watched<'a, FileBlocks, R>, Brand, Brand, O, PrintedLines<'a, R>, N, M, R>(
         rt,
         alloc,
         config,

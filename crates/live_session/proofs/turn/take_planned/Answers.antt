@@ -51,4 +51,6 @@ returns-in_default-clause-remark g c =
       did = c.share-answer.ensures;
       heard = c.hear.ensures;
       remark = c.note.ensures.remark;
+      left = c.note.ensures.left;
+      wants = c.note.ensures.wants;
     })
