@@ -136,7 +136,8 @@ shared_stays w x s now (Looks part id) answer y e = ap (λ (v : World). v.work.e
 shared_stays w x s now (Reads asked token had) answer y reads =
     reading_stays w x token answer y reads
 shared_stays w x s now (TakesQueue feed most) answer y e = ap (λ (v : World). v.work.expirer) e.1
-shared_stays w x s now (Refuses transfer id reason) answer y e = ap (λ (v : World). v.work.expirer) e.1
+shared_stays w x s now (Refuses transfer id reason) answer y e =
+    ap (λ (v : World). v.work.expirer) e.1
 shared_stays w x s now (Takes transfer id article) answer y e =
     ap (λ (v : World). v.work.expirer) e.1
 shared_stays w x s now (Pushes job) answer y e =

@@ -165,7 +165,8 @@ Hears s session (Reads asked token had) answer heard =
 Hears s session (TakesQueue feed most) answer heard =
     (missed : ℕ) × (items : List (ℕ × Token)) × (answer ≡ ToTakeQueue missed items)
     × (heard ≡ says session (QueueFollows missed items))
-Hears s session (Refuses transfer id reason) answer heard = heard ≡ says session (rejected transfer id)
+Hears s session (Refuses transfer id reason) answer heard =
+    heard ≡ says session (rejected transfer id)
 Hears s session (Takes transfer id article) answer heard =
     (told : TakeAnswer) × (answer ≡ ToTake told)
     × (heard ≡ take_heard s session transfer id article told)
