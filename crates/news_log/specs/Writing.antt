@@ -91,9 +91,9 @@ pub record TellsUnwritten {F L : Type 0} (l : lines.Ghosts L) (old new : NewsWri
   pub lost : new.lost ≡ old.lost
   pub file : new.file ≡ old.file
 
--- Octets of lines were put behind what the file has: it grew by just these, and how many lines were lost before
--- was told. Or this has failed, and was told where no failure was: then the file grew by a front of
--- them at most, and all these lines count as lost until that is told.
+-- Octets of lines were put behind what the file has: it grew by just these, and how many lines
+-- were lost before was told. Or this has failed, and was told where no failure was: then the file
+-- grew by a front of them at most, and all these lines count as lost until that is told.
 pub record Appends {F L : Type 0} (f : files.Ghosts F) (l : lines.Ghosts L) (octets : List ℕ)
     (old new : NewsWriter F L)
     : Type 0 where

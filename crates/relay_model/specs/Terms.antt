@@ -10,8 +10,8 @@ use Rattle.relay_model.specs.HashFeeds.{HashFeed}
 pub data Reason : Type 0 where
   Size Grammar IdMismatch BadPath Loop Date NoClass TooLarge : Reason
 
--- a feed: its peer, how many tokens its ring holds, the newsgroups that it may have, and the part of
--- the articles that it may have, where not all
+-- a feed: its peer, how many tokens its ring holds, the newsgroups that it may have, and the part
+-- of the articles that it may have, where not all
 pub record FeedTerms : Type 0 where
   pub peer : ℕ
   pub ring : ℕ

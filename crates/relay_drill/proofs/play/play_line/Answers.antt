@@ -15,7 +15,8 @@ bring-requires g c =
 
 pub returns-in-Open : goal.returns-in-Open
 returns-in-Open g c = λ next.
-    done_for c.args.manner.reasons _ _ _ _ _ _ c.args.manner.groups c.args.line.now _ (stand_view c.args.stand.now) next
+    done_for c.args.manner.reasons _ _ _ _ _ _ c.args.manner.groups c.args.line.now _
+    (stand_view c.args.stand.now) next
     c.in-Open.is (c.open.ensures next)
 
 pub returns-in-Bring : goal.returns-in-Bring
@@ -28,7 +29,8 @@ returns-in-Bring g c = λ next.
     c.bring.result (bring_each c.in-Bring.session them (next stand)) (next stand) c.args.relay.now
     c.bring.new.relay (g.W.Write.contents c.args.writer.now)
     (g.W.Write.contents c.bring.new.writer) in
-    done_for c.args.manner.reasons _ _ _ _ _ _ c.args.manner.groups c.args.line.now _ (stand_view c.args.stand.now) next
+    done_for c.args.manner.reasons _ _ _ _ _ _ c.args.manner.groups c.args.line.now _
+    (stand_view c.args.stand.now) next
     c.in-Bring.is (subst P (sym pieces) (bring (next stand)))
 
 pub returns-in-Split : goal.returns-in-Split
@@ -40,29 +42,34 @@ returns-in-Split g c = λ next.
 
 pub returns-in-Turn : goal.returns-in-Turn
 returns-in-Turn g c = λ next.
-    done_for c.args.manner.reasons _ _ _ _ _ _ c.args.manner.groups c.args.line.now _ (stand_view c.args.stand.now) next
+    done_for c.args.manner.reasons _ _ _ _ _ _ c.args.manner.groups c.args.line.now _
+    (stand_view c.args.stand.now) next
     c.in-Turn.is (c.perform.ensures (next (at_moment (stand_view c.args.stand.now) c.in-Turn.now)))
 
 pub returns-in-Write : goal.returns-in-Write
 returns-in-Write g c = λ next.
-    done_for c.args.manner.reasons _ _ _ _ _ _ c.args.manner.groups c.args.line.now _ (stand_view c.args.stand.now) next
+    done_for c.args.manner.reasons _ _ _ _ _ _ c.args.manner.groups c.args.line.now _
+    (stand_view c.args.stand.now) next
     c.in-Write.is (c.perform-in-Write.ensures
     (next (at_moment (stand_view c.args.stand.now) c.in-Write.now)))
 
 pub returns-in-Rounds : goal.returns-in-Rounds
 returns-in-Rounds g c = λ next.
     let rounds = rw c.deref-in-Rounds.ensures.value at c.rounds.ensures in
-    done_for c.args.manner.reasons _ _ _ _ _ _ c.args.manner.groups c.args.line.now _ (stand_view c.args.stand.now) next
+    done_for c.args.manner.reasons _ _ _ _ _ _ c.args.manner.groups c.args.line.now _
+    (stand_view c.args.stand.now) next
     c.in-Rounds.is (rounds (next (at_moment (stand_view c.args.stand.now) c.in-Rounds.now)))
 
 pub returns-in-Break : goal.returns-in-Break
 returns-in-Break g c = λ next.
-    done_for c.args.manner.reasons _ _ _ _ _ _ c.args.manner.groups c.args.line.now _ (stand_view c.args.stand.now) next
+    done_for c.args.manner.reasons _ _ _ _ _ _ c.args.manner.groups c.args.line.now _
+    (stand_view c.args.stand.now) next
     c.in-Break.is (c.perform-in-Break.ensures (next (stand_view c.args.stand.now)))
 
 pub returns-in-Expire : goal.returns-in-Expire
 returns-in-Expire g c = λ next.
-    done_for c.args.manner.reasons _ _ _ _ _ _ c.args.manner.groups c.args.line.now _ (stand_view c.args.stand.now) next
+    done_for c.args.manner.reasons _ _ _ _ _ _ c.args.manner.groups c.args.line.now _
+    (stand_view c.args.stand.now) next
     c.in-Expire.is (c.perform-in-Expire.ensures
     (next (at_moment (stand_view c.args.stand.now) c.in-Expire.now)))
 
@@ -75,13 +82,15 @@ returns-in-Fail g c = λ next.
 
 pub returns-in-Restart : goal.returns-in-Restart
 returns-in-Restart g c = λ next.
-    done_for c.args.manner.reasons _ _ _ _ _ _ c.args.manner.groups c.args.line.now _ (stand_view c.args.stand.now) next
+    done_for c.args.manner.reasons _ _ _ _ _ _ c.args.manner.groups c.args.line.now _
+    (stand_view c.args.stand.now) next
     c.in-Restart.is
     (c.restart.ensures (next (stand_view c.args.stand.now)))
 
 pub returns-in-Report : goal.returns-in-Report
 returns-in-Report g c = λ next.
-    done_for c.args.manner.reasons _ _ _ _ _ _ c.args.manner.groups c.args.line.now _ (stand_view c.args.stand.now) next
+    done_for c.args.manner.reasons _ _ _ _ _ _ c.args.manner.groups c.args.line.now _
+    (stand_view c.args.stand.now) next
     c.in-Report.is
     (c.print_report.ensures c.args.manner.reasons (next (stand_view c.args.stand.now)))
 

@@ -8,4 +8,5 @@ returns c =
     rw (← c.as_slice-own.ensures, ← c.deref.ensures.value)
     (two (two (two (two (two (two (two (two c.put_setting-text.ensures c.put_number-text.ensures)
     c.put_number-text-2.ensures) c.put_remember-text.ensures) c.put_number-text-3.ensures)
-    c.put_sync-text.ensures) c.put_offers-text.ensures) c.put_log-text.ensures) c.put_addresses.ensures)
+    c.put_sync-text.ensures) c.put_offers-text.ensures) c.put_log-text.ensures)
+    c.put_addresses.ensures)

@@ -6,5 +6,6 @@ use Rattle.relay_serve.proofs.gate.CountingGate.put_refusals.Given as goal
 abbrev pub invariant-loop-counts : goal.invariant-loop-counts
 invariant-loop-counts l =
     (more : List ℕ)
-    × AreReasonsLines (map (λ counts. counts.name.now) (take l.counts-index l.self.counts.items)) more
+    × AreReasonsLines (map (λ counts. counts.name.now) (take l.counts-index l.self.counts.items))
+    more
     × (l.text.items ≡ l.fn.text.items ++ more)
