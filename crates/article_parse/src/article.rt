@@ -28,6 +28,7 @@ pub struct Article<'a> {
     body_at: usize,
     id: MsgId,
     newsgroups_line: Vec<u8>,
+    ghost is_id: { id ≡ message_id (map field_view fields.items) },
     ghost is_newsgroups_line: { newsgroups_line.items
         ≡ unfolded_newsgroups (map field_view fields.items) },
     ghost is_article: { ∥ IsArticleText text.now
@@ -130,7 +131,8 @@ impl<'a> Article<'a> {
 
     /// The message-id: the Message-ID without white space at its ends (RFC 5536, section 3.1.3).
     pub fn id(&self) -> &MsgId
-        ensures { result.now ≡ id_view self.now }
+        ensures kept { result.now ≡ id_view self.now }
+        ensures content { result.now ≡ message_id (article_view self.now).fields }
     {
         &self.id
     }

@@ -6,6 +6,7 @@
 #![tactic(auto)]
 
 mod desk;
+mod hashes;
 pub mod laws;
 mod permission;
 mod rings;

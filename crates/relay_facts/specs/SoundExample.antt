@@ -26,7 +26,7 @@ one_entry =
 
 -- a feed of the one peer
 abbrev pub one_feed : FeedTerms
-one_feed = record { peer = 0; ring = 4; expression = [] }
+one_feed = record { peer = 0; ring = 4; expression = []; hash = None }
 
 -- the terms with these
 abbrev pub sound_terms : Terms

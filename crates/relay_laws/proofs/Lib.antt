@@ -15,6 +15,7 @@ pub mod Forgotten
 pub mod FoundLive
 pub mod Gained
 pub mod Gone
+pub mod HashPlaces
 pub mod JobsTold
 pub mod KnownTokens
 pub mod OfferDues

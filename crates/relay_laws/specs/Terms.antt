@@ -33,7 +33,7 @@ every_article =
 
 -- the second peer's feed
 abbrev pub feed_of_second : FeedTerms
-feed_of_second = record { peer = 1; ring = 2; expression = all_groups }
+feed_of_second = record { peer = 1; ring = 2; expression = all_groups; hash = None }
 
 -- the first second of 2021, at which all happens
 abbrev pub now : ℕ

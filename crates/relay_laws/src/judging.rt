@@ -8,6 +8,7 @@ ghost use Rattle.news_terms.specs.Path.{has_identity};
 ghost use Rattle.news_terms.specs.Pattern.{permits};
 ghost use Rattle.news_terms.specs.StorageClass.{Entry, chosen_entry};
 ghost use Rattle.relay_model.specs.Claims.{Accepted};
+ghost use Rattle.relay_model.specs.HashFeeds.{in_hash_feed};
 ghost use Rattle.relay_model.specs.Judging.{Judges, identity_of, is_permitted, judged, path_of};
 ghost use Rattle.relay_model.specs.Judging.{permitted, second_of, stored_text};
 ghost use Rattle.relay_model.specs.Terms.{Terms, FeedTerms, Reason, Size, Grammar, IdMismatch};
@@ -73,7 +74,7 @@ pub fn first_reason_is_said()
 {}
 
 /// A feed may have an article whose newsgroups its expression permits, whose Path hasn't its peer,
-/// and that didn't come from its peer; no other.
+/// that didn't come from its peer, and whose message-id falls in its part; no other.
 pub fn feeds_are_permitted()
     ensures expression { (w : Terms) (from : ℕ) (a : Article) (feed : FeedTerms)
         → is_permitted w from a feed ≡ true
@@ -83,8 +84,12 @@ pub fn feeds_are_permitted()
         → has_identity (identity_of w feed.peer) (path_of a) ≡ false }
     ensures source { (w : Terms) (from : ℕ) (a : Article) (feed : FeedTerms)
         → is_permitted w from a feed ≡ true → feed.peer ≢ from }
+    ensures hash { (w : Terms) (from : ℕ) (a : Article) (feed : FeedTerms)
+        → is_permitted w from a feed ≡ true
+        → in_hash_feed feed.hash (message_id a.fields) ≡ true }
     ensures every { (w : Terms) (from : ℕ) (a : Article) (feed : FeedTerms)
         → permits feed.expression (newsgroups a.fields) ≡ true
         → has_identity (identity_of w feed.peer) (path_of a) ≡ false → feed.peer ≢ from
+        → in_hash_feed feed.hash (message_id a.fields) ≡ true
         → is_permitted w from a feed ≡ true }
 {}

@@ -13,6 +13,7 @@ pub mod feeds;
 pub mod figure_runs;
 pub mod figures;
 pub mod forgetting;
+pub mod hash_feeds;
 pub mod judgements;
 pub mod judging;
 pub mod places;

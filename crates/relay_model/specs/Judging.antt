@@ -15,6 +15,7 @@ use Rattle.news_terms.specs.Pattern.{permits}
 use Rattle.news_terms.specs.Places.{Buffer, Group, size_of}
 use Rattle.news_terms.specs.StorageClass.{Entry, chosen_entry}
 use Rattle.relay_model.specs.Claims.{Accepted}
+use Rattle.relay_model.specs.HashFeeds.{in_hash_feed}
 use Rattle.relay_model.specs.Terms.{Terms, FeedTerms, Reason, Size, Grammar, IdMismatch, BadPath}
 use Rattle.relay_model.specs.Terms.{Loop, Date, NoClass, TooLarge}
 
@@ -27,11 +28,13 @@ abbrev pub path_of : Article → List ℕ
 path_of a = content_or_empty (name_of articles.Path) a.fields
 
 -- the feed may have an article from this peer (RFC 5537 section 3.6): its expression permits the
--- newsgroups, its peer isn't in the Path and isn't where the article came from
+-- newsgroups, its peer isn't in the Path and isn't where the article came from, and the message-id
+-- falls in its part
 abbrev pub is_permitted : Terms → ℕ → Article → FeedTerms → Bool
 is_permitted w from a feed =
     permits feed.expression (newsgroups a.fields)
     && not (has_identity (identity_of w feed.peer) (path_of a)) && not (feed.peer == from)
+    && in_hash_feed feed.hash (message_id a.fields)
 
 -- the numbers of the feeds that may have an article from this peer
 abbrev pub permitted : Terms → ℕ → Article → List ℕ

@@ -5,6 +5,7 @@ pub mod Counted
 pub mod Crash
 pub mod Fetches
 pub mod Figures
+pub mod HashFeeds
 pub mod Hears
 pub mod Invariants
 pub mod Judging

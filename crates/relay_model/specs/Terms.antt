@@ -4,16 +4,19 @@ use Rattle.std.specs.Prelude.{ℕ, ℤ, List, Option}
 use Rattle.news_terms.specs.Places.{Buffer, Group}
 use Rattle.news_terms.specs.Pattern.{Marked}
 use Rattle.news_terms.specs.StorageClass.{Entry}
+use Rattle.relay_model.specs.HashFeeds.{HashFeed}
 
 -- why an article is refused, in the order of trial (docs/PROTOCOL.md, Judging)
 pub data Reason : Type 0 where
   Size Grammar IdMismatch BadPath Loop Date NoClass TooLarge : Reason
 
--- a feed: its peer, how many tokens its ring holds, and the newsgroups that it may have
+-- a feed: its peer, how many tokens its ring holds, the newsgroups that it may have, and the part of
+-- the articles that it may have, where not all
 pub record FeedTerms : Type 0 where
   pub peer : ℕ
   pub ring : ℕ
   pub expression : List Marked
+  pub hash : Option HashFeed
 
 -- what the relay is set up with
 pub record Terms : Type 0 where

@@ -14,4 +14,5 @@ returns c w feeds =
       newsgroups = sym c.in_ok-groups.ensures ∙ ap (map octets_of) (sym c.deref.ensures.value);
       received = ap (λ path. unwrap_or path []) (sym c.field.ensures)
           ∙ now-or c.field.result _ refl ∙ sym (ap (λ path. path.now) c.unwrap_or-path.ensures);
+      message_id = sym (c.as_bytes-id.ensures.value ∙ c.id.ensures.content);
     })

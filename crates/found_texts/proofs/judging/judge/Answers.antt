@@ -17,7 +17,7 @@ returns-in_ok-feeds-in-Ok-clause-judged c = λ w one is token octets.
       article = article;
       is_read = subst (λ text. IsArticleText text article) octets c.in-Ok.ensures.read.article;
       token = sym token;
-      id = ap Some (c.in_ok-id-in-Ok.ensures ∙ c.id.ensures ∙ c.in-Ok.ensures.read.id);
+      id = ap Some (c.in_ok-id-in-Ok.ensures ∙ c.id.ensures.kept ∙ c.in-Ok.ensures.read.id);
       feeds = c.in_ok-feeds-in-Ok.ensures w set_up ∙ ap (λ n. permitted w n article) peers;
     }
 

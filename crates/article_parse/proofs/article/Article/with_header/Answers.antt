@@ -30,6 +30,8 @@ is_article text at fields ref nul paired header same right =
 -- what the type of an article says
 pub invariant_of-result : goal.invariant_of-result
 invariant_of-result c = record {
+  is_id = c.in-Ok.ensures.id
+      ∙ ap (λ (x : List Field). message_id (map field_view x)) c.deref.ensures.value;
   is_newsgroups_line = c.in-Ok.ensures.newsgroups
       ∙ ap (λ (x : List Field). unfolded_newsgroups (map field_view x)) c.deref.ensures.value;
   is_article = ∣ is_article c.args.text.now c.args.header.body_at c.args.header.fields.items
