@@ -5,7 +5,7 @@ use Rattle.relay_conf.specs.HashExamples.{hash_lines, hash_settings}
 use Rattle.relay_conf.specs.HashLines.{hash_part}
 use Rattle.relay_conf.specs.K1.{every_newsgroup}
 use Rattle.relay_conf.specs.RelayLines as relay
-use Rattle.relay_conf.specs.RelayViews.{HasFault, HasSettings}
+use Rattle.relay_conf.specs.RelayViews.{HasSettings}
 use Rattle.relay_conf.proofs.BuiltIn.{star_is_every_newsgroup}
 
 -- The lines say these settings.

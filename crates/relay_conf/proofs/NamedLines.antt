@@ -1,14 +1,10 @@
 -- Lines of relay.conf that begin with the name of a peer.
 use Rattle.std.proofs.Common.{◌≡◌, ℕ, ◌+◌, ◌<◌, Bool, true, false, List, length, drop, get_or}
-use Rattle.std.proofs.Common.{[], ◌∷◌, Option, Some, None, Result, Err, refl, ap, ap₂, sym, ◌∙◌}
+use Rattle.std.proofs.Common.{Option, Some, None, Err, refl, ap, ◌∙◌}
 use Rattle.std.specs.Prelude.{bytes_eq, if◌then◌else◌}
 use Rattle.line_words.specs.Numbers.{number_within}
-use Rattle.relay_conf.specs.declared.faults.Fault.{Fault}
 use Rattle.relay_conf.specs.declared.faults.Fault.TheVariants.{Syntax}
-use Rattle.relay_conf.specs.declared.hash_feeds.HashFeed.{HashFeed}
-use Rattle.relay_conf.specs.HashLines.{hash_behind}
 use Rattle.relay_conf.specs.RelayLines.{RawLine, connections_line, connections_numbered}
-use Rattle.relay_conf.specs.RelayLines.{feed_line, feed_ringed}
 use Rattle.relay_conf.specs.Relay.{connections_for, is_peer}
 use Rattle.relay_conf.specs.RelayDraft.{first_unknown}
 use Rattle.relay_conf.specs.Words.{is_name}
@@ -29,7 +25,7 @@ pub named_if : (line : List ℕ → RawLine) (is : Bool) (word : List ℕ) (name
 named_if line true word name e = ap (named line) e
 named_if line false word name e = ap (named line) e
 
--- So it is with the connections of a peer,
+-- So it is with the connections of a peer.
 pub connections_said : (words : Option (List ℕ × List ℕ)) (word number : List ℕ)
     (name : Option (List ℕ)) (connections : Option ℕ) → Some (word, number) ≡ words
     → name ≡ (if is_name word then Some word else None)
@@ -40,18 +36,6 @@ connections_said words word number name connections two names numbers =
     ∙ ap (λ (c : Option ℕ). if is_name word then connections_numbered word c else Err Syntax)
     numbers
     ∙ ap connections_line two
-
--- and with a feed.
-pub feed_said : (words : List (List ℕ)) (word number text : List ℕ) (more : List (List ℕ))
-    (name : Option (List ℕ)) (hash : Result (Option HashFeed) Fault) (ring : Option ℕ)
-    → words ≡ word ∷ number ∷ text ∷ more → name ≡ (if is_name word then Some word else None)
-    → hash ≡ hash_behind more → ring ≡ number_within 1 65536 number
-    → named (λ n. feed_ringed n text hash ring) name ≡ feed_line words
-feed_said words word number text more name hash ring is names hashes numbers =
-    named_if (λ n. feed_ringed n text hash ring) (is_name word) word name names
-    ∙ ap₂ (λ (h : Result (Option HashFeed) Fault) (r : Option ℕ).
-    if is_name word then feed_ringed word text h r else Err Syntax) hashes numbers
-    ∙ ap feed_line (sym is)
 
 -- The connections of a name aren't those of another one,
 pub of_another : (all : List PeerConnections) (name : List ℕ) (i : ℕ) (d : PeerConnections)

@@ -1,10 +1,9 @@
 -- Feeds of a part of the articles, in examples (docs/FORMATS.md, Configuration).
-use Rattle.std.specs.Prelude.{ℕ, List, [], ◌∷◌, codes, Option, None, Some, Result, option_map}
+use Rattle.std.specs.Prelude.{ℕ, List, [], ◌∷◌, codes, Option, None, option_map}
 use Rattle.std.specs.Result.{result_ok}
-use Rattle.relay_conf.specs.declared.faults.Fault.{Fault}
 use Rattle.relay_conf.specs.declared.hash_feeds.HashFeed.{HashFeed}
 use Rattle.relay_conf.specs.declared.relay.Feed.{Feed}
-use Rattle.relay_conf.specs.HashLines.{hash_of, hash_part}
+use Rattle.relay_conf.specs.HashLines.{part_of, hash_part}
 use Rattle.relay_conf.specs.K1.{every_newsgroup}
 use Rattle.relay_conf.specs.ReachExamples.{settings_with, unserved}
 use Rattle.relay_conf.specs.Relay.{RelaySettings, each_address}
@@ -33,4 +32,4 @@ hash_settings =
 abbrev pub numbers_of : (word : List ℕ) → Option (ℕ × ℕ × ℕ)
 numbers_of word =
     option_map (λ (hash : HashFeed). (hash.first, hash.last, hash.parts))
-    (result_ok (hash_of word))
+    (result_ok (part_of word))

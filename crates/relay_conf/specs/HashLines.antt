@@ -1,6 +1,6 @@
 -- relay.conf: which part of the articles a feed may have, as its line says it (docs/FORMATS.md,
 -- Configuration).
-use Rattle.std.specs.Prelude.{◌≡◌, ℕ, ◌≤◌, ◌&&◌, ◌||◌, nat_le, Bool, true, false, List, [], ◌∷◌}
+use Rattle.std.specs.Prelude.{ℕ, ◌≤◌, ◌&&◌, ◌||◌, nat_le, Bool, true, false, List, [], ◌∷◌}
 use Rattle.std.specs.Prelude.{Option, None, Some, Result, Ok, Err, IsTrue, if◌then◌else◌}
 use Rattle.std.specs.Prelude.{bytes_eq, codes}
 use Rattle.std.specs.Str.{byte}
@@ -85,8 +85,8 @@ hash_of_parts (ends ∷ of ∷ other ∷ more) = Err Syntax
 
 -- the part that a word is: `FROM-TO/OF`, or `N/OF`, which is `N-N/OF` (docs/FORMATS.md,
 -- Configuration)
-abbrev pub hash_of : (word : List ℕ) → Result HashFeed Fault
-hash_of word = hash_of_parts (parts (byte "/") word)
+abbrev pub part_of : (word : List ℕ) → Result HashFeed Fault
+part_of word = hash_of_parts (parts (byte "/") word)
 
 -- a part is said, or the fault of its word (docs/FORMATS.md, Configuration)
 abbrev pub hash_said : Result HashFeed Fault → Result (Option HashFeed) Fault
@@ -99,5 +99,5 @@ abbrev pub hash_behind : (after : List (List ℕ)) → Result (Option HashFeed) 
 hash_behind [] = Ok None
 hash_behind (key ∷ []) = Err Syntax
 hash_behind (key ∷ word ∷ []) =
-    if bytes_eq key (codes "hash") then hash_said (hash_of word) else Err Syntax
+    if bytes_eq key (codes "hash") then hash_said (part_of word) else Err Syntax
 hash_behind (key ∷ word ∷ other ∷ more) = Err Syntax

@@ -21,14 +21,14 @@ pub(crate) fn hash_behind(rest: &[u8]) -> Result<Option<HashFeed>, Fault>
         return Ok(None);
     }
     match two_words(rest) {
-        Some((key, word)) if is(key, b"hash") => Ok(Some(hash_of(word)?)),
+        Some((key, word)) if is(key, b"hash") => Ok(Some(part_of(word)?)),
         _ => Err(Fault::Syntax),
     }
 }
 
 /// The part that a word is: `FROM-TO/OF`, or `N/OF`.
-fn hash_of(word: &[u8]) -> Result<HashFeed, Fault>
-    ensures { result ≡ terms.hash_of word.now }
+fn part_of(word: &[u8]) -> Result<HashFeed, Fault>
+    ensures { result ≡ terms.part_of word.now }
 {
     let (ends, rest) = cut(word, b'/');
     match one_part(rest, b'/') {

@@ -17,7 +17,7 @@ ghost use Rattle.relay_conf.specs.AddressExamples.{bind_lines, bind_settings, mi
 ghost use Rattle.relay_conf.specs.AddressExamples.{mixed_reaches, mixed_settings};
 ghost use Rattle.relay_conf.specs.Cycbuff.{Group, CycbuffSettings, cycbuff_of};
 ghost use Rattle.relay_conf.specs.HashExamples.{hash_lines, hash_settings, numbers_of};
-ghost use Rattle.relay_conf.specs.HashLines.{hash_of, hash_part, in_order};
+ghost use Rattle.relay_conf.specs.HashLines.{part_of, hash_part, in_order};
 ghost use Rattle.relay_conf.specs.K1.{k1_buffers, k1_entries, k1_relay};
 ghost use Rattle.relay_conf.specs.K2.{k2_buffers, k2_cycbuff};
 ghost use Rattle.relay_conf.specs.Lines.{lines_of, joined_by, is_line};
@@ -276,21 +276,21 @@ pub fn words_of_hash()
     ensures further { relay_line (codes "feed p 2 * hash 1/2 3") ≡ Err Syntax }
     ensures another { (relay_line (codes "feed p 2 * part 1/2") ≡ Err Syntax)
         × (relay_line (codes "feed p 2 * HASH 1/2") ≡ Err Syntax) }
-    ensures slashes { (hash_of (codes "1-1") ≡ Err Syntax) × (hash_of (codes "1/2/3") ≡ Err Syntax) }
-    ensures dashes { hash_of (codes "1-2-3/4") ≡ Err Syntax }
-    ensures empty { (hash_of (codes "/2") ≡ Err Syntax) × (hash_of (codes "1/") ≡ Err Syntax)
-        × (hash_of (codes "-1/2") ≡ Err Syntax) × (hash_of (codes "1-/2") ≡ Err Syntax) }
+    ensures slashes { (part_of (codes "1-1") ≡ Err Syntax) × (part_of (codes "1/2/3") ≡ Err Syntax) }
+    ensures dashes { part_of (codes "1-2-3/4") ≡ Err Syntax }
+    ensures empty { (part_of (codes "/2") ≡ Err Syntax) × (part_of (codes "1/") ≡ Err Syntax)
+        × (part_of (codes "-1/2") ≡ Err Syntax) × (part_of (codes "1-/2") ≡ Err Syntax) }
 {}
 
 /// Number is a piece with another octet than digits, and numbers that are out of order or past
 /// 4,294,967,295. Syntax comes before Number, Number before Duplicate.
 pub fn faults_of_hash()
-    ensures digits { (hash_of (codes "a/2") ≡ Err Number) × (hash_of (codes "1-+1/2") ≡ Err Number)
-        × (hash_of (codes "1/2-3") ≡ Err Number) }
-    ensures zero { (hash_of (codes "0/2") ≡ Err Number) × (hash_of (codes "0-1/2") ≡ Err Number) }
-    ensures falling { hash_of (codes "2-1/2") ≡ Err Number }
-    ensures past { (hash_of (codes "1-3/2") ≡ Err Number) × (hash_of (codes "3/2") ≡ Err Number) }
-    ensures most { hash_of (codes "1/4294967296") ≡ Err Number }
+    ensures digits { (part_of (codes "a/2") ≡ Err Number) × (part_of (codes "1-+1/2") ≡ Err Number)
+        × (part_of (codes "1/2-3") ≡ Err Number) }
+    ensures zero { (part_of (codes "0/2") ≡ Err Number) × (part_of (codes "0-1/2") ≡ Err Number) }
+    ensures falling { part_of (codes "2-1/2") ≡ Err Number }
+    ensures past { (part_of (codes "1-3/2") ≡ Err Number) × (part_of (codes "3/2") ≡ Err Number) }
+    ensures most { part_of (codes "1/4294967296") ≡ Err Number }
     ensures first { (relay_line (codes "feed p 0 * hash 1") ≡ Err Syntax)
         × (relay_line (codes "feed p! 2 * hash 0/2") ≡ Err Syntax)
         × (relay_line (codes "feed p 2 * hash 0/2") ≡ Err Number) }
