@@ -1,6 +1,6 @@
 -- Places of message-ids, as plain numbers.
-use Rattle.std.proofs.Common.{◌≡◌, ◌≤◌, ◌<◌, ◌+◌, ◌%◌, ◌&&◌, ℕ, nat_le, not, Bool, true, false}
-use Rattle.std.proofs.Common.{refl, arith, ap}
+use Rattle.std.proofs.Common.{◌≡◌, ◌≤◌, ◌+◌, ◌%◌, ◌&&◌, ℕ, nat_le, not, Bool, true, false}
+use Rattle.std.proofs.Common.{refl, arith}
 use Rattle.std.proofs.Math.Nat.{mod-lt}
 use Rattle.std.proofs.lemmas.Bool.{le-leb, lt-leb, leb-true, leb-false}
 
