@@ -7,5 +7,5 @@ returns-in-None c = rw c.in-None.is (nothing _)
 pub returns-in-Some : goal.returns-in-Some
 returns-in-Some c =
     rw c.in-Some.is
-    (two (two (two (two (two c.add.ensures c.add_number.ensures) c.add-2.ensures)
-    c.add_number-2.ensures) c.add-3.ensures) c.add_number-3.ensures)
+    (two (two (two (two (two c.add.ensures c.add_number.ensures) c.add-in-Some.ensures)
+    c.add_number-in-Some.ensures) c.add-in-Some-2.ensures) c.add_number-in-Some-2.ensures)
