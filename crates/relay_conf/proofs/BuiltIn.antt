@@ -1,5 +1,5 @@
 -- The texts of the built-in configuration say what K1 is.
-use Rattle.std.proofs.Common.{◌≡◌, ℕ, List, [], ◌∷◌, map, Option, Result, Ok, Err, refl, lit<}
+use Rattle.std.proofs.Common.{◌≡◌, ℕ, List, [], ◌∷◌, map, None, Option, Result, Ok, Err, refl, lit<}
 use Rattle.std.specs.Prelude.{codes, IfOk, IfErr}
 use Rattle.std.specs.Global.{Vec}
 use Rattle.news_terms.specs.Pattern.{IsExpressionText}
@@ -31,7 +31,7 @@ abbrev pub cycbuff_lines : List (List ℕ)
 cycbuff_lines = codes "cycbuff:A:a.buf:4" ∷ codes "metacycbuff:G:A" ∷ [] ∷ []
 
 -- `*` is the expression that each newsgroup matches.
-star_is_every_newsgroup : IsExpressionText (codes "*") every_newsgroup
+pub star_is_every_newsgroup : IsExpressionText (codes "*") every_newsgroup
 star_is_every_newsgroup = record { some = lit< tt; each = refl; spelled = refl }
 
 -- the lines of relay.conf in K1
@@ -46,7 +46,7 @@ relay_has_settings = record {
   said = Ok (relay.Own (codes "relay.example"))
       ∷ Ok (relay.PeerLine (codes "p1") (codes "one.example") 0)
       ∷ Ok (relay.PeerLine (codes "p2") (codes "two.example") 0)
-      ∷ Ok (relay.FeedLine (codes "p2") 2 every_newsgroup) ∷ Ok relay.Skipped ∷ [];
+      ∷ Ok (relay.FeedLine (codes "p2") 2 every_newsgroup None) ∷ Ok relay.Skipped ∷ [];
   says = (refl, (refl, (refl, ((every_newsgroup, star_is_every_newsgroup, refl), (refl, tt)))));
   gives = refl;
 }

@@ -5,9 +5,12 @@ pub mod CycbuffReadings
 pub mod FaultlessLines
 pub mod FileLines
 pub mod FirstFaults
+pub mod HashExamples
+pub mod HashParts
 pub mod JoinedLines
 pub mod LinesRead
 pub mod ListedOnce
+pub mod ManyParts
 pub mod NameTexts
 pub mod NamedLines
 pub mod Numbered

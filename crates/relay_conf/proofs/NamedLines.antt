@@ -5,7 +5,6 @@ use Rattle.std.specs.Prelude.{bytes_eq, if◌then◌else◌}
 use Rattle.line_words.specs.Numbers.{number_within}
 use Rattle.relay_conf.specs.declared.faults.Fault.TheVariants.{Syntax}
 use Rattle.relay_conf.specs.RelayLines.{RawLine, connections_line, connections_numbered}
-use Rattle.relay_conf.specs.RelayLines.{feed_line, feed_ringed}
 use Rattle.relay_conf.specs.Relay.{connections_for, is_peer}
 use Rattle.relay_conf.specs.RelayDraft.{first_unknown}
 use Rattle.relay_conf.specs.Words.{is_name}
@@ -26,7 +25,7 @@ pub named_if : (line : List ℕ → RawLine) (is : Bool) (word : List ℕ) (name
 named_if line true word name e = ap (named line) e
 named_if line false word name e = ap (named line) e
 
--- So it is with the connections of a peer,
+-- So it is with the connections of a peer.
 pub connections_said : (words : Option (List ℕ × List ℕ)) (word number : List ℕ)
     (name : Option (List ℕ)) (connections : Option ℕ) → Some (word, number) ≡ words
     → name ≡ (if is_name word then Some word else None)
@@ -37,16 +36,6 @@ connections_said words word number name connections two names numbers =
     ∙ ap (λ (c : Option ℕ). if is_name word then connections_numbered word c else Err Syntax)
     numbers
     ∙ ap connections_line two
-
--- and with a feed.
-pub feed_said : (words : Option (List ℕ × List ℕ × List ℕ)) (word number text : List ℕ)
-    (name : Option (List ℕ)) (ring : Option ℕ) → Some (word, number, text) ≡ words
-    → name ≡ (if is_name word then Some word else None) → ring ≡ number_within 1 65536 number
-    → named (λ n. feed_ringed n text ring) name ≡ feed_line words
-feed_said words word number text name ring three names numbers =
-    named_if (λ n. feed_ringed n text ring) (is_name word) word name names
-    ∙ ap (λ (r : Option ℕ). if is_name word then feed_ringed word text r else Err Syntax) numbers
-    ∙ ap feed_line three
 
 -- The connections of a name aren't those of another one,
 pub of_another : (all : List PeerConnections) (name : List ℕ) (i : ℕ) (d : PeerConnections)

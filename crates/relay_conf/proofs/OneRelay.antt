@@ -8,8 +8,9 @@ use Rattle.relay_conf.proofs.OneReading.{IsOne, HaveOneReading, one_reading}
 
 -- A line says one thing.
 pub raw_one : (raw : RawLine) → IsOne (RawSays raw)
-raw_one (Ok (FeedLine name ring text)) =
-    expression_one text (FeedLine name ring) (RawSays (Ok (FeedLine name ring text)))
+raw_one (Ok (FeedLine name ring text hash)) =
+    expression_one text (λ expression. FeedLine name ring expression hash)
+    (RawSays (Ok (FeedLine name ring text hash)))
     (λ fault. (λ h. h, λ h. h)) (λ line. (λ h. h, λ h. h)) (each_reading text)
 raw_one raw = record { one = _; is = refl; only = λ other h. h }
 

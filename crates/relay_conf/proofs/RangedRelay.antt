@@ -4,17 +4,20 @@ use Rattle.std.proofs.Common.{Result, Ok, Err, sym, subst, arith}
 use Rattle.std.specs.Prelude.{◌&&◌, filter_map, flat_map, codes, bytes_eq, option_map, IsTrue}
 use Rattle.std.proofs.lemmas.Bool.{and_parts, cond_both}
 use Rattle.std.proofs.lemmas.List.Elements.{All-cons, All-map, All-nil}
+use Rattle.line_words.specs.Numbers.{number_within}
 use Rattle.line_words.specs.Parts.{parts}
 use Rattle.news_terms.specs.Article.{without_outer_white}
 use Rattle.news_terms.specs.Path.{is_agent}
 use Rattle.line_words.specs.Comments.{is_skipped}
 use Rattle.line_words.specs.Parts.{one_of, two_of, three_of}
 use Rattle.relay_conf.specs.declared.faults.Fault.{Fault}
+use Rattle.relay_conf.specs.declared.hash_feeds.HashFeed.{HashFeed}
 use Rattle.relay_conf.specs.declared.reach.Allow.{Allow}
 use Rattle.relay_conf.specs.declared.reach.Range.{Range}
 use Rattle.relay_conf.specs.declared.relay.Feed.{Feed}
 use Rattle.relay_conf.specs.declared.relay.Peer.{Peer}
 use Rattle.relay_conf.specs.declared.relay.PeerConnections.{PeerConnections}
+use Rattle.relay_conf.specs.HashLines.{hash_behind}
 use Rattle.relay_conf.specs.LineByLine.{SayEach}
 use Rattle.relay_conf.specs.RelayLines.{RelayLine, RawLine, SaidLine, Own, MaxArticle, Cutoff}
 use Rattle.relay_conf.specs.RelayLines.{Remember, Patience, Sync, Offers, PeerLine, ConnectionsLine}
@@ -48,7 +51,7 @@ IsRanged (Ok (Offers seconds)) = (1 ≤ seconds) × (seconds ≤ 86400)
 IsRanged (Ok (PeerLine name identity port)) = is_identity identity ≡ true
 IsRanged (Ok (ConnectionsLine name connections)) = (1 ≤ connections) × (connections ≤ 64)
 IsRanged (Ok (AllowLine name ranges)) = All (λ range. range.bits ≤ 128) ranges
-IsRanged (Ok (FeedLine name ring expression)) = (1 ≤ ring) × (ring ≤ 65536)
+IsRanged (Ok (FeedLine name ring expression hash)) = (1 ≤ ring) × (ring ≤ 65536)
 IsRanged said = Unit {0}
 
 -- So it is with a line of a number,
@@ -142,12 +145,20 @@ of_allow (name ∷ first ∷ more) =
     (of_ranges (first ∷ more)))
     (λ e. tt)
 
-of_feed : (three : Option (List ℕ × List ℕ × List ℕ)) → IsRanged (feed_line three)
-of_feed None = tt
-of_feed (Some three) =
-    cond_both (is_name three.0) _ _ IsRanged
-    (λ e. within_range IsRanged (feed_ringed three.0 three.2) 1 65536 three.1 tt
-    (λ n least most. (least, most))) (λ e. tt)
+of_ringed : (name text : List ℕ) (hash : Result (Option HashFeed) Fault) (ring : List ℕ)
+    → IsRanged (feed_ringed name text hash (number_within 1 65536 ring))
+of_ringed name text (Err fault) ring = tt
+of_ringed name text (Ok hash) ring =
+    within_range IsRanged (feed_ringed name text (Ok hash)) 1 65536 ring tt
+    (λ n least most. (least, most))
+
+of_feed : (after : List (List ℕ)) → IsRanged (feed_line after)
+of_feed [] = tt
+of_feed (name ∷ []) = tt
+of_feed (name ∷ ring ∷ []) = tt
+of_feed (name ∷ ring ∷ text ∷ more) =
+    cond_both (is_name name) _ _ IsRanged (λ e. of_ringed name text (hash_behind more) ring)
+    (λ e. tt)
 
 -- with the words of a line,
 of_words : (said : List (List ℕ)) → IsRanged (relay_words said)
@@ -172,7 +183,7 @@ of_words (word ∷ after) =
     (λ e. cond_both (bytes_eq word (codes "connections")) _ _ IsRanged
     (λ e. of_connections (two_of after))
     (λ e. cond_both (bytes_eq word (codes "allow")) _ _ IsRanged (λ e. of_allow after)
-    (λ e. cond_both (bytes_eq word (codes "feed")) _ _ IsRanged (λ e. of_feed (three_of after))
+    (λ e. cond_both (bytes_eq word (codes "feed")) _ _ IsRanged (λ e. of_feed after)
     (λ e. tt)))))))))))))
 
 -- with a line,
@@ -183,8 +194,8 @@ of_line line =
 
 -- and with what the line says.
 of_said : (raw : RawLine) (said : SaidLine) → RawSays raw said → IsRanged raw → IsRanged said
-of_said (Ok (FeedLine name ring text)) (Err fault) h k = tt
-of_said (Ok (FeedLine name ring text)) (Ok line) h k =
+of_said (Ok (FeedLine name ring text hash)) (Err fault) h k = tt
+of_said (Ok (FeedLine name ring text hash)) (Ok line) h k =
     subst (λ (l : _). IsRanged (Ok l)) (sym h.2) k
 of_said raw said h k = subst IsRanged (sym h) k
 
@@ -234,7 +245,7 @@ are_ranged lines said h =
           (elim [ Ok (ConnectionsLine name n) ↦ λ is. is | one ↦ λ is. tt ]) said all;
       rings = λ peers. all_given IsRanged
           (λ (feed : Feed). (1 ≤ feed.ring) × (feed.ring ≤ 65536)) (feed_of peers)
-          (elim [ Ok (FeedLine name n expression) ↦ λ is. is | one ↦ λ is. tt ]) said all;
+          (elim [ Ok (FeedLine name n expression hash) ↦ λ is. is | one ↦ λ is. tt ]) said all;
       bits = λ peers. all_listed IsRanged (λ (allow : Allow). allow.range.bits ≤ 128)
           (allows_of peers)
           (elim [

@@ -2,7 +2,7 @@
 use Rattle.std.proofs.Common.{◌≡◌, ℕ, List, [], ◌∷◌, ◌++◌, map, Option, None}
 use Rattle.std.proofs.Common.{Some, Result, Ok, Err, refl, ap, ◌∙◌, sym, append_assoc}
 use Rattle.std.proofs.Common.{arith}
-use Rattle.std.specs.Prelude.{◌==◌, filter_map, if◌then◌else◌}
+use Rattle.std.specs.Prelude.{filter_map, if◌then◌else◌}
 use Rattle.std.specs.List.{cons_option}
 use Rattle.std.specs.Result.{result_ok}
 use Rattle.relay_conf.specs.declared.faults.Fault.{Fault}
@@ -17,7 +17,7 @@ use Rattle.relay_conf.specs.RelayLines.{AllowLine, allow_line, allow_ranged, ran
 use Rattle.relay_conf.specs.RelayLines.{range_and_more, range_of_parts, ranges_of}
 use Rattle.relay_conf.specs.Words.{is_name}
 use Rattle.line_words.specs.Parts.{parts, one_of}
-use Rattle.line_words.proofs.Cuts.{some_part}
+use Rattle.relay_conf.proofs.ManyParts.{not_one_part}
 use Rattle.relay_conf.proofs.NamedLines.{named, named_if}
 
 -- Ranges by the number of their peer.
@@ -34,15 +34,9 @@ numbered_ranges peers name (range ∷ ranges) =
 pub range_of_many : (word address rest : List ℕ) → parts 47 word ≡ address ∷ parts 47 rest
     → None ≡ one_of (parts 47 rest) → Err Syntax ≡ range_of word
 range_of_many word address rest is many =
-    by_parts (parts 47 rest) (some_part (λ other. other == 47) rest) many
+    not_one_part (λ after. Err Syntax ≡ range_of_parts (address ∷ after)) 47 rest many
+    (λ bits other more. refl)
     ∙ sym (ap range_of_parts is)
-  where
-    by_parts : (after : List (List ℕ))
-        → (first : List ℕ) × (more : List (List ℕ)) × (after ≡ first ∷ more)
-        → None ≡ one_of after → Err Syntax ≡ range_of_parts (address ∷ after)
-    by_parts [] some e = cc
-    by_parts (bits ∷ []) some e = cc
-    by_parts (bits ∷ other ∷ more) some e = refl
 
 -- THE WORDS OF A LINE
 

@@ -48,7 +48,7 @@ is_new names name e i at =
 -- Names stay apart behind a line without a fault.
 apart_next : (stand : Stand) (line : SaidLine) → line_fault stand line ≡ None
     → Apart stand.feed_names → Apart (join stand line).feed_names
-apart_next stand (Ok (FeedLine name ring expression)) e apart =
+apart_next stand (Ok (FeedLine name ring expression hash)) e apart =
     apart_more stand.feed_names name (is_new stand.feed_names name e) apart
 apart_next stand line e apart = subst Apart (sym (append-nil stand.feed_names)) apart
 
@@ -81,16 +81,16 @@ name_at : (peers : List Peer) (said : List SaidLine) (i : ℕ) (feed : Feed)
     → (name : List ℕ) × (slice_get (filter_map feed_name_of said) i ≡ Some name)
     × (feed.peer ≡ peer_number peers name)
 name_at peers [] i feed e = cc
-name_at peers (Ok (FeedLine name ring expression) ∷ said) zero feed e =
+name_at peers (Ok (FeedLine name ring expression hash) ∷ said) zero feed e =
     let one : Feed =
     record {
       peer = peer_number peers name;
       ring = ring;
       expression = expression;
-      hash = None;
+      hash = hash;
     } in
     (name, refl, ap (λ (f : Feed). f.peer) (sym (same_Some one feed e)))
-name_at peers (Ok (FeedLine name ring expression) ∷ said) (suc i) feed e =
+name_at peers (Ok (FeedLine name ring expression hash) ∷ said) (suc i) feed e =
     name_at peers said i feed e
 name_at peers (line ∷ said) i feed e = name_at peers said i feed e
 

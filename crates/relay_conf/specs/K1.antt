@@ -53,7 +53,8 @@ k1_relay =
           record { name = codes "p1"; identity = codes "one.example"; port = 0; connections = 1 }
           ∷ record { name = codes "p2"; identity = codes "two.example"; port = 0; connections = 1 }
           ∷ [];
-      feeds = record { peer = 1; ring = 2; expression = every_newsgroup; hash = None } ∷ [];
+      feeds =
+          record { peer = 1; ring = 2; expression = every_newsgroup; hash = None } ∷ [];
       allows = [];
     }
 

@@ -5,6 +5,8 @@ pub mod CycbuffDraft
 pub mod Drafts
 pub mod Expressions
 pub mod Faults
+pub mod HashExamples
+pub mod HashLines
 pub mod K1
 pub mod K2
 pub mod LineByLine

@@ -35,7 +35,7 @@ own_of (Ok (Bind address)) = None
 own_of (Ok (PeerLine name identity port)) = None
 own_of (Ok (ConnectionsLine name connections)) = None
 own_of (Ok (AllowLine name ranges)) = None
-own_of (Ok (FeedLine name ring expression)) = None
+own_of (Ok (FeedLine name ring expression hash)) = None
 
 -- the largest article that a line says
 abbrev pub max_article_of : SaidLine → Option ℕ
@@ -53,7 +53,7 @@ max_article_of (Ok (Bind address)) = None
 max_article_of (Ok (PeerLine name identity port)) = None
 max_article_of (Ok (ConnectionsLine name connections)) = None
 max_article_of (Ok (AllowLine name ranges)) = None
-max_article_of (Ok (FeedLine name ring expression)) = None
+max_article_of (Ok (FeedLine name ring expression hash)) = None
 
 -- the cutoff that a line says
 abbrev pub cutoff_of : SaidLine → Option ℕ
@@ -71,7 +71,7 @@ cutoff_of (Ok (Bind address)) = None
 cutoff_of (Ok (PeerLine name identity port)) = None
 cutoff_of (Ok (ConnectionsLine name connections)) = None
 cutoff_of (Ok (AllowLine name ranges)) = None
-cutoff_of (Ok (FeedLine name ring expression)) = None
+cutoff_of (Ok (FeedLine name ring expression hash)) = None
 
 -- how long a line says that ids are remembered
 abbrev pub remember_of : SaidLine → Option ℕ
@@ -89,7 +89,7 @@ remember_of (Ok (Bind address)) = None
 remember_of (Ok (PeerLine name identity port)) = None
 remember_of (Ok (ConnectionsLine name connections)) = None
 remember_of (Ok (AllowLine name ranges)) = None
-remember_of (Ok (FeedLine name ring expression)) = None
+remember_of (Ok (FeedLine name ring expression hash)) = None
 
 -- how long a line says that a silent peer is waited for
 abbrev pub patience_of : SaidLine → Option ℕ
@@ -107,7 +107,7 @@ patience_of (Ok (Bind address)) = None
 patience_of (Ok (PeerLine name identity port)) = None
 patience_of (Ok (ConnectionsLine name connections)) = None
 patience_of (Ok (AllowLine name ranges)) = None
-patience_of (Ok (FeedLine name ring expression)) = None
+patience_of (Ok (FeedLine name ring expression hash)) = None
 
 -- how often a line says that files are flushed
 abbrev pub sync_of : SaidLine → Option ℕ
@@ -125,7 +125,7 @@ sync_of (Ok (Bind address)) = None
 sync_of (Ok (PeerLine name identity port)) = None
 sync_of (Ok (ConnectionsLine name connections)) = None
 sync_of (Ok (AllowLine name ranges)) = None
-sync_of (Ok (FeedLine name ring expression)) = None
+sync_of (Ok (FeedLine name ring expression hash)) = None
 
 -- after how long a line says that an offer runs out
 abbrev pub offers_of : SaidLine → Option ℕ
@@ -143,7 +143,7 @@ offers_of (Ok (Bind address)) = None
 offers_of (Ok (PeerLine name identity port)) = None
 offers_of (Ok (ConnectionsLine name connections)) = None
 offers_of (Ok (AllowLine name ranges)) = None
-offers_of (Ok (FeedLine name ring expression)) = None
+offers_of (Ok (FeedLine name ring expression hash)) = None
 
 -- the news log that a line says
 abbrev pub log_of : SaidLine → Option NewsLog
@@ -161,7 +161,7 @@ log_of (Ok (Bind address)) = None
 log_of (Ok (PeerLine name identity port)) = None
 log_of (Ok (ConnectionsLine name connections)) = None
 log_of (Ok (AllowLine name ranges)) = None
-log_of (Ok (FeedLine name ring expression)) = None
+log_of (Ok (FeedLine name ring expression hash)) = None
 
 -- the address to listen on that a line says
 abbrev pub bind_of : SaidLine → Option (List ℕ)
@@ -179,7 +179,7 @@ bind_of (Ok (Bind address)) = Some address
 bind_of (Ok (PeerLine name identity port)) = None
 bind_of (Ok (ConnectionsLine name connections)) = None
 bind_of (Ok (AllowLine name ranges)) = None
-bind_of (Ok (FeedLine name ring expression)) = None
+bind_of (Ok (FeedLine name ring expression hash)) = None
 
 -- the peer that a line says, with one connection
 abbrev pub peer_of : SaidLine → Option Peer
@@ -198,7 +198,7 @@ peer_of (Ok (PeerLine name identity port)) =
     Some (record { name = name; identity = identity; port = port; connections = 1 })
 peer_of (Ok (ConnectionsLine name connections)) = None
 peer_of (Ok (AllowLine name ranges)) = None
-peer_of (Ok (FeedLine name ring expression)) = None
+peer_of (Ok (FeedLine name ring expression hash)) = None
 
 -- the connections that a line says, by the name of their peer
 abbrev pub connections_of : SaidLine → Option PeerConnections
@@ -217,7 +217,7 @@ connections_of (Ok (PeerLine name identity port)) = None
 connections_of (Ok (ConnectionsLine name connections)) =
     Some (record { name = name; connections = connections })
 connections_of (Ok (AllowLine name ranges)) = None
-connections_of (Ok (FeedLine name ring expression)) = None
+connections_of (Ok (FeedLine name ring expression hash)) = None
 
 -- the name of the peer whose feed a line says
 abbrev pub feed_name_of : SaidLine → Option (List ℕ)
@@ -235,7 +235,7 @@ feed_name_of (Ok (Bind address)) = None
 feed_name_of (Ok (PeerLine name identity port)) = None
 feed_name_of (Ok (ConnectionsLine name connections)) = None
 feed_name_of (Ok (AllowLine name ranges)) = None
-feed_name_of (Ok (FeedLine name ring expression)) = Some name
+feed_name_of (Ok (FeedLine name ring expression hash)) = Some name
 
 -- the name of a peer that a line says something of: its connections, who may connect, or its feed
 abbrev pub name_in : SaidLine → Option (List ℕ)
@@ -253,7 +253,7 @@ name_in (Ok (Bind address)) = None
 name_in (Ok (PeerLine name identity port)) = None
 name_in (Ok (ConnectionsLine name connections)) = Some name
 name_in (Ok (AllowLine name ranges)) = Some name
-name_in (Ok (FeedLine name ring expression)) = Some name
+name_in (Ok (FeedLine name ring expression hash)) = Some name
 
 -- the number of the peer of a name: how many stand before the first of that name (docs/FORMATS.md,
 -- Configuration)
@@ -280,12 +280,12 @@ feed_of peers (Ok (Bind address)) = None
 feed_of peers (Ok (PeerLine name identity port)) = None
 feed_of peers (Ok (ConnectionsLine name connections)) = None
 feed_of peers (Ok (AllowLine name ranges)) = None
-feed_of peers (Ok (FeedLine name ring expression)) =
+feed_of peers (Ok (FeedLine name ring expression hash)) =
     Some (record {
       peer = peer_number peers name;
       ring = ring;
       expression = expression;
-      hash = None;
+      hash = hash;
     })
 
 -- a range of the peer of a name, over these peers (docs/FORMATS.md, Configuration)
@@ -308,7 +308,7 @@ allows_of peers (Ok (Bind address)) = []
 allows_of peers (Ok (PeerLine name identity port)) = []
 allows_of peers (Ok (ConnectionsLine name connections)) = []
 allows_of peers (Ok (AllowLine name ranges)) = map (allow_of peers name) ranges
-allows_of peers (Ok (FeedLine name ring expression)) = []
+allows_of peers (Ok (FeedLine name ring expression hash)) = []
 
 -- what lines say that a further line may double
 pub record Stand : Type 0 where
@@ -378,7 +378,7 @@ line_fault stand (Ok (PeerLine name identity port)) = peer_fault stand.peers nam
 line_fault stand (Ok (ConnectionsLine name connections)) =
     again_fault (map (λ one. one.name) stand.connections) name
 line_fault stand (Ok (AllowLine name ranges)) = None
-line_fault stand (Ok (FeedLine name ring expression)) = again_fault stand.feed_names name
+line_fault stand (Ok (FeedLine name ring expression hash)) = again_fault stand.feed_names name
 
 -- the same behind the lines before it (docs/FORMATS.md, Configuration)
 abbrev pub early_fault : (before : List SaidLine) → SaidLine → Option Fault

@@ -10,6 +10,7 @@ use Rattle.relay_conf.specs.declared.faults.Fault.{Fault}
 use Rattle.relay_conf.specs.declared.faults.Fault.TheVariants.{UnknownName}
 use Rattle.relay_conf.specs.declared.faults.LineFault.{LineFault}
 use Rattle.relay_conf.specs.declared.faults.Refusal.{Refusal}
+use Rattle.relay_conf.specs.declared.hash_feeds.HashFeed.{HashFeed}
 use Rattle.relay_conf.specs.declared.reach.Allow.{Allow}
 use Rattle.relay_conf.specs.declared.reach.NamedAllow.{NamedAllow}
 use Rattle.relay_conf.specs.declared.reach.Range.{Range}
@@ -138,9 +139,9 @@ after_line number r (AllowLine name ranges) =
       allows = r.allows ++ map (named_allow name) ranges;
       named = r.named ++ record { line = number; name = name } ∷ [];
     }
-after_line number r (FeedLine name ring expression) =
+after_line number r (FeedLine name ring expression hash) =
     record r {
-      feeds = r.feeds ++ record { name = name; ring = ring; expression = expression } ∷ [];
+      feeds = r.feeds ++ record { name = name; ring = ring; expression = expression; hash = hash } ∷ [];
       named = r.named ++ record { line = number; name = name } ∷ [];
     }
 
@@ -193,10 +194,10 @@ AddsAllow number name ranges old after result =
     Lists old → AddsLine number (Ok (AllowLine name ranges)) old after result
 
 -- a line of a feed is added
-abbrev pub AddsFeed : ℕ → (name : List ℕ) (ring : ℕ) (text : List ℕ) → (old after : RelayDraft)
-    → Result (Unit {0}) Refusal → Type 0
-AddsFeed number name ring text old after result =
-    Lists old → AddsLine number (Ok (FeedLine name ring text)) old after result
+abbrev pub AddsFeed : ℕ → (name : List ℕ) (ring : ℕ) (text : List ℕ) (hash : Option HashFeed)
+    → (old after : RelayDraft) → Result (Unit {0}) Refusal → Type 0
+AddsFeed number name ring text hash old after result =
+    Lists old → AddsLine number (Ok (FeedLine name ring text hash)) old after result
 
 -- the feed that a line says, by the name of its peer
 abbrev pub named_feed_of : SaidLine → Option NamedFeed
@@ -214,8 +215,8 @@ named_feed_of (Ok (Bind address)) = None
 named_feed_of (Ok (PeerLine name identity port)) = None
 named_feed_of (Ok (ConnectionsLine name connections)) = None
 named_feed_of (Ok (AllowLine name ranges)) = None
-named_feed_of (Ok (FeedLine name ring expression)) =
-    Some (record { name = name; ring = ring; expression = expression })
+named_feed_of (Ok (FeedLine name ring expression hash)) =
+    Some (record { name = name; ring = ring; expression = expression; hash = hash })
 
 -- the ranges that a line says, by the name of their peer
 abbrev pub named_allows_of : SaidLine → List NamedAllow
@@ -233,7 +234,7 @@ named_allows_of (Ok (Bind address)) = []
 named_allows_of (Ok (PeerLine name identity port)) = []
 named_allows_of (Ok (ConnectionsLine name connections)) = []
 named_allows_of (Ok (AllowLine name ranges)) = map (named_allow name) ranges
-named_allows_of (Ok (FeedLine name ring expression)) = []
+named_allows_of (Ok (FeedLine name ring expression hash)) = []
 
 -- the name of a peer that a line of this number says something of
 abbrev pub named_of : ℕ → SaidLine → Option NamedLine
@@ -252,7 +253,7 @@ named_of number (Ok (PeerLine name identity port)) = None
 named_of number (Ok (ConnectionsLine name connections)) =
     Some (record { line = number; name = name })
 named_of number (Ok (AllowLine name ranges)) = Some (record { line = number; name = name })
-named_of number (Ok (FeedLine name ring expression)) =
+named_of number (Ok (FeedLine name ring expression hash)) =
     Some (record { line = number; name = name })
 
 -- the names of peers that lines from this number on say something of
@@ -292,7 +293,7 @@ numbered_feed peers feed =
       peer = peer_number peers feed.name;
       ring = feed.ring;
       expression = feed.expression;
-      hash = None;
+      hash = feed.hash;
     }
 
 -- a range by the number of its peer

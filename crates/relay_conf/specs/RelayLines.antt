@@ -14,7 +14,9 @@ use Rattle.line_words.specs.Comments.{is_skipped}
 use Rattle.line_words.specs.Numbers.{number_within}
 use Rattle.line_words.specs.Parts.{parts, one_of, two_of, three_of}
 use Rattle.relay_conf.specs.Cycbuff.{is_file}
+use Rattle.relay_conf.specs.HashLines.{hash_behind}
 use Rattle.relay_conf.specs.Words.{words, is_name, is_identity}
+use Rattle.relay_conf.specs.declared.hash_feeds.HashFeed.{HashFeed}
 use Rattle.relay_conf.specs.declared.reach.Range.{Range}
 
 -- what a line of relay.conf says, faults apart; a feed has its expression as E: first its text,
@@ -46,8 +48,8 @@ pub data RelayLine (E : Type 0) : Type 0 where
   ConnectionsLine : (name : List ℕ) (connections : ℕ) → RelayLine E
   -- `allow NAME ADDRESS[/BITS] ..`
   AllowLine : (name : List ℕ) (ranges : List Range) → RelayLine E
-  -- `feed NAME RING EXPR`
-  FeedLine : (name : List ℕ) (ring : ℕ) (expression : E) → RelayLine E
+  -- `feed NAME RING EXPR`, or `feed NAME RING EXPR hash FROM-TO/OF`
+  FeedLine : (name : List ℕ) (ring : ℕ) (expression : E) (hash : Option HashFeed) → RelayLine E
 
 -- a line alone, its expression as text
 abbrev pub RawLine : Type 0
@@ -220,17 +222,23 @@ allow_line (name ∷ []) = Err Syntax
 allow_line (name ∷ first ∷ more) =
     if is_name name then allow_ranged name (ranges_of (first ∷ more)) else Err Syntax
 
--- a feed, or Number where its ring is none (docs/FORMATS.md, Configuration)
-abbrev pub feed_ringed : (name text : List ℕ) → Option ℕ → RawLine
-feed_ringed name text None = Err Number
-feed_ringed name text (Some ring) = Ok (FeedLine name ring text)
+-- a feed, or the fault of its part, or Number where its ring is none (docs/FORMATS.md,
+-- Configuration)
+abbrev pub feed_ringed : (name text : List ℕ) → (hash : Result (Option HashFeed) Fault)
+    → Option ℕ → RawLine
+feed_ringed name text (Err fault) ring = Err fault
+feed_ringed name text (Ok hash) None = Err Number
+feed_ringed name text (Ok hash) (Some ring) = Ok (FeedLine name ring text hash)
 
--- what follows `feed` (docs/FORMATS.md, Configuration)
-abbrev pub feed_line : (three : Option (List ℕ × List ℕ × List ℕ)) → RawLine
-feed_line None = Err Syntax
-feed_line (Some three) =
-    if is_name three.0
-    then feed_ringed three.0 three.2 (number_within 1 65536 three.1)
+-- what follows `feed`: a name, a ring and an expression, and what stands behind them
+-- (docs/FORMATS.md, Configuration)
+abbrev pub feed_line : (after : List (List ℕ)) → RawLine
+feed_line [] = Err Syntax
+feed_line (name ∷ []) = Err Syntax
+feed_line (name ∷ ring ∷ []) = Err Syntax
+feed_line (name ∷ ring ∷ text ∷ more) =
+    if is_name name
+    then feed_ringed name text (hash_behind more) (number_within 1 65536 ring)
     else Err Syntax
 
 -- what the words of a line say (docs/FORMATS.md, Configuration)
@@ -255,7 +263,7 @@ relay_words (word ∷ after) =
     else if bytes_eq word (codes "peer") then peer_line (three_of after)
     else if bytes_eq word (codes "connections") then connections_line (two_of after)
     else if bytes_eq word (codes "allow") then allow_line after
-    else if bytes_eq word (codes "feed") then feed_line (three_of after)
+    else if bytes_eq word (codes "feed") then feed_line after
     else Err UnknownKey
 
 -- what a line without white space at its ends says (docs/FORMATS.md, Configuration)
@@ -269,12 +277,13 @@ relay_line line = relay_trimmed (without_outer_white line)
 
 -- the feed says the expression that its text is, or Pattern where that has a fault
 -- (docs/FORMATS.md, Configuration)
-abbrev pub FeedSays : (name : List ℕ) (ring : ℕ) (text : List ℕ) → SaidLine → Type 0
-FeedSays name ring text (Err fault) =
+abbrev pub FeedSays : (name : List ℕ) (ring : ℕ) (text : List ℕ) (hash : Option HashFeed)
+    → SaidLine → Type 0
+FeedSays name ring text hash (Err fault) =
     (fault ≡ Pattern) × ((found : ExpressionFault) × HasLeftmostFault text found)
-FeedSays name ring text (Ok line) =
+FeedSays name ring text hash (Ok line) =
     (expression : List Marked) × IsExpressionText text expression
-    × (line ≡ FeedLine name ring expression)
+    × (line ≡ FeedLine name ring expression hash)
 
 -- what a line says once its expression is read (docs/FORMATS.md, Configuration)
 abbrev pub RawSays : RawLine → SaidLine → Type 0
@@ -292,7 +301,7 @@ RawSays (Ok (Bind address)) said = said ≡ Ok (Bind address)
 RawSays (Ok (PeerLine name identity port)) said = said ≡ Ok (PeerLine name identity port)
 RawSays (Ok (ConnectionsLine name connections)) said = said ≡ Ok (ConnectionsLine name connections)
 RawSays (Ok (AllowLine name ranges)) said = said ≡ Ok (AllowLine name ranges)
-RawSays (Ok (FeedLine name ring text)) said = FeedSays name ring text said
+RawSays (Ok (FeedLine name ring text hash)) said = FeedSays name ring text hash said
 
 -- what a line of relay.conf says, whatever stands before it (docs/FORMATS.md, Configuration)
 abbrev pub LineSays : (before : List SaidLine) → (line : List ℕ) → SaidLine → Type 0

@@ -36,7 +36,7 @@ raw_view (lines.Bind address) = Bind address
 raw_view (lines.Peer name identity port) = PeerLine name.now identity.now port
 raw_view (lines.Connections name connections) = ConnectionsLine name.now connections
 raw_view (lines.Allow name text) = AllowLine name.now (ranges_in text.now)
-raw_view (lines.Feed name ring text) = FeedLine name.now ring text.now
+raw_view (lines.Feed name ring text hash) = FeedLine name.now ring text.now hash
 
 -- the answer is what a line says alone
 abbrev pub raw_by : Result Line Fault → RawLine

@@ -16,6 +16,8 @@ ghost use Rattle.std.specs.Str.{byte};
 ghost use Rattle.relay_conf.specs.AddressExamples.{bind_lines, bind_settings, mixed_lines};
 ghost use Rattle.relay_conf.specs.AddressExamples.{mixed_reaches, mixed_settings};
 ghost use Rattle.relay_conf.specs.Cycbuff.{Group, CycbuffSettings, cycbuff_of};
+ghost use Rattle.relay_conf.specs.HashExamples.{hash_lines, hash_settings, numbers_of};
+ghost use Rattle.relay_conf.specs.HashLines.{part_of, hash_part, in_order};
 ghost use Rattle.relay_conf.specs.K1.{k1_buffers, k1_entries, k1_relay};
 ghost use Rattle.relay_conf.specs.K2.{k2_buffers, k2_cycbuff};
 ghost use Rattle.relay_conf.specs.Lines.{lines_of, joined_by, is_line};
@@ -38,6 +40,7 @@ ghost use Rattle.relay_conf.specs.Words.{is_identity};
 ghost use Rattle.relay_conf.specs.declared.config.TheConstants.{K1_CYCBUFF, K1_STORAGE, K1_RELAY};
 ghost use Rattle.relay_conf.specs.declared.faults.Fault.TheVariants.{Duplicate, Number, Syntax};
 ghost use Rattle.relay_conf.specs.declared.faults.LineFault.{LineFault};
+ghost use Rattle.relay_conf.specs.declared.hash_feeds.HashFeed.{HashFeed};
 ghost use Rattle.relay_conf.specs.declared.reach.Allow.{Allow};
 ghost use Rattle.relay_conf.specs.declared.reach.Range.{Range};
 
@@ -245,6 +248,55 @@ pub fn faults_of_log()
     ensures nul { relay_line (codes "log all " ++ 0 ∷ []) ≡ Err Syntax }
     ensures again { relay.HasFault (codes "log all f" ∷ codes "own a" ∷ codes "log refused g" ∷ [])
         (record { line = 3; fault = Duplicate }) }
+{}
+
+/// A part is that of its numbers; numbers that are not in order are of no part.
+pub fn parts_by_numbers()
+    ensures part { (hash : HashFeed) → hash_part hash.first hash.last hash.parts ≡ Some hash }
+    ensures none { (first last parts : ℕ) → in_order first last parts ≡ false
+        → hash_part first last parts ≡ None }
+{}
+
+/// A line of a feed says its part, a single place as the part from it to it; without one the feed
+/// may have each article. Zeros in front do not matter, and a part may be of 4,294,967,295.
+pub fn hash_feeds_of_examples()
+    ensures lines { relay.HasSettings hash_lines hash_settings }
+    ensures single { numbers_of (codes "3/4") ≡ Some (3, 3, 4) }
+    ensures several { numbers_of (codes "2-3/4") ≡ Some (2, 3, 4) }
+    ensures zeros { numbers_of (codes "01-002/0003") ≡ Some (1, 2, 3) }
+    ensures most { numbers_of (codes "1-4294967295/4294967295")
+        ≡ Some (1, 4294967295, 4294967295) }
+{}
+
+/// Syntax is a missing or superfluous word of `feed`, another word than `hash`, and a part without
+/// just one slash, with a second dash in front of it, or with an empty piece.
+pub fn words_of_hash()
+    ensures few { (relay_line (codes "feed p 2") ≡ Err Syntax)
+        × (relay_line (codes "feed p 2 * hash") ≡ Err Syntax) }
+    ensures further { relay_line (codes "feed p 2 * hash 1/2 3") ≡ Err Syntax }
+    ensures another { (relay_line (codes "feed p 2 * part 1/2") ≡ Err Syntax)
+        × (relay_line (codes "feed p 2 * HASH 1/2") ≡ Err Syntax) }
+    ensures slashes { (part_of (codes "1-1") ≡ Err Syntax) × (part_of (codes "1/2/3") ≡ Err Syntax) }
+    ensures dashes { part_of (codes "1-2-3/4") ≡ Err Syntax }
+    ensures empty { (part_of (codes "/2") ≡ Err Syntax) × (part_of (codes "1/") ≡ Err Syntax)
+        × (part_of (codes "-1/2") ≡ Err Syntax) × (part_of (codes "1-/2") ≡ Err Syntax) }
+{}
+
+/// Number is a piece with another octet than digits, and numbers that are out of order or past
+/// 4,294,967,295. Syntax comes before Number, Number before Duplicate.
+pub fn faults_of_hash()
+    ensures digits { (part_of (codes "a/2") ≡ Err Number) × (part_of (codes "1-+1/2") ≡ Err Number)
+        × (part_of (codes "1/2-3") ≡ Err Number) }
+    ensures zero { (part_of (codes "0/2") ≡ Err Number) × (part_of (codes "0-1/2") ≡ Err Number) }
+    ensures falling { part_of (codes "2-1/2") ≡ Err Number }
+    ensures past { (part_of (codes "1-3/2") ≡ Err Number) × (part_of (codes "3/2") ≡ Err Number) }
+    ensures most { part_of (codes "1/4294967296") ≡ Err Number }
+    ensures first { (relay_line (codes "feed p 0 * hash 1") ≡ Err Syntax)
+        × (relay_line (codes "feed p! 2 * hash 0/2") ≡ Err Syntax)
+        × (relay_line (codes "feed p 2 * hash 0/2") ≡ Err Number) }
+    ensures again { relay.HasFault
+        (codes "own a" ∷ codes "peer p b 0" ∷ codes "feed p 2 * hash 1/2" ∷ codes "feed p 2 *" ∷ [])
+        (record { line = 4; fault = Duplicate }) }
 {}
 
 /// Number is a number of bits past those of the address, and Syntax what is no address: `::` twice,

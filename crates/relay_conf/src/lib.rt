@@ -14,6 +14,8 @@ mod drafts;
 mod expressions;
 mod faults;
 mod hash_feeds;
+mod hash_lines;
+mod kept;
 pub mod laws;
 mod lines;
 mod names;

@@ -68,13 +68,14 @@ pub(crate) fn numbered(
             name,
             ring,
             expression,
+            hash,
         } = feed;
         let peer = number_of(peers, name.as_slice());
         feeds.push(Feed {
             peer,
             ring,
             expression,
-            hash: None,
+            hash,
         })?;
     }
     Ok(feeds)

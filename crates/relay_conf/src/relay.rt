@@ -14,13 +14,14 @@ use crate::drafts::{LineByLine, read_lines, set_once};
 use crate::expressions::expression_of;
 use crate::faults::{ConfError, Fault, LineFault, Refusal};
 use crate::hash_feeds::HashFeed;
+use crate::kept::{push_connections, push_feed, push_named, push_peer};
 use crate::names::add_name;
 use crate::peers::{connect, is_peer, known_names, numbered, numbered_allows};
 use crate::reach::{NamedAllow, push_ranges};
 use crate::relay_lines::{Line, relay_line};
 use crate::settings::{NewsLog, Relay};
 use line_words::Octets;
-use std::alloc::{AllocError, Global};
+use std::alloc::Global;
 use std::collections::HashSet;
 use uwild::Expr;
 
@@ -105,6 +106,7 @@ pub(crate) struct NamedFeed {
     pub(crate) name: Octets,
     pub(crate) ring: u32,
     pub(crate) expression: Expr,
+    pub(crate) hash: Option<HashFeed>,
 }
 
 impl LineByLine for RelayDraft {
@@ -185,7 +187,9 @@ impl RelayDraft {
                 self.add_connections(alloc, number, name, connections)
             }
             Line::Allow(name, ranges) => self.add_allow(alloc, number, name, ranges),
-            Line::Feed(name, ring, text) => self.add_feed(alloc, number, name, ring, text),
+            Line::Feed(name, ring, text, hash) => {
+                self.add_feed(alloc, number, name, ring, text, hash)
+            }
         }
     }
 
@@ -258,90 +262,19 @@ impl RelayDraft {
         name: &str,
         ring: u32,
         text: &[u8],
+        hash: Option<HashFeed>,
     ) -> Result<(), Refusal>
-        ensures { AddsFeed line name.now ring text.now self.old self.new result }
+        ensures { AddsFeed line name.now ring text.now hash self.old self.new result }
     {
         let expression = expression_of(alloc, text)?;
         if !add_name(alloc, &mut self.feed_names, name)? {
             return Err(Refusal::Faulty(Fault::Duplicate));
         }
         let name = name.as_bytes();
-        push_feed(alloc, &mut self.feeds, name, ring, expression)?;
+        push_feed(alloc, &mut self.feeds, name, ring, expression, hash)?;
         push_named(alloc, &mut self.named, line, name)?;
         Ok(())
     }
-}
-
-/// Keeps a peer, one of whose connections is served at once.
-fn push_peer(
-    alloc: Global,
-    peers: &mut Vec<Peer>,
-    name: &[u8],
-    identity: &[u8],
-    port: u16,
-) -> Result<(), AllocError>
-    ensures { OnOk result (peers.new.items ≡ peers.old.items
-        ++ record { name = name.now; identity = identity.now; port = port; connections = 1 } ∷ []) }
-{
-    let name = Octets::copied(alloc, name)?;
-    let identity = Octets::copied(alloc, identity)?;
-    peers.push(Peer {
-        name,
-        identity,
-        port,
-        connections: 1,
-    })?;
-    Ok(())
-}
-
-/// Keeps the connections of a peer.
-fn push_connections(
-    alloc: Global,
-    kept: &mut Vec<PeerConnections>,
-    name: &[u8],
-    connections: u32,
-) -> Result<(), AllocError>
-    ensures { OnOk result (kept.new.items
-        ≡ kept.old.items ++ record { name = name.now; connections = connections } ∷ []) }
-{
-    let name = Octets::copied(alloc, name)?;
-    kept.push(PeerConnections { name, connections })?;
-    Ok(())
-}
-
-/// Keeps a feed by the name of its peer.
-fn push_feed(
-    alloc: Global,
-    feeds: &mut Vec<NamedFeed>,
-    name: &[u8],
-    ring: u32,
-    expression: Expr,
-) -> Result<(), AllocError>
-    ensures { OnOk result (feeds.new.items ≡ feeds.old.items
-        ++ record { name = name.now; ring = ring; expression = expression } ∷ []) }
-{
-    let name = Octets::copied(alloc, name)?;
-    feeds.push(NamedFeed {
-        name,
-        ring,
-        expression,
-    })?;
-    Ok(())
-}
-
-/// Keeps the number of a line and the name that it says something of.
-fn push_named(
-    alloc: Global,
-    named: &mut Vec<NamedLine>,
-    line: usize,
-    name: &[u8],
-) -> Result<(), AllocError>
-    ensures { OnOk result (named.new.items
-        ≡ named.old.items ++ record { line = line; name = name.now } ∷ []) }
-{
-    let name = Octets::copied(alloc, name)?;
-    named.push(NamedLine { line, name })?;
-    Ok(())
 }
 
 /// The settings, or the first fault that is looked for after the last line.

@@ -7,6 +7,8 @@ ghost use Rattle.relay_conf.specs.Words.{words};
 
 use crate::cycbuff_lines::is_file;
 use crate::faults::Fault;
+use crate::hash_feeds::HashFeed;
+use crate::hash_lines::hash_behind;
 use crate::names::name_of;
 use crate::reach::range_fault;
 use crate::words::{first_word, is_identity, is_name, one_word, three_words, two_words};
@@ -42,8 +44,8 @@ pub(crate) enum Line<'a> {
     Connections(&'a str, u32),
     /// The name of a peer and the ranges of addresses that may connect to it.
     Allow(&'a str, &'a [u8]),
-    /// A feed: the name of its peer, its ring and the text of its expression.
-    Feed(&'a str, u32, &'a [u8]),
+    /// A feed: the name of its peer, its ring, the text of its expression, and its part.
+    Feed(&'a str, u32, &'a [u8], Option<HashFeed>),
 }
 
 /// A key whose value is one number.
@@ -289,16 +291,23 @@ fn allow_line(rest: &[u8]) -> Result<Line<'_>, Fault>
 
 /// Reads what follows `feed`, but for the expression.
 fn feed_line(rest: &[u8]) -> Result<Line<'_>, Fault>
-    ensures { raw_by result ≡ terms.feed_line (three_of (words rest.now)) }
+    ensures { raw_by result ≡ terms.feed_line (words rest.now) }
 {
-    let Some((name, ring, text)) = three_words(rest) else {
+    let Some((name, rest)) = first_word(rest) else {
+        return Err(Fault::Syntax);
+    };
+    let Some((ring, rest)) = first_word(rest) else {
+        return Err(Fault::Syntax);
+    };
+    let Some((text, rest)) = first_word(rest) else {
         return Err(Fault::Syntax);
     };
     let Some(name) = name_of(name) else {
         return Err(Fault::Syntax);
     };
+    let hash = hash_behind(rest)?;
     match number_within(1, 65_536, ring) {
-        Some(ring) => Ok(Line::Feed(name, ring as u32, text)),
+        Some(ring) => Ok(Line::Feed(name, ring as u32, text, hash)),
         None => Err(Fault::Number),
     }
 }

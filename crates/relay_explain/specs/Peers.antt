@@ -1,8 +1,10 @@
 -- What is told of the peers and the feeds of relay.conf.
-use Rattle.std.specs.Prelude.{ℕ, ◌-◌, ◌==◌, List, [], ◌++◌, codes, decimal, find, flat_map, take}
+use Rattle.std.specs.Prelude.{ℕ, ◌-◌, ◌==◌, ◌&&◌, Bool, false, List, [], ◌++◌, codes, decimal}
+use Rattle.std.specs.Prelude.{find, flat_map, take}
 use Rattle.std.specs.Prelude.{bytes_eq, slice_get, Option, Some, None, option_map}
 use Rattle.std.specs.Prelude.{if◌then◌else◌}
 use Rattle.std.specs.List.{enumerate_from}
+use Rattle.relay_conf.specs.declared.hash_feeds.HashFeed.{HashFeed}
 use Rattle.relay_conf.specs.declared.relay.Feed.{Feed}
 use Rattle.relay_conf.specs.declared.relay.Peer.{Peer}
 use Rattle.relay_conf.specs.declared.settings.Relay.{Relay}
@@ -79,21 +81,36 @@ newsgroups_on line = line_at 3 (words_in line)
 unfoldable pub newsgroups_at : (line : ℕ) → (lines : List (List ℕ)) → List ℕ
 newsgroups_at line lines = newsgroups_on (line_at (line - 1) lines)
 
--- `feed of p2: newsgroups *, tokens that wait at most: 2`
-unfoldable pub feed_told : (name newsgroups : List ℕ) → (ring : ℕ) → List ℕ
-feed_told name newsgroups ring =
-    codes "feed of " ++ name ++ codes ": newsgroups " ++ newsgroups
+-- which of these articles a feed may have, where not each: `, of their articles those of hash 1-1/2`
+abbrev pub hash_told : Option HashFeed → List ℕ
+hash_told None = []
+hash_told (Some hash) =
+    codes ", of their articles those of hash " ++ decimal hash.first ++ codes "-"
+    ++ decimal hash.last ++ codes "/" ++ decimal hash.parts
+
+-- the part is of all articles
+abbrev pub is_whole : Option HashFeed → Bool
+is_whole None = false
+is_whole (Some hash) = hash.first == 1 && hash.last == hash.parts
+
+-- `feed of p2: newsgroups *, tokens that wait at most: 2`; a part stands behind the newsgroups
+unfoldable pub feed_told : (name newsgroups : List ℕ) → (hash : Option HashFeed) → (ring : ℕ)
+    → List ℕ
+feed_told name newsgroups hash ring =
+    codes "feed of " ++ name ++ codes ": newsgroups " ++ newsgroups ++ hash_told hash
     ++ codes ", tokens that wait at most: " ++ decimal ring
 
 -- what is told of a feed of this peer, which this line says with these newsgroups
 unfoldable pub feed_told_on : (line : ℕ) → (newsgroups : List ℕ) → Option Peer → Feed → List ℕ
 feed_told_on line newsgroups peer feed =
-    told_line relay_conf line (feed_told (name_of peer) newsgroups feed.ring)
+    told_line relay_conf line (feed_told (name_of peer) newsgroups feed.hash feed.ring)
     ++ pattern_odds relay_conf line newsgroups
     ++ odd_line (port_of peer == 0) relay_conf line
     (codes "the peer has no port, so nobody takes the feed")
     ++ odd_line (feed.ring == 1) relay_conf line
     (codes "of a ring of 1 only the newest token is ever there")
+    ++ odd_line (is_whole feed.hash) relay_conf line
+    (codes "the hash leaves out no article")
 
 -- what is told of a feed
 abbrev pub feed_text : Relay → (lines : List (List ℕ)) → Feed → List ℕ

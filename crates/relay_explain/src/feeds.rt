@@ -13,7 +13,7 @@ use crate::patterns::put_pattern_odds;
 use crate::settings::RELAY;
 use crate::text::{Text, begin_line, put, put_odd};
 use line_words::{Between, first_word, trim};
-use relay_conf::{Feed, Peer, Relay};
+use relay_conf::{Feed, HashFeed, Peer, Relay};
 
 /// Puts what is told of all feeds.
 #[tactic(auto, unfolding(crate::specs::Peers::feeds_text))]
@@ -59,7 +59,7 @@ fn put_told_on(text: Text, line: usize, newsgroups: &[u8], peer: Option<&Peer>, 
     ensures { Adds text result
         (terms.feed_told_on line newsgroups.now (option_copied peer.entry) feed.now) }
 {
-    let text = put_feed_line(text, line, newsgroups, name_of(peer), feed.ring);
+    let text = put_feed_line(text, line, newsgroups, name_of(peer), feed.hash, feed.ring);
     let text = put_pattern_odds(text, RELAY, line, newsgroups);
     let text = put_odd(
         text,
@@ -68,29 +68,62 @@ fn put_told_on(text: Text, line: usize, newsgroups: &[u8], peer: Option<&Peer>, 
         line,
         b"the peer has no port, so nobody takes the feed",
     );
-    put_odd(
+    let text = put_odd(
         text,
         feed.ring == 1,
         RELAY,
         line,
         b"of a ring of 1 only the newest token is ever there",
-    )
+    );
+    let told = b"the hash leaves out no article";
+    put_odd(text, is_whole(feed.hash), RELAY, line, told)
 }
 
 /// Puts the line of a feed of the peer of this name.
 #[tactic(auto, unfolding(crate::specs::Peers::feed_told, crate::specs::Lines::told_line))]
-fn put_feed_line(text: Text, line: usize, newsgroups: &[u8], name: &[u8], ring: u32) -> Text
+fn put_feed_line(
+    text: Text,
+    line: usize,
+    newsgroups: &[u8],
+    name: &[u8],
+    hash: Option<HashFeed>,
+    ring: u32,
+) -> Text
     ensures { Adds text result
-        (told_line relay_conf line (terms.feed_told name.now newsgroups.now ring)) }
+        (told_line relay_conf line (terms.feed_told name.now newsgroups.now hash ring)) }
 {
     let text = begin_line(text, RELAY, line);
-    let most: &[u8] = b", tokens that wait at most: ";
-    put(
-        text,
-        &[b"feed of ", name, b": newsgroups ", newsgroups, most],
-    )
-    .add_number(ring as u128)
-    .add(b"\n")
+    let text = put(text, &[b"feed of ", name, b": newsgroups ", newsgroups]);
+    put_hash(text, hash)
+        .add(b", tokens that wait at most: ")
+        .add_number(ring as u128)
+        .add(b"\n")
+}
+
+/// Puts which of the articles a feed may have, where not each.
+fn put_hash(text: Text, hash: Option<HashFeed>) -> Text
+    ensures { Adds text result (terms.hash_told hash) }
+{
+    match hash {
+        None => text,
+        Some(hash) => text
+            .add(b", of their articles those of hash ")
+            .add_number(hash.first as u128)
+            .add(b"-")
+            .add_number(hash.last as u128)
+            .add(b"/")
+            .add_number(hash.parts as u128),
+    }
+}
+
+/// Whether the part is of all articles.
+fn is_whole(hash: Option<HashFeed>) -> bool
+    ensures { result ≡ terms.is_whole hash }
+{
+    match hash {
+        None => false,
+        Some(hash) => hash.first == 1 && hash.last == hash.parts,
+    }
 }
 
 /// The name of a peer; one that isn't there has none.

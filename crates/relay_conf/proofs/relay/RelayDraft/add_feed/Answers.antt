@@ -15,7 +15,7 @@ name_of feed = feed.name
 
 pub returns-in_err-expression : goal.returns-in_err-expression
 returns-in_err-expression c = λ listed. record {
-  step = unread (FeedSays c.args.name.now c.args.ring c.args.text.now) fault_behind
+  step = unread (FeedSays c.args.name.now c.args.ring c.args.text.now c.args.hash) fault_behind
       (after_line c.args.line) (draft_view c.args.self.now) (draft_view c.args.self.now)
       c.from_residual.result c.args.text.now c.in_err-expression.field-0.0 c.from_residual.ensures.1
       c.in_err-expression.ensures (λ fault g. record { said = Err fault; says = g; found = refl });
@@ -28,7 +28,7 @@ returns-in_err-add_name c = λ listed. no_memory _ c.from_residual-in_err-add_na
 pub returns-then-not-branch : goal.returns-then-not-branch
 returns-then-not-branch c = λ listed. record {
   step = record {
-    said = Ok (FeedLine c.args.name.now c.args.ring c.in_ok-expression.expression);
+    said = Ok (FeedLine c.args.name.now c.args.ring c.in_ok-expression.expression c.args.hash);
     says = (c.in_ok-expression.expression, c.in_ok-expression.ensures, refl);
     found = (name_listed (map name_of c.args.self.now.feeds.items) c.args.name.now
         (contains_text c.args.self.now.feed_names c.args.name.now) c.in_ok-add_name.field-0
@@ -50,7 +50,7 @@ returns c = λ listed.
     let text = c.as_bytes-name.ensures.value in
     let expression = c.in_ok-expression.expression in
     let under : List ℕ → NamedFeed =
-    λ name. record { name = name; ring = c.args.ring; expression = expression } in
+    λ name. record { name = name; ring = c.args.ring; expression = expression; hash = c.args.hash } in
     let grown : List ℕ → List NamedFeed = λ name. old.feeds.items ++ under name ∷ [] in
     let named : List ℕ → List NamedLine =
     λ name. old.named.items ++ record { line = c.args.line; name = name } ∷ [] in
@@ -59,7 +59,7 @@ returns c = λ listed.
     let kept = c.in_ok-push_feed.ensures ∙ ap grown text in
     record {
       step = record {
-        line = FeedLine c.args.name.now c.args.ring expression;
+        line = FeedLine c.args.name.now c.args.ring expression c.args.hash;
         says = (expression, c.in_ok-expression.ensures, refl);
         none = (name_listed (map name_of old.feeds.items) c.args.name.now
             (contains_text old.feed_names c.args.name.now) c.in_ok-add_name.field-0
