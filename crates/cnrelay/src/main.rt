@@ -10,7 +10,7 @@
 //! decided.
 #![tactic(auto)]
 
-use news_log::{HostNews, NewsFile};
+use news_log::Opening;
 use relay_command::{
     Failure, Request, exit_code, gathering, hint, print_failure, program_words, run,
 };
@@ -30,26 +30,20 @@ use std::thread::Threads;
 use std::time::Clock;
 
 fn main(rt: HostRuntime) -> ExitCode {
-    // Made here, where the runtime's type is known: a thread that writes it opens it, and can't by
-    // a type that is only said to open files.
-    let news = HostNews::unnamed(&rt);
-    let ran = run_here(&rt, news, &mut rt.stderr());
+    let ran = run_here(&rt, &mut rt.stderr());
     let _unseen = print_failure(&ran, &mut rt.stderr());
     exit_code(&ran)
 }
 
 /// Does what the words of the system ask for, over its streams, files and ports. What could not be
-/// handed on to standard output is let go of, and not written when its writer is. `news` is the
-/// file of a news log, `errors` is standard error.
-fn run_here<R, N: NewsFile + Drop + Send, E: Write + IsTerminal>(
-    rt: &R,
-    news: N,
-    errors: &mut E,
-) -> Result<(), Failure>
+/// handed on to standard output is let go of, and not written when its writer is. `errors` is
+/// standard error.
+fn run_here<R, E: Write + IsTerminal>(rt: &R, errors: &mut E) -> Result<(), Failure>
 where
     R: AllocGlobal
         + Env
         + Files<File = File>
+        + Opening
         + Input
         + Print
         + Eprint
@@ -71,7 +65,7 @@ where
         &mut rt.reader(),
         &mut output,
         move |config, folder, sessions, fresh, writer| serve_on(
-            rt, alloc, config, folder, sessions, fresh, news, writer,
+            rt, alloc, config, folder, sessions, fresh, writer,
         ),
         move |config, folder, writer| add_on(rt, alloc, config, folder, writer),
         move |config, folder, writer| stand_on(rt, alloc, config, folder, writer),

@@ -11,6 +11,30 @@ use std::io::{ErrorKind, Write};
 use std::os::unix::fs::MetadataExt;
 use std::path::{Path, PathBuf};
 
+/// Who opens files that lines go behind. A thread that is started over a runtime can open them by
+/// this, where it can't by a runtime that is only said to have files of some type.
+pub trait Opening {
+    /// What stands at a path.
+    fn metadata_at(&self, path: &str) -> io::Result<Metadata>;
+
+    /// The file at a path, opened so that each write goes behind its end, and made where nothing is
+    /// there.
+    fn open_end(&self, path: &str) -> io::Result<File>;
+}
+
+impl Opening for HostRuntime {
+    fn metadata_at(&self, path: &str) -> io::Result<Metadata> {
+        self.metadata(path)
+    }
+
+    fn open_end(&self, path: &str) -> io::Result<File> {
+        OpenOptions::new()
+            .append(true)
+            .create(true)
+            .open(self, path)
+    }
+}
+
 /// A file of the machine that lines go behind, by its path. It is opened when it is looked at, and
 /// again once another stands at its path, or none, as where it was renamed (logrotate).
 #[derive(Drop)]
@@ -46,7 +70,7 @@ impl<'a, R> HostNews<'a, R> {
     }
 }
 
-impl<R: Files<File = File>> NewsFile for HostNews<'_, R> {
+impl<R: Opening> NewsFile for HostNews<'_, R> {
     // Of a file of the machine nothing is promised, so contracts see no octet of it, and nothing
     // says that it is honest.
     ghost written = { λ news. [] };
@@ -74,11 +98,7 @@ impl<R: Files<File = File>> NewsFile for HostNews<'_, R> {
 }
 
 /// Opens what stands at a path, where that isn't the file that is open.
-fn look_at<R: Files<File = File>>(
-    rt: &R,
-    path: &str,
-    opened: &mut Option<Opened>,
-) -> io::Result<()> {
+fn look_at<R: Opening>(rt: &R, path: &str, opened: &mut Option<Opened>) -> io::Result<()> {
     let found = found_at(rt, path)?;
     if !is_found(opened, found) {
         *opened = Some(opened_at(rt, path)?);
@@ -94,18 +114,17 @@ fn is_found(opened: &Option<Opened>, found: Option<Number>) -> bool {
     }
 }
 
-/// The file at a path, opened so that each write goes behind its end, and made where nothing is
-/// there.
-fn opened_at<R: Files<File = File>>(rt: &R, path: &str) -> io::Result<Opened> {
-    let file = OpenOptions::new().append(true).create(true).open(rt, path)?;
+/// The file at a path, opened, with its number.
+fn opened_at<R: Opening>(rt: &R, path: &str) -> io::Result<Opened> {
+    let file = rt.open_end(path)?;
     let number = number_of(&file.metadata()?);
     Ok(Opened { file, number })
 }
 
 /// The number of the file that stands at a path, none where nothing does. Anything else is the
 /// error: the opening of a pipe would wait for whoever reads it.
-fn found_at<R: Files>(rt: &R, path: &str) -> io::Result<Option<Number>> {
-    match rt.metadata(path) {
+fn found_at<R: Opening>(rt: &R, path: &str) -> io::Result<Option<Number>> {
+    match rt.metadata_at(path) {
         Ok(found) => {
             if found.is_file() {
                 Ok(Some(number_of(&found)))

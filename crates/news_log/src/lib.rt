@@ -20,7 +20,7 @@ mod waiting;
 mod writer;
 mod writing;
 
-pub use host_news::HostNews;
+pub use host_news::{HostNews, Opening};
 pub use lines::{accepted_line, refused_line};
 pub use moments::{Moment, moment_of};
 pub use news_file::NewsFile;

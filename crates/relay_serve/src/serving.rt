@@ -25,7 +25,7 @@ use file_blocks::FileBlocks;
 use live_journal::PendingJournal;
 use live_store::ArticleLog;
 use live_wire::{Callers, Port, Stop};
-use news_log::{NewsFile, NewsLines, NewsWriting};
+use news_log::{HostNews, NewsFile, NewsLines, NewsWriting, Opening};
 use relay_conf::Config;
 use relay_folder::{
     Control, HistoryPlace, HostHistory, HostJournal, JournalFile, JournalPlace, Origin,
@@ -57,16 +57,14 @@ use std::time::Clock;
 /// is asked. Then it begins: from nothing where that is asked for (`fresh`), or where neither a
 /// history nor a buffer was kept there, else from what it was stopped with. Once it was told to
 /// stop, or each port has served so many connections, it is stopped, its history is kept, and the
-/// report is written. What it does is told in lines on standard error. `news` is the file of its
-/// news log, which is named here where the relay has one.
-pub fn serve_on<R, N: NewsFile + Drop + Send, W: Write>(
+/// report is written. What it does is told in lines on standard error.
+pub fn serve_on<R, W: Write>(
     rt: &R,
     alloc: Global,
     config: &Config,
     folder: &str,
     sessions: Option<u32>,
     fresh: bool,
-    news: N,
     writer: &mut W,
 ) -> Result<(), ServeError>
 where
@@ -74,6 +72,7 @@ where
         + Wait
         + Net<Listener = TcpListener, Stream = TcpStream>
         + Files<File = File>
+        + Opening
         + Clock
         + Eprint
         + RandomSource
@@ -89,7 +88,7 @@ where
     let lines = pending_of(alloc, &config.relay)?;
     let logged = News::of(&config.relay, &lines);
     let gate = CountingGate::new(alloc, &config.relay.peers, logged)?;
-    let writing = writing_of(rt, alloc, folder, logged, news)?;
+    let writing = writing_of(rt, alloc, folder, logged, HostNews::unnamed(rt))?;
     let callers = callers_of(alloc, &config.relay)?;
     let stop = Stop::new();
     let asked = Asked {
