@@ -24,6 +24,7 @@ buffer_fault_text Mixed = codes "6 Mixed"
 abbrev pub history_fault_text : HistoryFault → List ℕ
 history_fault_text causes.Missing = codes "relay.hist: 5 BadHistory missing"
 history_fault_text causes.Text = codes "relay.hist: 5 BadHistory text"
+history_fault_text causes.Names = codes "relay.hist: 5 BadHistory names"
 history_fault_text causes.Groups = codes "relay.hist: 5 BadHistory groups"
 history_fault_text causes.Feeds = codes "relay.hist: 5 BadHistory feeds"
 history_fault_text causes.Ring = codes "relay.hist: 5 BadHistory ring"

@@ -3,8 +3,8 @@ use Rattle.std.specs.Prelude.{ℕ, List, codes}
 use Rattle.relay_report.specs.declared.reason.Reason.{Reason}
 use Rattle.relay_report.specs.declared.reason.Reason.TheVariants.{NoText, NoFolder, NoRight}
 use Rattle.relay_report.specs.declared.reason.Reason.TheVariants.{NotRegular, Held, Shared, NoRoom}
-use Rattle.relay_report.specs.declared.reason.Reason.TheVariants.{TooLarge, Unwritten, InUse}
-use Rattle.relay_report.specs.declared.reason.Reason.TheVariants.{NoAddress, Refused}
+use Rattle.relay_report.specs.declared.reason.Reason.TheVariants.{TooLarge, TooSmall, Unwritten}
+use Rattle.relay_report.specs.declared.reason.Reason.TheVariants.{InUse, NoAddress, Refused}
 
 -- the text of a reason, without the line's end
 abbrev pub reason_text : Reason → List ℕ
@@ -16,6 +16,7 @@ reason_text Held = codes "locked by another relay"
 reason_text Shared = codes "the file of an earlier buffer"
 reason_text NoRoom = codes "no room on the disk"
 reason_text TooLarge = codes "no file may be so large"
+reason_text TooSmall = codes "the device is smaller than the buffer"
 reason_text Unwritten = codes "a block can't be written"
 reason_text InUse = codes "in use"
 reason_text NoAddress = codes "no such address on this machine"

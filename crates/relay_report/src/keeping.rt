@@ -44,6 +44,8 @@ pub enum HistoryFault {
     Missing,
     /// It is the text of no history, whatever the configuration.
     Text,
+    /// `relay.names` isn't one, or its names can't be those of this history.
+    Names,
     /// It has another number of groups, or a group's position that isn't one of its buffers.
     Groups,
     /// It has another number of feeds.
@@ -62,6 +64,7 @@ impl HistoryFault {
         match self {
             HistoryFault::Missing => "relay.hist: 5 BadHistory missing",
             HistoryFault::Text => "relay.hist: 5 BadHistory text",
+            HistoryFault::Names => "relay.hist: 5 BadHistory names",
             HistoryFault::Groups => "relay.hist: 5 BadHistory groups",
             HistoryFault::Feeds => "relay.hist: 5 BadHistory feeds",
             HistoryFault::Ring => "relay.hist: 5 BadHistory ring",

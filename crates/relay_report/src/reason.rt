@@ -15,7 +15,7 @@ pub enum Reason {
     NoFolder,
     /// The file may not be read and written, or the port not be taken.
     NoRight,
-    /// It is a folder, a pipe, a device, or something else than a regular file.
+    /// It is a folder, a pipe, or something else than a regular file or a block device.
     NotRegular,
     /// Another relay holds the file.
     Held,
@@ -25,6 +25,8 @@ pub enum Reason {
     NoRoom,
     /// No file may be as large as the buffer.
     TooLarge,
+    /// The device is smaller than the buffer.
+    TooSmall,
     /// A block of the file can't be written.
     Unwritten,
     /// The port is taken.
@@ -48,6 +50,7 @@ impl Display for Reason {
             Reason::Shared => "the file of an earlier buffer",
             Reason::NoRoom => "no room on the disk",
             Reason::TooLarge => "no file may be so large",
+            Reason::TooSmall => "the device is smaller than the buffer",
             Reason::Unwritten => "a block can't be written",
             Reason::InUse => "in use",
             Reason::NoAddress => "no such address on this machine",
