@@ -37,6 +37,7 @@ start_text (starts.BadHistory fault) = history_fault_text fault
 start_text (starts.Buffer name fault) =
     string_bytes name ++ (codes ": " ++ buffer_fault_text fault)
 start_text starts.Ahead = codes "relay.hist: 7 Ahead"
+start_text starts.Names = codes "relay.names: unusable"
 
 -- why a relay couldn't be stopped so that it can start again
 abbrev pub stop_text : StopFault → List ℕ

@@ -84,6 +84,8 @@ pub enum StartFault {
     Buffer(String, BufferFault),
     /// `relay.hist` speaks of articles that the buffers haven't.
     Ahead,
+    /// `relay.names` is there and can't be read, or not be written anew.
+    Names,
 }
 
 impl Display for StartFault {
@@ -98,6 +100,7 @@ impl Display for StartFault {
             StartFault::History => "relay.hist: unusable",
             StartFault::BadHistory(fault) => fault.text(),
             StartFault::Ahead => "relay.hist: 7 Ahead",
+            StartFault::Names => "relay.names: unusable",
         })
     }
 }

@@ -38,6 +38,7 @@ history_adds config faults.Control (inr (inr none)) = absurd none
 history_adds config (faults.Start starts.History) (inr (inr none)) = absurd none
 history_adds config (faults.Start (starts.Buffer name fault)) (inr (inr none)) = absurd none
 history_adds config (faults.Start starts.Ahead) (inr (inr none)) = absurd none
+history_adds config (faults.Start starts.Names) (inr (inr none)) = absurd none
 history_adds config faults.Unseeded (inr (inr none)) = absurd none
 history_adds config faults.Memory (inr (inr none)) = absurd none
 history_adds config faults.NoThread (inr (inr none)) = absurd none

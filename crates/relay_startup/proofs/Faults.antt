@@ -100,6 +100,7 @@ of_buffer g config stores number fault (faults.Start starts.History) (Some buffe
 of_buffer g config stores number fault (faults.Start (starts.BadHistory cause)) (Some buffer) at e =
     tt
 of_buffer g config stores number fault (faults.Start starts.Ahead) (Some buffer) at e = tt
+of_buffer g config stores number fault (faults.Start starts.Names) (Some buffer) at e = tt
 of_buffer g config stores number fault (faults.File lost) (Some buffer) at e =
     subst (IsRelayFault g config stores) (sym e) tt
 of_buffer g config stores number fault (faults.Port lost) (Some buffer) at e =
@@ -179,6 +180,7 @@ history_serves config faults.Control (inr (inr bad)) = absurd bad
 history_serves config (faults.Start starts.History) (inr (inr bad)) = absurd bad
 history_serves config (faults.Start (starts.Buffer name fault)) (inr (inr bad)) = absurd bad
 history_serves config (faults.Start starts.Ahead) (inr (inr bad)) = absurd bad
+history_serves config (faults.Start starts.Names) (inr (inr bad)) = absurd bad
 history_serves config faults.Unseeded (inr (inr bad)) = absurd bad
 history_serves config faults.Memory (inr (inr bad)) = absurd bad
 history_serves config faults.NoThread (inr (inr bad)) = absurd bad
