@@ -19,7 +19,13 @@ const NAME: &str = "relay.hist";
 /// The name of the file that is written before it takes that name.
 const BESIDE: &str = "relay.hist.new";
 
-/// The file `relay.hist` in a folder.
+/// The name of the file of names in the relay's folder.
+const NAMES: &str = "relay.names";
+
+/// The name of the file that is written before it takes that name.
+const NAMES_BESIDE: &str = "relay.names.new";
+
+/// The file `relay.hist` in a folder, or another that is kept as it is.
 pub struct HostHistory<'a, R> {
     rt: &'a R,
     folder: &'a str,
@@ -50,6 +56,15 @@ impl<'a, R> HostHistory<'a, R> {
         folder: &'a str,
     ) -> Result<HostHistory<'a, R>, AllocError> {
         HostHistory::named(rt, alloc, folder, NAME, BESIDE)
+    }
+
+    /// The file `relay.names` in this folder, which is neither opened nor made.
+    pub fn of_names(
+        rt: &'a R,
+        alloc: Global,
+        folder: &'a str,
+    ) -> Result<HostHistory<'a, R>, AllocError> {
+        HostHistory::named(rt, alloc, folder, NAMES, NAMES_BESIDE)
     }
 
     /// The file of this name in this folder, with room beside it under the other name.

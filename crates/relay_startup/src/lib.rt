@@ -53,4 +53,4 @@ pub use stop_number::stop_begun;
 pub use streams::fill_streams;
 pub use synced::Synced;
 pub use unsaved::without_unsaved;
-pub use unstopped::{history_of, looked_at};
+pub use unstopped::{LookedAt, history_of, looked_at};

@@ -22,27 +22,45 @@ use relay_remains::{HeadFault, Standing, standing_of};
 use relay_report::ServeError;
 use std::alloc::Global;
 
-/// The stores, once their heads were looked at, and whether these say that the relay of this
-/// history was left without a stop.
+/// What the heads of a relay say that isn't begun from nothing.
+pub struct LookedAt<S> {
+    /// The store of each buffer, in their order.
+    pub stores: Vec<S>,
+    /// The number of its last stop, 0 where no history was kept.
+    pub stop: u64,
+    /// Whether it was left without a stop since.
+    pub unstopped: bool,
+}
+
+/// The stores, once their heads were looked at, the number of the stop of this history, and whether
+/// the heads say that its relay was left without a stop.
 pub fn looked_at<S: Synced + Drop>(
     alloc: Global,
     config: &Config,
     stores: Vec<S>,
     text: &[u8],
-) -> Result<(Vec<S>, bool), ServeError>
+) -> Result<LookedAt<S>, ServeError>
     ensures told { IfOk result (λ looked.
-        IsUnstoppedBy ⟦<S as BlockStore>⟧ config.now text.now stores.items looked.1) }
+        IsUnstoppedBy ⟦<S as BlockStore>⟧ config.now text.now stores.items looked.unstopped) }
+    ensures stop { IfOk result (λ looked.
+        IsLastStop config.now (kept_text text.now) looked.stop) }
     ensures unwritten { IfOk result (λ looked.
-        AreEach (IsUnwritten ⟦<S as BlockStore>⟧ None) stores.items looked.0.items) }
-    ensures blocks { IfOk result (λ looked. map (λ store. length (S.blocks store)) looked.0.items
+        AreEach (IsUnwritten ⟦<S as BlockStore>⟧ None) stores.items looked.stores.items) }
+    ensures blocks { IfOk result (λ looked.
+        map (λ store. length (S.blocks store)) looked.stores.items
         ≡ map (λ store. length (S.blocks store)) stores.items) }
     ensures cause { All S.honest stores.items
         → IfErr result (TellsCause config.now (kept_text text.now)) }
     ensures fault { IfErr result (IsServeFault config.now) }
 {
+    let stop = last_stop(alloc, config, text)?;
     let mut stores = stores;
-    match is_unstopped(alloc, config, &mut stores, text) {
-        Ok(unstopped) => Ok((stores, unstopped)),
+    match is_unstopped_since(alloc, config, &mut stores, text, stop) {
+        Ok(unstopped) => Ok(LookedAt {
+            stores,
+            stop,
+            unstopped,
+        }),
         Err(error) => {
             drop(stores);
             Err(error)
@@ -68,6 +86,28 @@ pub(crate) fn is_unstopped<S: BlockStore>(
     ensures fault { IfErr result (IsServeFault config.now) }
 {
     let stop = last_stop(alloc, config, text)?;
+    is_unstopped_since(alloc, config, stores, text, stop)
+}
+
+/// Whether the heads say that the relay of this history, whose stop has this number, was left
+/// without a stop since. The error is the first head that no relay of this history has.
+fn is_unstopped_since<S: BlockStore>(
+    alloc: Global,
+    config: &Config,
+    stores: &mut [S],
+    text: &[u8],
+    stop: u64,
+) -> Result<bool, ServeError>
+    requires last { IsLastStop config.now (kept_text text.now) stop }
+    ensures told { IfOk result (IsUnstoppedBy ⟦<S as BlockStore>⟧ config.now text.now stores.old) }
+    ensures unwritten { OnOk result
+        (AreEach (IsUnwritten ⟦<S as BlockStore>⟧ None) stores.old stores.new) }
+    ensures blocks { map (λ store. length (S.blocks store)) stores.new
+        ≡ map (λ store. length (S.blocks store)) stores.old }
+    ensures cause { All S.honest stores.old
+        → IfErr result (TellsCause config.now (kept_text text.now)) }
+    ensures fault { IfErr result (IsServeFault config.now) }
+{
     match standing_of(stores, stop) {
         Ok(Standing::Unstopped) => Ok(true),
         Ok(Standing::Stopped) => Ok(false),
