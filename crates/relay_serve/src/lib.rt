@@ -7,6 +7,7 @@
 //! What a start does before that, over files and history, is relay_startup's.
 #![tactic(auto)]
 
+mod beginning;
 mod callers;
 mod clock;
 mod desk;

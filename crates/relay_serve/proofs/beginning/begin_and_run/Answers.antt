@@ -6,7 +6,7 @@ use Rattle.relay_report.specs.declared.totals.Totals.{Totals}
 use Rattle.relay_report.specs.Serve.{AreOf}
 use Rattle.relay_serve.proofs.ServeFaults.{served_none, unbegun_serves}
 use Rattle.relay_startup.proofs.Faults.{stop_serves}
-use Rattle.relay_serve.proofs.serving.begin_and_run.Goals as goal
+use Rattle.relay_serve.proofs.beginning.begin_and_run.Goals as goal
 
 -- where it isn't known what it begins from nothing is written,
 pub returns-in-Err : goal.returns-in-Err

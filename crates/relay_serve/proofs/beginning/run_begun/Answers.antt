@@ -4,7 +4,7 @@ use Rattle.file_blocks.specs.Store.{count_of}
 use Rattle.file_blocks.specs.declared.store.FileBlocks.{FileBlocks}
 use Rattle.relay_serve.proofs.Sizes.{watched_sizes}
 use Rattle.relay_startup.proofs.Sizes.{same_count}
-use Rattle.relay_serve.proofs.serving.run_begun.Goals as goal
+use Rattle.relay_serve.proofs.beginning.run_begun.Goals as goal
 
 -- there is a store for each buffer,
 pub watch-requires : goal.watch-requires

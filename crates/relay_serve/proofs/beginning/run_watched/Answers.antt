@@ -1,7 +1,7 @@
 use Rattle.std.proofs.Common.{◌∙◌}
 use Rattle.relay_serve.proofs.Sizes.{watched_sizes}
 use Rattle.relay_serve.proofs.Starts.{unrun_serves}
-use Rattle.relay_serve.proofs.serving.run_watched.Goals as goal
+use Rattle.relay_serve.proofs.beginning.run_watched.Goals as goal
 
 -- each store, watched and in a file, has as many blocks as the file was opened for
 pub run_relay-requires-clause-stores : goal.run_relay-requires-clause-stores

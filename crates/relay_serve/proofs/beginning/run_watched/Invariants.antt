@@ -1,6 +1,6 @@
 use Rattle.std.proofs.Common.{false}
 use Rattle.relay_live.specs.Holding.{has_buffer}
-use Rattle.relay_serve.proofs.serving.run_watched.Given as goal
+use Rattle.relay_serve.proofs.beginning.run_watched.Given as goal
 
 -- the register that was just made, over the buffers of the configuration; no file is trusted
 abbrev pub ghosts-run_relay-J-StorePremises : goal.ghosts-run_relay-J-StorePremises
