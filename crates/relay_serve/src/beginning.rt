@@ -8,7 +8,6 @@ ghost use Rattle.relay_startup.specs.Faults.{IsServeFault};
 
 use crate::clock::MachineClock;
 use crate::desk::Desk;
-use crate::gate::CountingGate;
 use crate::keeping::keep_finished;
 use crate::repairing::begin_again;
 use crate::running::{Finished, Records, Surroundings, channels_of, run_relay};
@@ -21,6 +20,7 @@ use live_wire::Port;
 use news_log::{NewsFile, NewsLines, NewsWriting};
 use relay_conf::Config;
 use relay_folder::{HistoryPlace, JournalFile, JournalPlace, Origin};
+use relay_gate::CountingGate;
 use relay_journal::{
     BegunJournal, JournalLines, JournalWriter, Journaling, PrintedLines, ROOM, ToldJournal,
     begin_journal,

@@ -1,11 +1,11 @@
 //! The gate of a relay that is served.
 ghost use Rattle.std.specs.Prelude.{◌≡◌, ◌++◌, List, ℕ, Some, IfOk, OnOk, length};
 ghost use Rattle.std.specs.Option.{option_map};
-ghost use Rattle.relay_serve.specs.Gates.{AreFromLines, ArePeerLines, ArePeersTold};
-ghost use Rattle.relay_serve.specs.Gates.{AreReasonsLines, IsFromLine, IsPeerLine};
-ghost use Rattle.relay_serve.specs.Gates.{IsReasonsLine, finish_word};
-ghost use Rattle.relay_serve.specs.Gates.{names_of, news_in, told_text};
-ghost use Rattle.relay_serve.specs.News.{all_in, wants_all};
+ghost use Rattle.relay_gate.specs.Gates.{AreFromLines, ArePeerLines, ArePeersTold};
+ghost use Rattle.relay_gate.specs.Gates.{AreReasonsLines, IsFromLine, IsPeerLine};
+ghost use Rattle.relay_gate.specs.Gates.{IsReasonsLine, finish_word};
+ghost use Rattle.relay_gate.specs.Gates.{names_of, news_in, told_text};
+ghost use Rattle.relay_gate.specs.News.{all_in, wants_all};
 
 use crate::news::News;
 use crate::refusals::Refusals;
@@ -152,7 +152,7 @@ impl Display for Told {
 /// articles put where the relay logs them, and tells of each session that has ended, in a line on
 /// standard error.
 #[derive(Drop)]
-pub(crate) struct CountingGate<'a> {
+pub struct CountingGate<'a> {
     alloc: Global,
     counts: Vec<PeerCounts<'a>>,
     /// Where lines of articles are put, if they are.
@@ -161,7 +161,7 @@ pub(crate) struct CountingGate<'a> {
 
 impl<'a> CountingGate<'a> {
     /// A gate for the sessions of these peers, before the first of them.
-    pub(crate) fn new(
+    pub fn new(
         alloc: Global,
         peers: &'a [Peer],
         news: Option<News<'a>>,
@@ -181,7 +181,7 @@ impl<'a> CountingGate<'a> {
     }
 
     /// Puts what is told of each peer behind a text.
-    pub(crate) fn put_peers<R: Wait>(&self, rt: &R, text: &mut Vec<u8>) -> Result<(), AllocError>
+    pub fn put_peers<R: Wait>(&self, rt: &R, text: &mut Vec<u8>) -> Result<(), AllocError>
         ensures { OnOk result ((told : List ℕ) × ArePeersTold (names_of self.now) told
             × (text.new.items ≡ text.old.items ++ told)) }
     {

@@ -1,6 +1,6 @@
 use Rattle.std.proofs.Common.{◌≡◌, ◌++◌, ℕ, List, map, take}
-use Rattle.relay_serve.specs.Gates.{AreFromLines}
-use Rattle.relay_serve.proofs.gate.CountingGate.put_addresses.Given as goal
+use Rattle.relay_gate.specs.Gates.{AreFromLines}
+use Rattle.relay_gate.proofs.gate.CountingGate.put_addresses.Given as goal
 
 -- behind the text stands what is told of each peer so far
 abbrev pub invariant-loop-counts : goal.invariant-loop-counts

@@ -8,7 +8,7 @@ use Rattle.news_log.specs.Lines.{IsAcceptedLine, IsRefusedLine}
 use Rattle.news_log.specs.declared.moments.Moment.{Moment}
 use Rattle.relay_conf.specs.declared.settings.NewsLog.{NewsLog}
 use Rattle.relay_conf.specs.declared.settings.Relay.{Relay}
-use Rattle.relay_serve.specs.declared.news.News.{News}
+use Rattle.relay_gate.specs.declared.news.News.{News}
 use Rattle.std.specs.Option.{option_map}
 
 -- the lines of stored articles are put too

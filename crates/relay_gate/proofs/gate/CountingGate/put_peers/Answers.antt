@@ -1,5 +1,5 @@
 use Rattle.std.proofs.Common.{◌∙◌, ◌++◌, List, ℕ, ap, append_assoc, refl}
-use Rattle.relay_serve.proofs.gate.CountingGate.put_peers.Goals as goal
+use Rattle.relay_gate.proofs.gate.CountingGate.put_peers.Goals as goal
 
 -- The lines of the peers, then their reasons, then their addresses.
 pub returns : goal.returns

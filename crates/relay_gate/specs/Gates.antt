@@ -5,11 +5,11 @@ use Rattle.std.specs.Option.{option_map}
 use Rattle.live_session.specs.declared.wire.Finish.{Finish}
 use Rattle.live_session.specs.declared.wire.Finish.TheVariants as finishes
 use Rattle.live_wire.specs.declared.tally.Tally.{Tally}
-use Rattle.relay_serve.specs.News.{all_in}
-use Rattle.relay_serve.specs.declared.gate.CountingGate.{CountingGate}
-use Rattle.relay_serve.specs.declared.refusals.Placed.{Placed}
-use Rattle.relay_serve.specs.declared.refusals.Refused.{Refused}
-use Rattle.relay_serve.specs.declared.refusals.Worded.{Worded}
+use Rattle.relay_gate.specs.News.{all_in}
+use Rattle.relay_gate.specs.declared.gate.CountingGate.{CountingGate}
+use Rattle.relay_gate.specs.declared.refusals.Placed.{Placed}
+use Rattle.relay_gate.specs.declared.refusals.Refused.{Refused}
+use Rattle.relay_gate.specs.declared.refusals.Worded.{Worded}
 
 -- how a session ended, in one word
 abbrev pub finish_word : Finish → List ℕ

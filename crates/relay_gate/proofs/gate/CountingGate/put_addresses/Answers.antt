@@ -1,9 +1,9 @@
 use Rattle.std.proofs.Common.{◌≡◌, ◌∙◌, ◌++◌, ◌<◌, [], ℕ, List, ap, append_assoc, append-nil}
 use Rattle.std.proofs.Common.{get_or, length, refl, subst, sym}
-use Rattle.relay_serve.specs.Gates.{AreFromLines, IsFromLine}
-use Rattle.relay_serve.specs.declared.gate.PeerCounts.{PeerCounts}
-use Rattle.relay_serve.proofs.PeerLines.{line_more, name_more}
-use Rattle.relay_serve.proofs.gate.CountingGate.put_addresses.Goals as goal
+use Rattle.relay_gate.specs.Gates.{AreFromLines, IsFromLine}
+use Rattle.relay_gate.specs.declared.gate.PeerCounts.{PeerCounts}
+use Rattle.relay_gate.proofs.PeerLines.{line_more, name_more}
+use Rattle.relay_gate.proofs.gate.CountingGate.put_addresses.Goals as goal
 
 -- There is no line yet.
 pub loop-counts-init : goal.loop-counts-init

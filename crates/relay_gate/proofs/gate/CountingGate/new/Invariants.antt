@@ -1,5 +1,5 @@
 use Rattle.std.proofs.Common.{◌≡◌, length}
-use Rattle.relay_serve.proofs.gate.CountingGate.new.Given as goal
+use Rattle.relay_gate.proofs.gate.CountingGate.new.Given as goal
 
 -- there is one for each peer so far
 abbrev pub invariant-loop-peer : goal.invariant-loop-peer

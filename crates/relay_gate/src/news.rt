@@ -2,7 +2,7 @@
 ghost use Rattle.std.specs.Prelude.{◌≡◌, IfOk};
 ghost use Rattle.std.specs.Option.{option_map};
 ghost use Rattle.news_log.specs.Lines.{IsAcceptedLine};
-ghost use Rattle.relay_serve.specs.News.{IsNewsLine, all_in, all_of, code_in};
+ghost use Rattle.relay_gate.specs.News.{IsNewsLine, all_in, all_of, code_in};
 
 use live_session::{Remark, Taken};
 use news_log::{
@@ -17,7 +17,7 @@ use std::time::Clock;
 
 /// Where lines of articles are put, and of which articles.
 #[derive(Clone, Copy)]
-pub(crate) struct News<'a> {
+pub struct News<'a> {
     relay: &'a Relay,
     pending: &'a PendingLines,
     /// Whether stored articles have lines too.
@@ -26,7 +26,7 @@ pub(crate) struct News<'a> {
 
 impl<'a> News<'a> {
     /// Where a relay's lines are put, if it logs any.
-    pub(crate) fn of(relay: &'a Relay, pending: &'a PendingLines) -> Option<News<'a>>
+    pub fn of(relay: &'a Relay, pending: &'a PendingLines) -> Option<News<'a>>
         ensures { option_map all_in result ≡ all_of relay.now }
     {
         match &relay.log {
@@ -70,14 +70,14 @@ impl<'a> News<'a> {
 }
 
 /// Where a relay's lines wait: with room where it logs any.
-pub(crate) fn pending_of(alloc: Global, relay: &Relay) -> Result<PendingLines, AllocError> {
+pub fn pending_of(alloc: Global, relay: &Relay) -> Result<PendingLines, AllocError> {
     let room = if relay.log.is_some() { ROOM } else { 0 };
     PendingLines::new(alloc, room)
 }
 
 /// What writes a relay's news log in its folder, where it has one, to this file. A path that is no
 /// UTF-8 names no file: that is told, and its lines are lost.
-pub(crate) fn writing_of<'a, 'n, N: NewsFile + Drop, R: Eprint>(
+pub fn writing_of<'a, 'n, N: NewsFile + Drop, R: Eprint>(
     rt: &'a R,
     alloc: Global,
     folder: &str,

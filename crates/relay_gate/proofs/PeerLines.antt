@@ -2,8 +2,8 @@
 use Rattle.std.proofs.Common.{◌≡◌, ◌∙◌, ◌++◌, ◌∷◌, [], ℕ, List, ap, append_assoc, append-nil}
 use Rattle.std.proofs.Common.{◌+◌, ◌<◌, get_or, length, map, refl, sym, take}
 use Rattle.std.proofs.lemmas.List.{map_push, take_more}
-use Rattle.relay_serve.specs.Gates.{AreLinesOf}
-use Rattle.relay_serve.specs.declared.gate.PeerCounts.{PeerCounts}
+use Rattle.relay_gate.specs.Gates.{AreLinesOf}
+use Rattle.relay_gate.specs.declared.gate.PeerCounts.{PeerCounts}
 
 -- A line more stands behind those of the peers so far.
 pub line_more : (IsLine : List ℕ → List ℕ → Type 0) (names : List (List ℕ))

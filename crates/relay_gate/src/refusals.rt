@@ -1,6 +1,6 @@
 //! The articles that were refused, by their reasons.
 ghost use Rattle.std.specs.Prelude.{◌≡◌, ◌++◌, List, ℕ, OnOk, Some};
-ghost use Rattle.relay_serve.specs.Gates.{IsReasonsLine, placed_text, refusals_text, worded_text};
+ghost use Rattle.relay_gate.specs.Gates.{IsReasonsLine, placed_text, refusals_text, worded_text};
 
 use article_verdict::Reason;
 use std::alloc::{AllocError, Global};
