@@ -1,5 +1,4 @@
 mod Kept
-mod PeerLines
 mod PeerSources
 mod PortFaults
 mod Reached

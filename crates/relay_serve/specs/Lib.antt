@@ -1,9 +1,7 @@
 pub mod Callers
 pub mod Figures
 pub mod Filled
-pub mod Gates
 pub mod Lives
-pub mod News
 pub mod Moments
 pub mod Ports
 pub mod Recovering

@@ -2,12 +2,12 @@
 ghost use Rattle.std.specs.Prelude.{◌≡◌, is_some};
 ghost use Rattle.relay_serve.specs.Syncing.{syncing_in};
 
-use crate::gate::CountingGate;
 use crate::side_thread::Figured;
 use crate::syncing::Syncing;
 use live_wire::{Door, Stop};
 use news_log::{NewsFile, NewsLines, NewsWriting};
 use relay_folder::{Askers, Control, JournalFile, Teller, WAITED_FOR, Word};
+use relay_gate::CountingGate;
 use relay_journal::{JournalLines, Journaling, second_of};
 use std::alloc::{AllocError, Global};
 use std::fs::Files;

@@ -7,18 +7,16 @@
 //! What a start does before that, over files and history, is relay_startup's.
 #![tactic(auto)]
 
+mod beginning;
 mod callers;
 mod clock;
 mod desk;
 mod figures;
 mod filled;
-mod gate;
 mod keeping;
 mod lives;
-mod news;
 mod ports;
 mod recovering;
-mod refusals;
 mod repairing;
 mod run_totals;
 mod running;

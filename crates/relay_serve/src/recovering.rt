@@ -6,12 +6,12 @@ ghost use Rattle.relay_repair.specs.Repairing.{Repairs, counts_of};
 ghost use Rattle.relay_startup.specs.Faults.{IsServeFault};
 
 use crate::desk::Desk;
-use crate::gate::CountingGate;
 use crate::lives::unstarted;
 use crate::side_thread::{Figured, start_side_thread};
 use cyc_block::BlockStore;
 use relay_conf::{BufferConf, Config};
 use relay_core::{NotStarted, Stopped};
+use relay_gate::CountingGate;
 use relay_repair::repair;
 use relay_report::ServeError;
 use std::alloc::{AllocError, Global};

@@ -14,7 +14,6 @@ ghost use Rattle.relay_report.specs.declared.fault.ServeError.TheVariants as fau
 
 use crate::clock::MachineClock;
 use crate::desk::Desk;
-use crate::gate::CountingGate;
 use crate::lives::{finish, unstarted};
 use crate::run_totals::RunTotals;
 use crate::side_thread::{Figured, Served, Writers, start_beside};
@@ -27,6 +26,7 @@ use news_log::{NewsFile, NewsLines};
 use relay_conf::Config;
 use relay_core::Stopped;
 use relay_folder::{JournalFile, Origin};
+use relay_gate::CountingGate;
 use relay_journal::JournalLines;
 use relay_live::{Counted, Keeper, LiveError, PeerSource, RegisterRef, Serving, Shared, serve_all};
 use relay_report::ServeError;

@@ -1,52 +1,31 @@
 //! A relay is served on the ports of the machine, over its files.
-ghost use Rattle.std.specs.Prelude.{◌≡◌, ◌<◌, ◌^◌, ◌⊎◌, All, IfErr, IfOk, Ok, length, map};
+ghost use Rattle.std.specs.Prelude.{◌≡◌, ◌<◌, ◌^◌, ◌⊎◌, All, IfErr, IfOk, length, map};
 ghost use Rattle.relay_startup.specs.Files.{IsFileFault};
 ghost use Rattle.relay_serve.specs.Callers.{AreCallers, HasCallers};
 ghost use Rattle.relay_serve.specs.Ports.{IsPortFault};
-ghost use Rattle.relay_serve.specs.RunTotals.{totals_in};
-ghost use Rattle.relay_startup.specs.Faults.{IsServeFault};
-ghost use Rattle.relay_report.specs.Serve.{AreOf, ServeGives};
+ghost use Rattle.relay_report.specs.Serve.{ServeGives};
 ghost use Rattle.file_blocks.specs.Store.{count_of};
-ghost use Rattle.relay_serve.specs.Watched.{store_in};
 
+use crate::beginning::{Access, begin_and_run};
 use crate::callers::callers_of;
-use crate::clock::MachineClock;
 use crate::desk::Desk;
-use crate::gate::CountingGate;
-use crate::keeping::keep_finished;
-use crate::news::{News, pending_of, writing_of};
 use crate::ports::{open_doors, open_ports};
-use crate::repairing::begin_again;
-use crate::running::{Finished, Records, Surroundings, channels_of, run_relay};
-use crate::side_thread::Writers;
 use crate::syncing::{Syncing, open_syncing};
-use crate::watched::{Watched, watch};
-use file_blocks::FileBlocks;
-use live_journal::PendingJournal;
-use live_store::ArticleLog;
 use live_wire::{Callers, Port, Stop};
 use news_log::{HostNews, NewsFile, NewsLines, NewsWriting, Opening};
 use relay_conf::Config;
-use relay_folder::{
-    Control, HistoryPlace, HostHistory, HostJournal, JournalFile, JournalPlace, Origin,
-};
-use relay_journal::{
-    BegunJournal, JournalLines, JournalWriter, Journaling, PrintedLines, ROOM, ToldJournal,
-    begin_journal,
-};
+use relay_folder::{Control, HistoryPlace, HostHistory, HostJournal, JournalPlace};
+use relay_gate::{CountingGate, News, pending_of, writing_of};
+use relay_journal::{JournalLines, PrintedLines, ToldJournal};
 use relay_live::PeerSource;
-use relay_report::{ServeError, Totals, print_totals};
-use relay_startup::{
-    Beginning, Unbegun, begin_over, complete_first, fill_streams, fit_files, hold_files, stop_begun,
-};
+use relay_report::ServeError;
+use relay_startup::{Unbegun, fill_streams, fit_files, hold_files};
 use std::alloc::Global;
 use std::fs::{File, Files};
 use std::io::{ErrorKind, Write};
-use std::marker::Brand;
 use std::net::{Net, TcpListener, TcpStream};
 use std::random::RandomSource;
 use std::sync::Wait;
-use std::sync::ledger::Blank;
 use std::thread::Threads;
 use std::time::Clock;
 
@@ -243,170 +222,4 @@ where
 /// Tells that a relay is served, at so many ports, over so many buffers.
 fn tell_serving<R: Eprint>(rt: &R, ports: usize, buffers: usize) {
     let _lost = eprintln!(rt; "serving ports={ports} buffers={buffers}");
-}
-
-/// How a relay is had from outside.
-#[derive(Drop)]
-struct Access<'a, N, M> {
-    /// The ports of its peers.
-    peer_sources: Vec<PeerSource<Port<'a>>>,
-    gate: &'a CountingGate<'a>,
-    desk: &'a Desk<'a>,
-    /// What writes its news log, where it has one.
-    news: Option<NewsWriting<'a, N, M>>,
-}
-
-/// Finds out what the relay begins from, runs it, keeps its history once all that its stores were
-/// given is on their devices, and writes the report. Where there is no memory for the totals the
-/// history is kept all the same.
-fn begin_and_run<
-    R,
-    N: NewsFile + Drop + Send,
-    M: NewsLines + Drop + Send,
-    H: HistoryPlace,
-    P: JournalPlace,
-    L: JournalLines,
-    W: Write,
->(
-    rt: &R,
-    alloc: Global,
-    config: &Config,
-    unbegun: Unbegun,
-    history: &mut H,
-    journal: &mut ToldJournal<P, L>,
-    access: Access<'_, N, M>,
-    writer: &mut W,
-) -> Result<(), ServeError>
-where
-    R: Threads + Wait + Clock + Eprint + Files<File = File> + RandomSource + Sync,
-    requires stores { map count_of unbegun.stores.items
-        ≡ map (λ buffer. buffer.blocks) config.now.buffers.buffers.items }
-    requires few { length access.peer_sources.items < 2 ^ 62 }
-    ensures { ServeGives config.now result (W.contents writer.old) (W.contents writer.new) }
-{
-    let place = &mut journal.place;
-    let begun = match begin_over(alloc, &config.buffers, history, place, unbegun) {
-        Ok(begun) => begun,
-        Err(error) => {
-            drop(access);
-            return Err(error);
-        }
-    };
-    let finished = run_begun(rt, alloc, config, begun, history, journal, access)?;
-    let totals = keep_finished(history, finished)?;
-    tell_counted(rt, &totals);
-    let printed = print_totals(alloc, &totals, writer);
-    drop(totals);
-    printed
-}
-
-/// Tells of how many kept articles the receipt was not the writer's, and how many ids were stored
-/// again, where there is any.
-fn tell_counted<R: Eprint>(rt: &R, totals: &Totals) {
-    let mismatched = totals.mismatched_receipts;
-    let again = totals.ids_stored_again;
-    if mismatched > 0 || again > 0 {
-        let _lost = eprintln!(rt; "counted mismatched={mismatched} again={again}");
-    }
-}
-
-/// Tells that the relay starts from what it was stopped with, where it does.
-fn tell_start<R: Eprint>(rt: &R, origin: &Origin) {
-    if let Origin::Stopped(text) = origin {
-        let _lost = eprintln!(rt; "starting history={}", text.len());
-    }
-}
-
-/// Runs the relay over what was opened, each store watched: a first start that was cut short is
-/// completed, and a relay that was left without a stop repaired first; then a journal of the stop
-/// that is gone on from is begun. Nothing says that a file of the machine is honest, so nothing is
-/// promised of what the stores give.
-fn run_begun<
-    'a,
-    R,
-    N: NewsFile + Drop + Send,
-    M: NewsLines + Drop + Send,
-    H: HistoryPlace,
-    P: JournalPlace,
-    L: JournalLines,
->(
-    rt: &'a R,
-    alloc: Global,
-    config: &'a Config,
-    begun: Beginning<FileBlocks>,
-    history: &mut H,
-    journal: &mut ToldJournal<P, L>,
-    access: Access<'_, N, M>,
-) -> Result<Finished<Watched<'a, FileBlocks, R>>, ServeError>
-where
-    R: Threads + Wait + Clock + Eprint + Files<File = File> + RandomSource + Sync,
-    requires stores { map count_of begun.stores.items
-        ≡ map (λ buffer. buffer.blocks) config.now.buffers.buffers.items }
-    requires few { length access.peer_sources.items < 2 ^ 62 }
-    ensures totals { IfOk result (λ run. IfOk (totals_in run.totals) (AreOf config.now)) }
-    ensures fault { IfErr result (IsServeFault config.now) }
-{
-    let watched = watch(rt, &config.buffers, begun)?;
-    let completed = complete_first(alloc, config, watched)?;
-    let begun = begin_again(rt, alloc, config, history, journal, completed, access.desk)?;
-    tell_start(rt, &begun.origin);
-    let stop = stop_begun(alloc, config, &begun.origin)?;
-    let begun_journal = begin_journal(alloc, journal, stop)?;
-    run_watched(rt, alloc, config, begun, begun_journal, access)
-}
-
-/// Runs the relay over stores that are watched, by the machine's clock. Where no journal was begun
-/// there is no room for what is said to it.
-fn run_watched<
-    'a,
-    R,
-    N: NewsFile + Drop + Send,
-    M: NewsLines + Drop + Send,
-    O: JournalFile + Drop + Send,
->(
-    rt: &'a R,
-    alloc: Global,
-    config: &'a Config,
-    beginning: Beginning<Watched<'a, FileBlocks, R>>,
-    begun_journal: Option<BegunJournal<O>>,
-    access: Access<'_, N, M>,
-) -> Result<Finished<Watched<'a, FileBlocks, R>>, ServeError>
-where
-    R: Threads + Wait + Clock + Eprint + Files<File = File> + RandomSource + Sync,
-    requires stores { map count_of (map store_in beginning.stores.items)
-        ≡ map (λ buffer. buffer.blocks) config.now.buffers.buffers.items }
-    requires few { length access.peer_sources.items < 2 ^ 62 }
-    ensures totals { IfOk result (λ run. IfOk (totals_in run.totals) (AreOf config.now)) }
-    ensures fault { IfErr result (IsServeFault config.now) }
-{
-    let register = ArticleLog::new(alloc)?;
-    let clock = MachineClock::new(rt);
-    let room = if begun_journal.is_some() { ROOM } else { 0 };
-    let pending = PendingJournal::new(alloc, room)?;
-    let journaling = match begun_journal {
-        Some(begun) => {
-            let writer = JournalWriter::new(begun, PrintedLines::new(rt));
-            Some(Journaling::new(alloc, writer, &pending, config.relay.sync)?)
-        }
-        None => None,
-    };
-    let news = access.news;
-    run_relay::<Watched<'a, FileBlocks, R>, Brand, Brand, O, PrintedLines<'a, R>, N, M, R>(
-        rt,
-        alloc,
-        config,
-        beginning,
-        Records {
-            register: &register,
-            blank: Blank::new(channels_of(config) as u64),
-        },
-        access.peer_sources,
-        Surroundings {
-            clock: &clock,
-            gate: access.gate,
-            side: access.desk,
-            pending: &pending,
-            writers: Writers { journaling, news },
-        },
-    )
 }

@@ -1,20 +1,20 @@
 //! What goes on beside a relay that is served.
 ghost use Rattle.std.specs.Prelude.{◌≡◌, ◌++◌, ℕ, List, IfOk, IfSome, is_some, length};
+ghost use Rattle.relay_gate.specs.Gates.{ArePeersTold, names_of};
 ghost use Rattle.relay_live.specs.Making.{buffers_in};
 ghost use Rattle.relay_report.specs.Report.{text_of_figures};
 ghost use Rattle.relay_serve.specs.Filled.{sizes_text};
-ghost use Rattle.relay_serve.specs.Gates.{ArePeersTold, names_of};
 ghost use Rattle.relay_serve.specs.Syncing.{syncing_in};
 
 use crate::desk::Desk;
 use crate::figures::figures_of;
 use crate::filled::put_sizes;
-use crate::gate::CountingGate;
 use cyc_block::BlockStore;
 use live_store::StorePremises;
 use news_log::{NewsFile, NewsLines, NewsWriting};
 use relay_conf::Config;
 use relay_folder::JournalFile;
+use relay_gate::CountingGate;
 use relay_journal::{JournalLines, Journaling};
 use relay_live::{Shared, expire_round};
 use relay_report::{Figures, text_of};
