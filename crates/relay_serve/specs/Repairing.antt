@@ -15,8 +15,10 @@ use Rattle.relay_journal.specs.Reading.{IsJournalRead}
 use Rattle.relay_journal.specs.declared.lines.JournalLines as lines
 use Rattle.relay_journal.specs.declared.lines.ToldJournal.{ToldJournal}
 use Rattle.relay_repair.specs.Repairing.{Repairs}
+use Rattle.relay_serve.specs.declared.places.HistoryPlaces.{HistoryPlaces}
 use Rattle.relay_startup.specs.Keeping.{IsKeptAs}
 use Rattle.relay_startup.specs.LastHistory.{IsLastWith}
+use Rattle.relay_startup.specs.Naming.{AreTold, IsTakenByName}
 use Rattle.relay_startup.specs.Recovered.{IsHeadIn}
 use Rattle.relay_startup.specs.Synced.{IsUncalled}
 use Rattle.relay_startup.specs.Unsaved.{IsWithoutUnsaved}
@@ -77,16 +79,31 @@ GoesOnFrom is_synced g h p l config left stopped old new before after =
 abbrev pub left_of : {S : Type 0} → Vec S → Vec ℕ → Stopped S
 left_of stores text = record { stores = stores; history = text }
 
--- so a relay goes on that is not begun from nothing; one that is has nothing to go on from
-abbrev pub GoesOn : {S H P L : Type 0} → (is_synced : S → Type 0) → Ghosts S → places.Ghosts H
-    → places.Ghosts P → lines.Ghosts L → Config → (from to : Origin) → (stores back : Vec S)
-    → (old new : H) → (before after : ToldJournal P L) → Type 0
-GoesOn is_synced g h p l config origins.Formatted to stores back old new before after =
-    (to ≡ origins.Formatted) × (back ≡ stores) × (new ≡ old) × (after ≡ before)
-GoesOn is_synced g h p l config (origins.Stopped text) origins.Formatted stores back old new before
-    after =
-    ⊥
-GoesOn is_synced g h p l config (origins.Stopped text) (origins.Stopped kept) stores back old new
+-- What was left of a relay is gone on with by the names of its configuration, which are kept for
+-- each later stop.
+pub record GoesOnNamed {S H N P L : Type 0} (is_synced : S → Type 0) (g : Ghosts S)
+    (h : places.Ghosts H) (n : places.Ghosts N) (p : places.Ghosts P) (l : lines.Ghosts L)
+    (config : Config) (left stopped : Stopped S) (old new : HistoryPlaces H N)
+    (before after : ToldJournal P L)
+    : Type 0 where
+  pub taken : Vec ℕ
+  pub by_name : IsTakenByName n config left.history.items taken.items old.names new.names
+  pub goes : GoesOnFrom is_synced g h p l config (left_of left.stores taken) stopped old.history
+      new.history before after
+
+-- So a relay goes on that is not begun from nothing. One that is has nothing to go on from, and its
+-- names are kept for each stop.
+abbrev pub GoesOn : {S H N P L : Type 0} → (is_synced : S → Type 0) → Ghosts S → places.Ghosts H
+    → places.Ghosts N → places.Ghosts P → lines.Ghosts L → Config → (from to : Origin)
+    → (stores back : Vec S) → (old new : HistoryPlaces H N) → (before after : ToldJournal P L)
+    → Type 0
+GoesOn is_synced g h n p l config origins.Formatted to stores back old new before after =
+    (to ≡ origins.Formatted) × (back ≡ stores) × (new.history ≡ old.history)
+    × AreTold n config 0 None old.names new.names × (after ≡ before)
+GoesOn is_synced g h n p l config (origins.Stopped text) origins.Formatted stores back old new
     before after =
-    GoesOnFrom is_synced g h p l config (left_of stores text) (left_of back kept) old new before
+    ⊥
+GoesOn is_synced g h n p l config (origins.Stopped text) (origins.Stopped kept) stores back old new
+    before after =
+    GoesOnNamed is_synced g h n p l config (left_of stores text) (left_of back kept) old new before
     after

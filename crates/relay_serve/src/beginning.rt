@@ -9,6 +9,7 @@ ghost use Rattle.relay_startup.specs.Faults.{IsServeFault};
 use crate::clock::MachineClock;
 use crate::desk::Desk;
 use crate::keeping::keep_finished;
+use crate::places::HistoryPlaces;
 use crate::repairing::begin_again;
 use crate::running::{Finished, Records, Surroundings, channels_of, run_relay};
 use crate::side_thread::Writers;
@@ -57,6 +58,7 @@ pub(crate) fn begin_and_run<
     N: NewsFile + Drop + Send,
     M: NewsLines + Drop + Send,
     H: HistoryPlace,
+    K: HistoryPlace,
     P: JournalPlace,
     L: JournalLines,
     W: Write,
@@ -65,7 +67,7 @@ pub(crate) fn begin_and_run<
     alloc: Global,
     config: &Config,
     unbegun: Unbegun,
-    history: &mut H,
+    places: &mut HistoryPlaces<H, K>,
     journal: &mut ToldJournal<P, L>,
     access: Access<'_, N, M>,
     writer: &mut W,
@@ -78,15 +80,15 @@ where
     ensures { ServeGives config.now result (W.contents writer.old) (W.contents writer.new) }
 {
     let place = &mut journal.place;
-    let begun = match begin_over(alloc, &config.buffers, history, place, unbegun) {
+    let begun = match begin_over(alloc, &config.buffers, &mut places.history, place, unbegun) {
         Ok(begun) => begun,
         Err(error) => {
             drop(access);
             return Err(error);
         }
     };
-    let finished = run_begun(rt, alloc, config, begun, history, journal, access)?;
-    let totals = keep_finished(history, finished)?;
+    let finished = run_begun(rt, alloc, config, begun, places, journal, access)?;
+    let totals = keep_finished(&mut places.history, finished)?;
     tell_counted(rt, &totals);
     let printed = print_totals(alloc, &totals, writer);
     drop(totals);
@@ -120,6 +122,7 @@ fn run_begun<
     N: NewsFile + Drop + Send,
     M: NewsLines + Drop + Send,
     H: HistoryPlace,
+    K: HistoryPlace,
     P: JournalPlace,
     L: JournalLines,
 >(
@@ -127,7 +130,7 @@ fn run_begun<
     alloc: Global,
     config: &'a Config,
     begun: Beginning<FileBlocks>,
-    history: &mut H,
+    places: &mut HistoryPlaces<H, K>,
     journal: &mut ToldJournal<P, L>,
     access: Access<'_, N, M>,
 ) -> Result<Finished<Watched<'a, FileBlocks, R>>, ServeError>
@@ -141,7 +144,7 @@ where
 {
     let watched = watch(rt, &config.buffers, begun)?;
     let completed = complete_first(alloc, config, watched)?;
-    let begun = begin_again(rt, alloc, config, history, journal, completed, access.desk)?;
+    let begun = begin_again(rt, alloc, config, places, journal, completed, access.desk)?;
     tell_start(rt, &begun.origin);
     let stop = stop_begun(alloc, config, &begun.origin)?;
     let begun_journal = begin_journal(alloc, journal, stop)?;

@@ -15,6 +15,7 @@ mod figures;
 mod filled;
 mod keeping;
 mod lives;
+mod places;
 mod ports;
 mod recovering;
 mod repairing;

@@ -1,15 +1,17 @@
 //! A relay that was left without a stop is repaired before it starts (docs/PROTOCOL.md, Crashes:
 //! the relay).
 ghost use Rattle.std.specs.Prelude.{◌≡◌, IfErr, IfOk, length, map};
-ghost use Rattle.relay_serve.specs.Repairing.{GoesOn, GoesOnFrom, IsKeptOfRepair};
+ghost use Rattle.relay_serve.specs.Repairing.{GoesOn, GoesOnNamed, IsKeptOfRepair};
 ghost use Rattle.relay_serve.specs.Repairing.{IsOfRepairWith};
 ghost use Rattle.relay_startup.specs.Faults.{IsServeFault};
 ghost use Rattle.relay_startup.specs.Keeping.{IsKeptAs};
 
 use crate::clock::MachineClock;
 use crate::desk::Desk;
+use crate::places::HistoryPlaces;
 use crate::recovering::repair_beside;
 use cyc_block::BlockStore;
+use history_names::keep_names;
 use live_session::Clock;
 use relay_conf::Config;
 use relay_core::Stopped;
@@ -17,8 +19,8 @@ use relay_folder::{HistoryPlace, JournalPlace, Origin};
 use relay_journal::{JournalLines, ToldJournal};
 use relay_report::ServeError;
 use relay_startup::{
-    Beginning, Looked, Synced, history_of, keep_repaired, last_history, looked_at, tell_recovered,
-    tell_recovering, with_heads, without_unsaved,
+    Beginning, LeftByName, Looked, Synced, history_of, keep_repaired, last_history, left_by_name,
+    tell_changes, tell_recovered, tell_recovering, with_heads, without_unsaved,
 };
 use std::alloc::Global;
 use std::random::RandomSource;
@@ -26,13 +28,14 @@ use std::sync::Wait;
 use std::thread::Threads;
 use std::time;
 
-/// What a relay begins over, once one that was left without a stop is repaired: what is found of it
-/// is kept as what a stop leaves, and it begins from that. Any other begins as it was to.
-pub(crate) fn begin_again<S, H, P, L, R>(
+/// What a relay begins over, by the names of its configuration, once one that was left without a
+/// stop is repaired: what is found of it is kept as what a stop leaves, and it begins from that. Any
+/// other begins as it was to.
+pub(crate) fn begin_again<S, H, N, P, L, R>(
     rt: &R,
     alloc: Global,
     config: &Config,
-    history: &mut H,
+    places: &mut HistoryPlaces<H, N>,
     journal: &mut ToldJournal<P, L>,
     beginning: Beginning<S>,
     desk: &Desk<'_>,
@@ -40,6 +43,7 @@ pub(crate) fn begin_again<S, H, P, L, R>(
 where
     S: Synced + Looked + Drop,
     H: HistoryPlace,
+    N: HistoryPlace,
     P: JournalPlace,
     L: JournalLines,
     R: Threads + Wait + time::Clock + Eprint + RandomSource + Sync,
@@ -49,8 +53,8 @@ where
         ≡ map (λ buffer. buffer.blocks) config.now.buffers.buffers.items) }
     // One that was stopped goes on as it is, one that wasn't with what a repair gives.
     ensures goes { IfOk result (λ begun. GoesOn S.is_synced ⟦<S as BlockStore>⟧ H.HistoryPlace
-        ⟦<P as HistoryPlace>⟧ L.JournalLines config.now beginning.origin begun.origin
-        beginning.stores begun.stores history.old history.new journal.old journal.new) }
+        N.HistoryPlace ⟦<P as HistoryPlace>⟧ L.JournalLines config.now beginning.origin
+        begun.origin beginning.stores begun.stores places.old places.new journal.old journal.new) }
     ensures fault { IfErr result (IsServeFault config.now) }
 {
     let Beginning {
@@ -59,18 +63,21 @@ where
         fresh,
     } = beginning;
     match origin {
-        Origin::Formatted => Ok(Beginning {
-            stores,
-            origin: Origin::Formatted,
-            fresh,
-        }),
+        Origin::Formatted => {
+            keep_names(alloc, config, &mut places.names, 0, None)?;
+            Ok(Beginning {
+                stores,
+                origin: Origin::Formatted,
+                fresh,
+            })
+        }
         Origin::Stopped(text) => {
             let left = Stopped {
                 stores,
                 history: text,
             };
             let Stopped { stores, history } = go_on(
-                rt, alloc, config, history, journal, left, desk,
+                rt, alloc, config, places, journal, left, desk,
             )?;
             Ok(Beginning {
                 stores,
@@ -82,12 +89,13 @@ where
 }
 
 /// What a relay that wasn't begun from nothing goes on from: what was left of it, or what a repair
-/// of that has kept, where it wasn't stopped.
-fn go_on<S, H, P, L, R>(
+/// of that has kept, where it wasn't stopped; by the names of its configuration, which are kept
+/// before anything else is.
+fn go_on<S, H, N, P, L, R>(
     rt: &R,
     alloc: Global,
     config: &Config,
-    history: &mut H,
+    places: &mut HistoryPlaces<H, N>,
     journal: &mut ToldJournal<P, L>,
     left: Stopped<S>,
     desk: &Desk<'_>,
@@ -95,6 +103,7 @@ fn go_on<S, H, P, L, R>(
 where
     S: Synced + Drop,
     H: HistoryPlace,
+    N: HistoryPlace,
     P: JournalPlace,
     L: JournalLines,
     R: Threads + Wait + time::Clock + Eprint + RandomSource + Sync,
@@ -103,28 +112,31 @@ where
     ensures stores { IfOk result (λ stopped.
         map (λ store. length (S.blocks store)) stopped.stores.items
         ≡ map (λ store. length (S.blocks store)) left.stores.items) }
-    ensures goes { IfOk result (λ stopped. GoesOnFrom S.is_synced ⟦<S as BlockStore>⟧
-        H.HistoryPlace ⟦<P as HistoryPlace>⟧ L.JournalLines config.now left stopped
-        history.old history.new journal.old journal.new) }
+    ensures goes { IfOk result (λ stopped. GoesOnNamed S.is_synced ⟦<S as BlockStore>⟧
+        H.HistoryPlace N.HistoryPlace ⟦<P as HistoryPlace>⟧ L.JournalLines config.now left stopped
+        places.old places.new journal.old journal.new) }
     ensures fault { IfErr result (IsServeFault config.now) }
 {
     let Stopped {
         stores,
         history: text,
     } = left;
-    match looked_at(alloc, config, stores, &text) {
-        Ok((stores, false)) => Ok(Stopped {
-            stores,
-            history: text,
-        }),
-        Ok((stores, true)) => {
-            repaired_with(rt, alloc, config, history, journal, stores, text, desk)
-        }
-        Err(error) => {
-            drop(text);
-            Err(error)
-        }
+    let LeftByName {
+        stores,
+        text,
+        changes,
+        unstopped,
+    } = left_by_name(alloc, config, &mut places.names, stores, text)?;
+    tell_changes(rt, &changes);
+    drop(changes);
+    if unstopped {
+        let history = &mut places.history;
+        return repaired_with(rt, alloc, config, history, journal, stores, text, desk);
     }
+    Ok(Stopped {
+        stores,
+        history: text,
+    })
 }
 
 /// Repairs the relay that was left on these stores, with this text of its last history and its

@@ -9,6 +9,7 @@ ghost use Rattle.file_blocks.specs.Store.{count_of};
 use crate::beginning::{Access, begin_and_run};
 use crate::callers::callers_of;
 use crate::desk::Desk;
+use crate::places::HistoryPlaces;
 use crate::ports::{open_doors, open_ports};
 use crate::syncing::{Syncing, open_syncing};
 use live_wire::{Callers, Port, Stop};
@@ -59,7 +60,10 @@ where
     ensures { ServeGives config.now result (W.contents writer.old) (W.contents writer.new) }
 {
     fill_streams(rt);
-    let mut history = HostHistory::in_folder(rt, alloc, folder)?;
+    let mut places = HistoryPlaces {
+        history: HostHistory::in_folder(rt, alloc, folder)?,
+        names: HostHistory::of_names(rt, alloc, folder)?,
+    };
     let mut journal = ToldJournal {
         place: HostJournal::in_folder(rt, alloc, folder)?,
         lines: PrintedLines::new(rt),
@@ -84,12 +88,12 @@ where
         &stop,
         &gate,
         writing,
-        &mut history,
+        &mut places,
         &mut journal,
         writer,
     );
     drop(journal);
-    drop(history);
+    drop(places);
     drop(gate);
     drop(lines);
     drop(callers);
@@ -125,6 +129,7 @@ fn open_and_run<
     N: NewsFile + Drop + Send,
     M: NewsLines + Drop + Send,
     H: HistoryPlace,
+    K: HistoryPlace,
     P: JournalPlace,
     L: JournalLines,
     W: Write,
@@ -136,7 +141,7 @@ fn open_and_run<
     stop: &Stop,
     gate: &CountingGate<'_>,
     news: Option<NewsWriting<'_, N, M>>,
-    history: &mut H,
+    places: &mut HistoryPlaces<H, K>,
     journal: &mut ToldJournal<P, L>,
     writer: &mut W,
 ) -> Result<(), ServeError>
@@ -167,7 +172,7 @@ where
                 news,
             };
             let answer = begin_and_run(
-                rt, alloc, config, unbegun, history, journal, access, writer,
+                rt, alloc, config, unbegun, places, journal, access, writer,
             );
             desk.close(rt, asked.folder);
             drop(desk);

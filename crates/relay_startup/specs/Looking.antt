@@ -3,6 +3,7 @@ use Rattle.std.specs.Prelude.{◌≡◌, ◌≢◌, ◌⊎◌, ◌++◌, ℕ, Bo
 use Rattle.std.specs.Prelude.{Result, Ok, Err}
 use Rattle.std.specs.Io.KnownBytes.{Appends, Keeps}
 use Rattle.cyc_block.specs.declared.store.BlockStore.{Ghosts}
+use Rattle.history_names.specs.Named.{NamedBy, As, BadNames, named_by}
 use Rattle.relay_conf.specs.declared.settings.Config.{Config}
 use Rattle.first_start.specs.Completing.{IsCutShort}
 use Rattle.relay_folder.specs.Origin.{Beginning, Formats, Starts, begins_from}
@@ -39,18 +40,31 @@ IsStandingOf g config text stores standings.Stopped =
     (text ≢ []) × IsUnstoppedBy g config text stores false
 IsStandingOf g config text stores standings.Unstopped = IsUnstoppedBy g config text stores true
 
--- So stands a relay that isn't running, by what a start would begin from, and its stores: nothing
--- was kept where it would begin from nothing.
-abbrev pub IsStandingBy : {S : Type 0} → Ghosts S → Config → Beginning → (stores : List S)
+-- so it stands by what the text of its history is by name
+abbrev pub IsStandingNamed : {S : Type 0} → Ghosts S → Config → NamedBy → (stores : List S)
     → FolderStanding → Type 0
-IsStandingBy g config Formats stores standing = standing ≡ standings.Unbegun
-IsStandingBy g config (Starts text) stores standing = IsStandingOf g config text stores standing
+IsStandingNamed g config (As taken known) stores standing =
+    IsStandingOf g config taken stores standing
+IsStandingNamed g config BadNames stores standing = ⊥
 
--- so it stands by whether no buffer was kept in any file, the history that is kept, and its stores
+-- So stands a relay that isn't running, by the names that are kept, what a start would begin from,
+-- and its stores: nothing was kept where it would begin from nothing.
+abbrev pub IsStandingBy : {S : Type 0} → Ghosts S → Config → (names : Option (List ℕ)) → Beginning
+    → (stores : List S) → FolderStanding → Type 0
+IsStandingBy g config names Formats stores standing = standing ≡ standings.Unbegun
+IsStandingBy g config names (Starts text) stores standing =
+    IsStandingNamed g config (named_by config names text) stores standing
+
+-- so it stands by whether no buffer was kept in any file, the names and the history that are kept,
+-- and its stores
 abbrev pub IsStanding : {S : Type 0} → Ghosts S → Config → (blank : Bool)
-    → (kept : Option (List ℕ)) → (stores : List S) → FolderStanding → Type 0
-IsStanding g config blank kept stores standing =
-    IsStandingBy g config (begins_from false blank kept) stores standing
+    → (names kept : Option (List ℕ)) → (stores : List S) → FolderStanding → Type 0
+IsStanding g config blank names kept stores standing =
+    IsStandingBy g config names (begins_from false blank kept) stores standing
+
+-- what a start would change by name is told before it, a line each
+abbrev pub standing_text : (changes : List ℕ) → FolderStanding → List ℕ
+standing_text changes standing = changes ++ standing_line standing
 
 -- that a start would be refused, and why, in the words of that
 abbrev pub refusal_line : StartFault → List ℕ
@@ -71,17 +85,19 @@ abbrev pub TellsFailure : ServeError → (told : ServeError) → (before after :
 TellsFailure (faults.Start fault) told before after = TellsRefusal fault told before after
 TellsFailure error told before after = (told ≡ error) × Keeps before after
 
--- how the relay of the configuration stands was told in a line; or that a start would be refused,
--- which is the answer then; or it isn't known, and nothing was written; or the writer failed, with
--- a front of one of both lines
+-- how the relay of the configuration stands was told, behind what a start would change by name; or
+-- that a start would be refused, which is the answer then; or it isn't known, and nothing was
+-- written; or the writer failed, with a front of one of both
 abbrev pub StandGives : Config → Result (Unit {0}) ServeError → (before after : Option (List ℕ))
     → Type 0
 StandGives config (Ok done) before after =
-    (standing : FolderStanding) × Appends before after (standing_line standing)
+    (changes : List ℕ) × (standing : FolderStanding)
+    × Appends before after (standing_text changes standing)
 StandGives config (Err (faults.Start fault)) before after =
     NamesBuffer config fault × Appends before after (refusal_line fault)
 StandGives config (Err faults.Unwritten) before after =
-    ((standing : FolderStanding) × GainsFront (standing_line standing) before after)
+    ((changes : List ℕ) × (standing : FolderStanding)
+    × GainsFront (standing_text changes standing) before after)
     ⊎ ((fault : StartFault) × NamesBuffer config fault
     × GainsFront (refusal_line fault) before after)
 StandGives config (Err error) before after = NamesFault config error × Keeps before after

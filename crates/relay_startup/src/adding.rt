@@ -44,7 +44,8 @@ where
 {
     fill_streams(rt);
     let mut history = HostHistory::in_folder(rt, alloc, folder)?;
-    let text = match add_alone(rt, alloc, config, folder, &mut history) {
+    let mut names = HostHistory::of_names(rt, alloc, folder)?;
+    let text = match add_alone(rt, alloc, config, folder, &mut history, &mut names) {
         Ok(text) => text,
         Err(error) => return Err(error),
     };
@@ -55,12 +56,13 @@ where
 }
 
 /// Adds the buffers while no relay is served in the folder, and says what is told of them.
-fn add_alone<R, H: HistoryPlace>(
+fn add_alone<R, H: HistoryPlace, N: HistoryPlace>(
     rt: &R,
     alloc: Global,
     config: &Config,
     folder: &str,
     history: &mut H,
+    names: &mut N,
 ) -> Result<Vec<u8>, ServeError>
 where
     R: Net + Files<File = File>,
@@ -69,7 +71,7 @@ where
 {
     match Control::listen(rt, alloc, folder) {
         Ok(control) => {
-            let added = add_there(rt, alloc, config, folder, history);
+            let added = add_there(rt, alloc, config, folder, history, names);
             control.close(rt, alloc, folder);
             drop(control);
             added
@@ -89,19 +91,20 @@ pub(crate) fn unasked(kind: ErrorKind) -> ServeError
 }
 
 /// Adds the buffers, and says what is told of them.
-fn add_there<R, H: HistoryPlace>(
+fn add_there<R, H: HistoryPlace, N: HistoryPlace>(
     rt: &R,
     alloc: Global,
     config: &Config,
     folder: &str,
     history: &mut H,
+    names: &mut N,
 ) -> Result<Vec<u8>, ServeError>
 where
     R: Files<File = File>,
     ensures told { IfOk result (λ text. TellsAdded config.now text.items) }
     ensures fault { IfErr result (IsAddFault config.now) }
 {
-    let stop = stop_kept(alloc, config, history)?;
+    let stop = stop_kept(alloc, config, history, names)?;
     let files = hold_files(rt, alloc, &config.buffers, folder)?;
     let first = first_of(alloc, &config.buffers, &files)?;
     add_from(alloc, &config.buffers, files, first, stop)

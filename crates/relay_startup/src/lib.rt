@@ -4,8 +4,9 @@
 //! The files are held and fitted (`hold_files`, `fit_files`), and it is found out from what a relay
 //! begins (`begin_over`): from nothing, or from what it was stopped with. A first start that was
 //! cut short is completed (`complete_first`). Whether a relay was left without a stop is asked of
-//! the heads (`looked_at`), and what a repair of it goes by, reads and keeps is here too
-//! (`last_history`, `with_heads`, `keep_repaired`). No thread is started.
+//! the heads, by the names of the configuration (`left_by_name`), and what a repair of it goes by,
+//! reads and keeps is here too (`last_history`, `with_heads`, `keep_repaired`). No thread is
+//! started.
 //!
 //! Where there is no history of a relay of the configuration, the cause is told (`causes`); `laws`
 //! says that it is told exactly where a start refuses the text.
@@ -26,6 +27,7 @@ mod keeping;
 pub mod laws;
 mod looking;
 mod lost;
+mod naming;
 mod reasons;
 mod recovered;
 mod seed;
@@ -46,6 +48,7 @@ pub use folding::last_history;
 pub use found_heads::with_heads;
 pub use keeping::{keep_repaired, keep_stopped};
 pub use looking::stand_on;
+pub use naming::{LeftByName, left_by_name, tell_changes};
 pub use recovered::{tell_recovered, tell_recovering};
 pub use seed::{hasher_of, unbegun};
 pub use starting::refusal;
@@ -53,4 +56,4 @@ pub use stop_number::stop_begun;
 pub use streams::fill_streams;
 pub use synced::Synced;
 pub use unsaved::without_unsaved;
-pub use unstopped::{LookedAt, history_of, looked_at};
+pub use unstopped::history_of;

@@ -10,7 +10,7 @@ use crate::adding::unasked;
 use crate::files::{are_blank, is_of_earlier, path_of, unusable};
 use crate::reasons::reason_of;
 use crate::seen_file::SeenFile;
-use crate::standing::{FolderStanding, standing_by};
+use crate::standing::{FolderStanding, Stands, standing_by};
 use file_blocks::{FileBlocks, FittedFile};
 use relay_conf::{BufferConf, Buffers, Config};
 use relay_folder::{HostHistory, is_served};
@@ -20,8 +20,8 @@ use std::fs::{File, Files};
 use std::io::Write;
 use std::net::Net;
 
-/// Tells in a line how the relay of this configuration in a folder stands, or that a start would be
-/// refused, and why. Nothing is made, written or locked, and a relay that is served there is asked
+/// Tells in a line how the relay of this configuration in a folder stands, behind what a start would
+/// change by name, or that a start would be refused, and why. Nothing is made, written or locked, and a relay that is served there is asked
 /// nothing.
 pub fn stand_on<R, W: Write>(
     rt: &R,
@@ -34,11 +34,14 @@ where
     R: Net + Files<File = File>,
     ensures { StandGives config.now result (W.contents writer.old) (W.contents writer.new) }
 {
-    let standing = match standing_there(rt, alloc, config, folder) {
-        Ok(standing) => standing,
+    let stands = match standing_there(rt, alloc, config, folder) {
+        Ok(stands) => stands,
         Err(error) => return Err(tell_failure(alloc, error, writer)),
     };
-    match put(writer, standing.line()) {
+    let text = stands.into_text()?;
+    let written = put(writer, &text);
+    drop(text);
+    match written {
         Ok(()) => Ok(()),
         Err(_) => Err(ServeError::Unwritten),
     }
@@ -87,14 +90,14 @@ fn standing_there<R>(
     alloc: Global,
     config: &Config,
     folder: &str,
-) -> Result<FolderStanding, ServeError>
+) -> Result<Stands, ServeError>
 where
     R: Net + Files<File = File>,
     ensures { IfErr result (λ error.
         (error ≡ faults.Control) ⊎ IsServeFault config.now error) }
 {
     match is_served(rt, alloc, folder) {
-        Ok(true) => Ok(FolderStanding::Running),
+        Ok(true) => Ok(Stands::unchanged(alloc, FolderStanding::Running)),
         Ok(false) => standing_in(rt, alloc, config, folder),
         Err(error) => Err(unasked(error.kind())),
     }
@@ -106,7 +109,7 @@ fn standing_in<R>(
     alloc: Global,
     config: &Config,
     folder: &str,
-) -> Result<FolderStanding, ServeError>
+) -> Result<Stands, ServeError>
 where
     R: Files<File = File>,
     ensures { IfErr result (IsServeFault config.now) }
@@ -114,10 +117,12 @@ where
     let mut stores = see_files(rt, alloc, &config.buffers, folder)?;
     let blank = are_blank(&stores);
     let mut history = HostHistory::in_folder(rt, alloc, folder)?;
-    let standing = standing_by(alloc, config, &mut history, &mut stores, blank);
+    let mut names = HostHistory::of_names(rt, alloc, folder)?;
+    let stands = standing_by(alloc, config, &mut history, &mut names, &mut stores, blank);
+    drop(names);
     drop(history);
     drop(stores);
-    standing
+    stands
 }
 
 /// A store in the file of each buffer, of its blocks, in the order of the buffers, to be looked at.

@@ -1,12 +1,16 @@
 //! The number of the stop that a relay's history is of, or the cause why there is no history.
 ghost use Rattle.std.specs.Prelude.{◌≡◌, IfErr, IfOk};
-ghost use Rattle.relay_startup.specs.Adding.{IsHistoryFault, IsStopBegun, IsStopIn, IsStopOf};
-ghost use Rattle.relay_startup.specs.Adding.{TellsNone, no_history_as};
+ghost use Rattle.relay_folder.specs.Keeping.{IsAsBefore};
+ghost use Rattle.relay_startup.specs.Adding.{IsHistoryFault, IsStopBegun, IsStopIn, TellsNone};
+ghost use Rattle.relay_startup.specs.Adding.{no_history_as};
+ghost use Rattle.relay_startup.specs.Naming.{IsNamedHistoryFault, IsStopByName};
+ghost use Rattle.relay_startup.specs.Naming.{TellsNamedCause, TellsNoneByName};
 ghost use Rattle.relay_startup.specs.Causes.{HasStopOrCause, TellsCause, TellsCauseBegun};
 ghost use Rattle.std.specs.Prelude.{Some};
 
 use crate::causes::unfit;
 use crate::history::unread;
+use history_names::named_text;
 use id_history::{HistoryError, read_any};
 use relay_conf::Config;
 use relay_core::rings;
@@ -14,24 +18,51 @@ use relay_folder::{HistoryPlace, Origin};
 use relay_report::{HistoryFault, ServeError, StartFault};
 use std::alloc::{AllocError, Global};
 
-/// The number of the stop of the history that is kept, which has to be one of this configuration.
-/// Nothing is changed.
-pub(crate) fn stop_kept<P: HistoryPlace>(
+/// The number of the stop of the history that is kept, which has to be one of this configuration by
+/// the names that are kept. Nothing is changed.
+pub(crate) fn stop_kept<P: HistoryPlace, N: HistoryPlace>(
     alloc: Global,
     config: &Config,
     place: &mut P,
+    names: &mut N,
 ) -> Result<u64, ServeError>
-    ensures stop { P.honest place.old → IfOk result (IsStopOf config.now (P.kept place.old)) }
-    ensures none { P.honest place.old → IfErr result (TellsNone config.now (P.kept place.old)) }
-    ensures cause { P.honest place.old → IfErr result (TellsCause config.now (P.kept place.old)) }
+    ensures stop { P.honest place.old → N.honest names.old
+        → IfOk result (IsStopByName config.now (N.kept names.old) (P.kept place.old)) }
+    ensures none { P.honest place.old → N.honest names.old
+        → IfErr result (TellsNoneByName config.now (N.kept names.old) (P.kept place.old)) }
+    ensures cause { P.honest place.old → N.honest names.old
+        → IfErr result (TellsNamedCause config.now (N.kept names.old) (P.kept place.old)) }
     ensures same { P.honest place.old → P.kept place.new ≡ P.kept place.old }
-    ensures fault { IfErr result IsHistoryFault }
+    ensures names { N.honest names.old → IsAsBefore N.HistoryPlace names.old names.new }
+    ensures fault { IfErr result IsNamedHistoryFault }
 {
     match place.read(alloc) {
-        Ok(Some(text)) => stop_in(alloc, config, &text),
+        Ok(Some(text)) => stop_by_name(alloc, config, names, text),
         Ok(None) => Err(ServeError::Start(StartFault::BadHistory(HistoryFault::Missing))),
         Err(error) => Err(unread(error.kind())),
     }
+}
+
+/// The number of the stop of a history that is one of this configuration by the names that are kept.
+fn stop_by_name<N: HistoryPlace>(
+    alloc: Global,
+    config: &Config,
+    names: &mut N,
+    text: Vec<u8>,
+) -> Result<u64, ServeError>
+    ensures stop { N.honest names.old
+        → IfOk result (IsStopByName config.now (N.kept names.old) (Some text.items)) }
+    ensures none { N.honest names.old
+        → IfErr result (TellsNoneByName config.now (N.kept names.old) (Some text.items)) }
+    ensures cause { N.honest names.old
+        → IfErr result (TellsNamedCause config.now (N.kept names.old) (Some text.items)) }
+    ensures names { N.honest names.old → IsAsBefore N.HistoryPlace names.old names.new }
+    ensures fault { IfErr result IsNamedHistoryFault }
+{
+    let named = named_text(alloc, config, names, text)?;
+    let stop = stop_in(alloc, config, &named.text);
+    drop(named);
+    stop
 }
 
 /// The number of the stop of a history that is one of this configuration.

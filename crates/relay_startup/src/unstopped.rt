@@ -23,18 +23,18 @@ use relay_report::ServeError;
 use std::alloc::Global;
 
 /// What the heads of a relay say that isn't begun from nothing.
-pub struct LookedAt<S> {
+pub(crate) struct LookedAt<S> {
     /// The store of each buffer, in their order.
-    pub stores: Vec<S>,
+    pub(crate) stores: Vec<S>,
     /// The number of its last stop, 0 where no history was kept.
-    pub stop: u64,
+    pub(crate) stop: u64,
     /// Whether it was left without a stop since.
-    pub unstopped: bool,
+    pub(crate) unstopped: bool,
 }
 
 /// The stores, once their heads were looked at, the number of the stop of this history, and whether
 /// the heads say that its relay was left without a stop.
-pub fn looked_at<S: Synced + Drop>(
+pub(crate) fn looked_at<S: Synced + Drop>(
     alloc: Global,
     config: &Config,
     stores: Vec<S>,

@@ -1,0 +1,83 @@
+//! A relay goes on from what was left of it by the names of its configuration (docs/FORMATS.md,
+//! Names file).
+ghost use Rattle.std.specs.Prelude.{◌≡◌, IfErr, IfOk, All, length, map};
+ghost use Rattle.block_shelf.specs.Each.{AreEach};
+ghost use Rattle.block_shelf.specs.Starting.{IsUnwritten};
+ghost use Rattle.relay_startup.specs.Faults.{IsServeFault};
+ghost use Rattle.relay_startup.specs.Naming.{IsTakenByName, LeavesNames};
+ghost use Rattle.relay_startup.specs.Unstopped.{IsUnstoppedBy};
+
+use crate::synced::Synced;
+use crate::unstopped::{LookedAt, looked_at};
+use cyc_block::BlockStore;
+use history_names::{NamedText, keep_names, named_text};
+use relay_conf::Config;
+use relay_folder::HistoryPlace;
+use relay_report::ServeError;
+use std::alloc::Global;
+use std::str;
+
+/// What was left of a relay, by the names of its configuration.
+pub struct LeftByName<S> {
+    /// The store of each buffer, in their order.
+    pub stores: Vec<S>,
+    /// The text of its history, as this configuration has it; empty where none was kept.
+    pub text: Vec<u8>,
+    /// What has changed by name, a line each.
+    pub changes: Vec<u8>,
+    /// Whether it was left without a stop.
+    pub unstopped: bool,
+}
+
+/// What was left of a relay on these stores, with this text of its last history, is looked at by
+/// name. Where it can be gone on with, and nowhere else, the names are kept, before anything else
+/// is written: what it was known by at its last stop, and for each later one those of the
+/// configuration.
+pub fn left_by_name<S: Synced + Drop, N: HistoryPlace>(
+    alloc: Global,
+    config: &Config,
+    names: &mut N,
+    stores: Vec<S>,
+    text: Vec<u8>,
+) -> Result<LeftByName<S>, ServeError>
+    ensures taken { IfOk result (λ left.
+        IsTakenByName N.HistoryPlace config.now text.items left.text.items names.old names.new) }
+    ensures told { IfOk result (λ left. IsUnstoppedBy ⟦<S as BlockStore>⟧ config.now
+        left.text.items stores.items left.unstopped) }
+    ensures unwritten { IfOk result (λ left.
+        AreEach (IsUnwritten ⟦<S as BlockStore>⟧ None) stores.items left.stores.items) }
+    ensures blocks { IfOk result (λ left.
+        map (λ store. length (S.blocks store)) left.stores.items
+        ≡ map (λ store. length (S.blocks store)) stores.items) }
+    ensures refused { N.honest names.old
+        → IfErr result (LeavesNames N.HistoryPlace config.now names.old names.new) }
+    ensures fault { IfErr result (IsServeFault config.now) }
+{
+    let NamedText {
+        text,
+        known,
+        changes,
+    } = named_text(alloc, config, names, text)?;
+    let LookedAt {
+        stores,
+        stop,
+        unstopped,
+    } = looked_at(alloc, config, stores, &text)?;
+    keep_names(alloc, config, names, stop, known)?;
+    Ok(LeftByName {
+        stores,
+        text,
+        changes,
+        unstopped,
+    })
+}
+
+/// Tells what has changed by name, each line in one write.
+pub fn tell_changes<R: Eprint>(rt: &R, changes: &[u8]) {
+    for line in changes.split(|octet| *octet == b'\n') {
+        if !line.is_empty() {
+            let line = str::from_utf8(line).unwrap_or("?");
+            let _lost = eprintln!(rt; "{line}");
+        }
+    }
+}
