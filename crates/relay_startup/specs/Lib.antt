@@ -6,6 +6,7 @@ pub mod History
 pub mod Keeping
 pub mod LastHistory
 pub mod Looking
+pub mod Naming
 pub mod Reasons
 pub mod Recovered
 pub mod Starting

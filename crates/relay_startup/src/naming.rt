@@ -4,7 +4,7 @@ ghost use Rattle.std.specs.Prelude.{◌≡◌, IfErr, IfOk, All, length, map};
 ghost use Rattle.block_shelf.specs.Each.{AreEach};
 ghost use Rattle.block_shelf.specs.Starting.{IsUnwritten};
 ghost use Rattle.relay_startup.specs.Faults.{IsServeFault};
-ghost use Rattle.relay_startup.specs.Naming.{IsTakenByName, LeavesNames};
+ghost use Rattle.relay_startup.specs.Naming.{IsTakenByName, LeavesNames, TellsChangesOf};
 ghost use Rattle.relay_startup.specs.Unstopped.{IsUnstoppedBy};
 
 use crate::synced::Synced;
@@ -42,6 +42,9 @@ pub fn left_by_name<S: Synced + Drop, N: HistoryPlace>(
 ) -> Result<LeftByName<S>, ServeError>
     ensures taken { IfOk result (λ left.
         IsTakenByName N.HistoryPlace config.now text.items left.text.items names.old names.new) }
+    ensures changes { N.honest names.old
+        → IfOk result (λ left. TellsChangesOf config.now (N.kept names.old) text.items
+        left.changes.items) }
     ensures told { IfOk result (λ left. IsUnstoppedBy ⟦<S as BlockStore>⟧ config.now
         left.text.items stores.items left.unstopped) }
     ensures unwritten { IfOk result (λ left.
