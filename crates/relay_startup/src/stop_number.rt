@@ -10,7 +10,7 @@ ghost use Rattle.std.specs.Prelude.{Some};
 
 use crate::causes::unfit;
 use crate::history::unread;
-use history_names::named_text;
+use history_names::{NamedText, named_text};
 use id_history::{HistoryError, read_any};
 use relay_conf::Config;
 use relay_core::rings;
@@ -59,10 +59,14 @@ fn stop_by_name<N: HistoryPlace>(
     ensures names { N.honest names.old → IsAsBefore N.HistoryPlace names.old names.new }
     ensures fault { IfErr result IsNamedHistoryFault }
 {
-    let named = named_text(alloc, config, names, text)?;
-    let stop = stop_in(alloc, config, &named.text);
-    drop(named);
-    stop
+    let NamedText {
+        text,
+        known,
+        changes,
+    } = named_text(alloc, config, names, text)?;
+    drop(known);
+    drop(changes);
+    stop_in(alloc, config, &text)
 }
 
 /// The number of the stop of a history that is one of this configuration.
