@@ -8,21 +8,17 @@
 #![tactic(auto)]
 
 mod beginning;
-mod callers;
 mod clock;
 mod desk;
 mod figures;
 mod filled;
 mod keeping;
 mod lives;
-mod ports;
 mod recovering;
 mod repairing;
 mod run_totals;
 mod running;
 mod serving;
 mod side_thread;
-mod syncing;
-mod watched;
 
 pub use serving::serve_on;

@@ -1,0 +1,2 @@
+mod Rounds
+pub mod Sizes
