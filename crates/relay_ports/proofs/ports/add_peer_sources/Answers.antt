@@ -1,10 +1,9 @@
-use Rattle.std.proofs.Common.{◌≡◌, ◌∙◌, ℕ, All, map, ap, sym, subst}
+use Rattle.std.proofs.Common.{◌≡◌, ◌∙◌, ◌∷◌, [], ℕ, All, ap, length, length-append, map, subst, sym}
 use Rattle.std.proofs.lemmas.List.{map_push}
 use Rattle.std.proofs.lemmas.List.Elements.{All-push}
 use Rattle.live_wire.specs.Ports.{left_of}
 use Rattle.live_wire.specs.declared.port.Port.{Port}
 use Rattle.relay_live.specs.declared.running.PeerSource.{PeerSource}
-use Rattle.relay_startup.proofs.Rows.{longer}
 use Rattle.relay_ports.specs.Callers.{HasCallers}
 use Rattle.relay_ports.proofs.ports.add_peer_sources.Goals as goal
 
@@ -12,10 +11,9 @@ use Rattle.relay_ports.proofs.ports.add_peer_sources.Goals as goal
 pub returns-in_ok-add_peer_source-in-Ok-clause-count
     : goal.returns-in_ok-add_peer_source-in-Ok-clause-count
 returns-in_ok-add_peer_source-in-Ok-clause-count c =
-    longer (λ (one : PeerSource Port). one.peer) c.add_further.new.peer_sources.items
-    c.add_peer_source.new.peer_sources.items
-    (record { peer = c.args.number; connections = c.args.first })
-    c.in_ok-add_peer_source-in-Ok.ensures
+    ap length c.in_ok-add_peer_source-in-Ok.ensures
+    ∙ length-append c.add_further.new.peer_sources.items
+    (record { peer = c.args.number; connections = c.args.first } ∷ [])
     ∙ c.in-Ok.ensures.count
 
 -- of the peer's number,
