@@ -1,11 +1,6 @@
 mod Kept
-mod PeerSources
-mod PortFaults
-mod Reached
 mod Repairs
-mod Rounds
 mod ServeFaults
 mod ShutAgain
-mod Sizes
 mod Starts
 mod Unsaved

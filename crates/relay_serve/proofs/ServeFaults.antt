@@ -8,7 +8,7 @@ use Rattle.relay_conf.specs.declared.settings.Config.{Config}
 use Rattle.relay_live.specs.declared.running.Counted.{Counted}
 use Rattle.relay_startup.specs.Files.{IsFileFault}
 use Rattle.relay_startup.specs.History.{IsOriginFault}
-use Rattle.relay_serve.specs.Ports.{IsPortFault}
+use Rattle.relay_ports.specs.Ports.{IsPortFault}
 use Rattle.relay_serve.specs.Running.{RunGives}
 use Rattle.relay_startup.proofs.Faults.{origin_serves}
 use Rattle.relay_startup.specs.Faults.{IsServeFault}

@@ -1,12 +1,9 @@
-pub mod Callers
+pub mod Desks
 pub mod Figures
 pub mod Filled
 pub mod Lives
 pub mod Moments
-pub mod Ports
 pub mod Recovering
 pub mod Repairing
 pub mod RunTotals
 pub mod Running
-pub mod Syncing
-pub mod Watched

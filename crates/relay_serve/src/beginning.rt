@@ -3,7 +3,7 @@ ghost use Rattle.std.specs.Prelude.{◌≡◌, ◌<◌, ◌^◌, IfErr, IfOk, le
 ghost use Rattle.file_blocks.specs.Store.{count_of};
 ghost use Rattle.relay_report.specs.Serve.{AreOf, ServeGives};
 ghost use Rattle.relay_serve.specs.RunTotals.{totals_in};
-ghost use Rattle.relay_serve.specs.Watched.{store_in};
+ghost use Rattle.relay_devices.specs.Watched.{store_in};
 ghost use Rattle.relay_startup.specs.Faults.{IsServeFault};
 
 use crate::clock::MachineClock;
@@ -13,13 +13,13 @@ use crate::places::HistoryPlaces;
 use crate::repairing::begin_again;
 use crate::running::{Finished, Records, Surroundings, channels_of, run_relay};
 use crate::side_thread::Writers;
-use crate::watched::{Watched, watch};
 use file_blocks::FileBlocks;
 use live_journal::PendingJournal;
 use live_store::ArticleLog;
 use live_wire::Port;
 use news_log::{NewsFile, NewsLines, NewsWriting};
 use relay_conf::Config;
+use relay_devices::{Watched, watch};
 use relay_folder::{HistoryPlace, JournalFile, JournalPlace, Origin};
 use relay_gate::CountingGate;
 use relay_journal::{

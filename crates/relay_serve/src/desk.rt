@@ -1,11 +1,11 @@
 //! Whoever is asked while a relay is served.
 ghost use Rattle.std.specs.Prelude.{◌≡◌, is_some};
-ghost use Rattle.relay_serve.specs.Syncing.{syncing_in};
+ghost use Rattle.relay_serve.specs.Desks.{syncing_in};
 
 use crate::side_thread::Figured;
-use crate::syncing::Syncing;
 use live_wire::{Door, Stop};
 use news_log::{NewsFile, NewsLines, NewsWriting};
+use relay_devices::Syncing;
 use relay_folder::{Askers, Control, JournalFile, Teller, WAITED_FOR, Word};
 use relay_gate::CountingGate;
 use relay_journal::{JournalLines, Journaling, second_of};

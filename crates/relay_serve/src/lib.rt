@@ -8,22 +8,22 @@
 #![tactic(auto)]
 
 mod beginning;
-mod callers;
 mod clock;
 mod desk;
 mod figures;
 mod filled;
 mod keeping;
 mod lives;
+<<<<<<< HEAD
 mod places;
 mod ports;
+=======
+>>>>>>> 8c396d70c0fd93ae3d214555703b915639288a60
 mod recovering;
 mod repairing;
 mod run_totals;
 mod running;
 mod serving;
 mod side_thread;
-mod syncing;
-mod watched;
 
 pub use serving::serve_on;

@@ -1,24 +1,23 @@
 //! A relay is served on the ports of the machine, over its files.
 ghost use Rattle.std.specs.Prelude.{◌≡◌, ◌<◌, ◌^◌, ◌⊎◌, All, IfErr, IfOk, length, map};
 ghost use Rattle.relay_startup.specs.Files.{IsFileFault};
-ghost use Rattle.relay_serve.specs.Callers.{AreCallers, HasCallers};
-ghost use Rattle.relay_serve.specs.Ports.{IsPortFault};
+ghost use Rattle.relay_ports.specs.Callers.{AreCallers, HasCallers};
+ghost use Rattle.relay_ports.specs.Ports.{IsPortFault};
 ghost use Rattle.relay_report.specs.Serve.{ServeGives};
 ghost use Rattle.file_blocks.specs.Store.{count_of};
 
 use crate::beginning::{Access, begin_and_run};
-use crate::callers::callers_of;
 use crate::desk::Desk;
 use crate::places::HistoryPlaces;
-use crate::ports::{open_doors, open_ports};
-use crate::syncing::{Syncing, open_syncing};
 use live_wire::{Callers, Port, Stop};
 use news_log::{HostNews, NewsFile, NewsLines, NewsWriting, Opening};
 use relay_conf::Config;
+use relay_devices::{Syncing, open_syncing};
 use relay_folder::{Control, HistoryPlace, HostHistory, HostJournal, JournalPlace};
 use relay_gate::{CountingGate, News, pending_of, writing_of};
 use relay_journal::{JournalLines, PrintedLines, ToldJournal};
 use relay_live::PeerSource;
+use relay_ports::{callers_of, open_doors, open_ports};
 use relay_report::ServeError;
 use relay_startup::{Unbegun, fill_streams, fit_files, hold_files};
 use std::alloc::Global;

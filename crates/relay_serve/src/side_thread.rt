@@ -4,7 +4,7 @@ ghost use Rattle.relay_gate.specs.Gates.{ArePeersTold, names_of};
 ghost use Rattle.relay_live.specs.Making.{buffers_in};
 ghost use Rattle.relay_report.specs.Report.{text_of_figures};
 ghost use Rattle.relay_serve.specs.Filled.{sizes_text};
-ghost use Rattle.relay_serve.specs.Syncing.{syncing_in};
+ghost use Rattle.relay_serve.specs.Desks.{syncing_in};
 
 use crate::desk::Desk;
 use crate::figures::figures_of;

@@ -2,7 +2,7 @@ use Rattle.std.proofs.Common.{◌∙◌, List, ap, map, sym}
 use Rattle.file_blocks.specs.declared.host.HostFile.{HostFile}
 use Rattle.file_blocks.specs.Store.{count_of}
 use Rattle.file_blocks.specs.declared.store.FileBlocks.{FileBlocks}
-use Rattle.relay_serve.proofs.Sizes.{watched_sizes}
+use Rattle.relay_devices.proofs.Sizes.{watched_sizes}
 use Rattle.relay_startup.proofs.Sizes.{same_count}
 use Rattle.relay_serve.proofs.beginning.run_begun.Goals as goal
 

@@ -1,5 +1,5 @@
 use Rattle.std.proofs.Common.{◌∙◌}
-use Rattle.relay_serve.proofs.Sizes.{watched_sizes}
+use Rattle.relay_devices.proofs.Sizes.{watched_sizes}
 use Rattle.relay_serve.proofs.Starts.{unrun_serves}
 use Rattle.relay_serve.proofs.beginning.run_watched.Goals as goal
 

@@ -1,0 +1,3 @@
+mod Rooms
+mod Rounds
+pub mod Sizes

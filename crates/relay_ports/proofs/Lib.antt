@@ -1,0 +1,3 @@
+mod PeerSources
+mod PortFaults
+mod Reached
