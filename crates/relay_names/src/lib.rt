@@ -1,0 +1,6 @@
+//! What the numbers of a history stood for.
+#![tactic(auto)]
+
+mod names;
+
+pub use names::{GroupNames, Names};
