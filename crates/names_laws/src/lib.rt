@@ -1,0 +1,2 @@
+//! Laws of histories that are taken by name.
+#![tactic(auto)]
