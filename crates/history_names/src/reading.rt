@@ -31,17 +31,6 @@ pub struct NamedText {
     pub changes: Vec<u8>,
 }
 
-// Written out, so that no crate above proves anew how each part is let go.
-impl Drop for NamedText {
-    fn drop(self) {
-        let NamedText {
-            text: _,
-            known: _,
-            changes: _,
-        } = self;
-    }
-}
-
 /// The text of a history by the names that are kept at a place: as a relay of this configuration
 /// has it, where they are known, else as it is. Nothing is changed at the place.
 pub fn named_text<N: HistoryPlace>(
