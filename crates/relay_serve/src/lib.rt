@@ -14,11 +14,7 @@ mod figures;
 mod filled;
 mod keeping;
 mod lives;
-<<<<<<< HEAD
 mod places;
-mod ports;
-=======
->>>>>>> 8c396d70c0fd93ae3d214555703b915639288a60
 mod recovering;
 mod repairing;
 mod run_totals;
