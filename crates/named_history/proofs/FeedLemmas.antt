@@ -145,4 +145,5 @@ pub feeds_done : (known : List (List ℕ)) (left : List KeptFeed) (own : List (L
 feeds_done known left [] rings none = refl
 feeds_done known left (name ∷ own) [] none = refl
 feeds_done known left (name ∷ own) (ring ∷ rings) none =
-    elim none [ inl h ↦ omega (arith, h) | inr h ↦ omega (arith, h) ]
+    let some : ⊥ = elim none [ inl h ↦ omega (arith, h) | inr h ↦ omega (arith, h) ] in
+    absurd some

@@ -30,16 +30,15 @@ cut_there : (known : List (List ℕ)) (position turn : ℕ) → turn ≡ min (le
     → (take turn known ≡ take position known) × (drop turn known ≡ drop position known)
 cut_there known position turn is =
     elim (cases_lt position (length known)) [
-      inl less ↦
-        let same : turn ≡ position = omega (arith, is, less) in
-        (ap (λ n. take n known) same, ap (λ n. drop n known) same)
-    | inr past ↦
-        let whole : turn ≡ length known = omega (arith, is, past) in
-        let end : length known ≤ turn = omega (arith, whole) in
-        (
-          take_all turn known end ∙ sym (take_all position known past),
-          drop_of_length-le known end ∙ sym (drop_of_length-le known past),
-        )
+      | inl less ↦
+          let same : turn ≡ position = omega (arith, is, less) in
+          (ap (λ n. take n known) same, ap (λ n. drop n known) same)
+      | inr past ↦
+          let whole : turn ≡ length known = omega (arith, is, past) in
+          let end : length known ≤ turn = omega (arith, whole) in (
+            take_all turn known end ∙ sym (take_all position known past),
+            drop_of_length-le known end ∙ sym (drop_of_length-le known past),
+          )
     ]
 
 -- Where the buffers before its turn stand apart from those from there on, it is looked for among
@@ -61,7 +60,8 @@ zip_past : {X Y : Type 0} (xs : List X) (ys : List Y) (i : ℕ)
 zip_past [] ys i past = refl
 zip_past (x ∷ xs) [] i past = refl
 zip_past (x ∷ xs) (y ∷ ys) zero past =
-    elim past [ inl h ↦ omega (arith, h) | inr h ↦ omega (arith, h) ]
+    let within : ⊥ = elim past [ inl h ↦ omega (arith, h) | inr h ↦ omega (arith, h) ] in
+    absurd within
 zip_past (x ∷ xs) (y ∷ ys) (suc i) past =
     zip_past xs ys i
     (elim past [ inl h ↦ inl (omega (arith, h)) | inr h ↦ inr (omega (arith, h)) ])

@@ -39,9 +39,9 @@ newest_wait ring feed =
     cond_both (is_fit ring feed) feed (waiting_alone (newest ring feed.waiting) feed)
     (λ (new : KeptFeed). new.waiting ≡ newest ring feed.waiting)
     (λ fit.
-      let full : length feed.waiting ≡ min ring (feed.gained - feed.passed) =
-      eqb-true (length feed.waiting) (min ring (feed.gained - feed.passed)) fit in
-      sym (newest_all ring feed.waiting (omega (arith, full)))) (λ _. refl)
+    let full : length feed.waiting ≡ min ring (feed.gained - feed.passed) =
+    eqb-true (length feed.waiting) (min ring (feed.gained - feed.passed)) fit in
+    sym (newest_all ring feed.waiting (omega (arith, full)))) (λ _. refl)
 
 -- What holds of each holds of each that is left.
 pub all_left : {X : Type 0} (P : X → Type 0) (n : ℕ) (xs : List X) → AllByRecursion P xs
@@ -77,16 +77,16 @@ fitted_holds buffers ring old feed holds =
     cond_both (is_fit ring feed) feed (waiting_alone (newest ring feed.waiting) feed)
     (λ (new : KeptFeed). FeedHolds buffers new ring)
     (λ fit.
-      record {
-        counts = record {
-          taken = holds.counts.taken;
-          passed = holds.counts.passed;
-          waiting =
+    record {
+      counts = record {
+        taken = holds.counts.taken;
+        passed = holds.counts.passed;
+        waiting =
             eqb-true (length feed.waiting) (min ring (feed.gained - feed.passed)) fit;
-        };
-        gained = holds.gained;
-        tokens = holds.tokens;
-      }) (λ _. newest_hold buffers ring old feed holds)
+      };
+      gained = holds.gained;
+      tokens = holds.tokens;
+    }) (λ _. newest_hold buffers ring old feed holds)
 
 -- A feed that gained nothing holds with any ring.
 pub new_holds : (buffers ring : ℕ) → FeedHolds buffers new_feed ring

@@ -139,9 +139,8 @@ feeds_hold_by buffers known kept old held [] [] long = tt
 feeds_hold_by buffers known kept old held [] (ring ∷ rings) long = omega (arith, long)
 feeds_hold_by buffers known kept old held (name ∷ own) [] long = omega (arith, long)
 feeds_hold_by buffers known kept old held (name ∷ own) (ring ∷ rings) long =
-    let long : length own ≡ length rings = omega (arith, long) in
-    (
+    let long : length own ≡ length rings = omega (arith, long) in (
       kept_holds buffers ring (under name known kept)
-      (λ feed is. found_held buffers kept old (place_of name known) feed held is),
+          (λ feed is. found_held buffers kept old (place_of name known) feed held is),
       feeds_hold_by buffers known kept old held own rings long,
     )

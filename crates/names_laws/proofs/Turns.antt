@@ -60,11 +60,10 @@ pub positions_within : (known : List GroupNames) (kept : List ℕ) (own : List G
     → AllZip (λ position m. position < m) (map (position_of known kept) own)
     (map buffer_count own)
 positions_within known kept [] some = tt
-positions_within known kept (group ∷ own) some =
-    (
-      turn_within group.buffers (under group.name (map name_of known) (zip known kept)) some.0,
-      positions_within known kept own some.1,
-    )
+positions_within known kept (group ∷ own) some = (
+  turn_within group.buffers (under group.name (map name_of known) (zip known kept)) some.0,
+  positions_within known kept own some.1,
+)
 
 -- What stands at a place is the first of what is left from there on.
 pub drop_at : {X : Type 0} (xs : List X) (k : ℕ) (x : X) → slice_get xs k ≡ Some x

@@ -63,14 +63,13 @@ under_each [] [] distinct long = tt
 under_each [] (one ∷ all) distinct long = omega (arith, long)
 under_each (name ∷ names) [] distinct long = omega (arith, long)
 under_each {X} (name ∷ names) (one ∷ all) distinct long =
-    let long : length names ≡ length all = omega (arith, long) in
-    (
+    let long : length names ≡ length all = omega (arith, long) in (
       rw (same_name name) refl,
       zip_step (λ other. bytes_eq name other ≡ false)
-      (λ other y. under other names all ≡ Some y)
-      (λ other y. under other (name ∷ names) (one ∷ all) ≡ Some y)
-      (λ other y apart there. under_later other name names one all (other_name name other apart)
-      ∙ there) names all distinct.0 (under_each names all distinct.1 long),
+          (λ other y. under other names all ≡ Some y)
+          (λ other y. under other (name ∷ names) (one ∷ all) ≡ Some y)
+          (λ other y apart there. under_later other name names one all (other_name name other apart)
+          ∙ there) names all distinct.0 (under_each names all distinct.1 long),
     )
 
 -- The place of a name is the first one where it is.

@@ -39,7 +39,11 @@ pub fn feed_added()
 pub fn smaller_ring()
     ensures { named old_names old_names (1 ∷ 3 ∷ 4 ∷ []) old_stop
         ≡ stop_with (1 ∷ 0 ∷ []) (record {
-        gained = 4; passed = 3; taken = 1; waiting = token_at 3 ∷ [] }
+          gained = 4;
+          passed = 3;
+          taken = 1;
+          waiting = token_at 3 ∷ [];
+        }
         ∷ full_feed ∷ last_feed ∷ []) }
 {}
 
@@ -48,7 +52,11 @@ pub fn smaller_ring()
 pub fn larger_ring()
     ensures { named old_names old_names (4 ∷ 8 ∷ 4 ∷ []) old_stop
         ≡ stop_with (1 ∷ 0 ∷ []) (first_feed ∷ record {
-        gained = 9; passed = 6; taken = 2; waiting = token_at 6 ∷ token_at 7 ∷ token_at 8 ∷ [] }
+          gained = 9;
+          passed = 6;
+          taken = 2;
+          waiting = token_at 6 ∷ token_at 7 ∷ token_at 8 ∷ [];
+        }
         ∷ last_feed ∷ []) }
 {}
 

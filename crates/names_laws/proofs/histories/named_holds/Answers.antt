@@ -7,7 +7,7 @@ returns c known own buffers old rings kept held ids rises long some =
     record {
       positions = positions_within known.groups kept.positions own.groups some;
       feeds =
-        feeds_hold_by buffers known.feeds kept.feeds old held own.feeds rings long;
+          feeds_hold_by buffers known.feeds kept.feeds old held own.feeds rings long;
       ids = ids;
       rises = rises;
     }
