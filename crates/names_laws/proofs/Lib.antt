@@ -1,0 +1,4 @@
+pub mod Fits
+pub mod SameNames
+pub mod Turns
+pub mod Under
