@@ -1,7 +1,7 @@
 -- Lists that are gone through, one element after the other.
 use Rattle.std.proofs.Common.{◌≡◌, ◌∙◌, ℕ, ◌+◌, ◌<◌, List, [], ◌∷◌, ◌++◌, length, map, take, get_or}
-use Rattle.std.proofs.Common.{Option, Bool, true, false, refl, ap, sym, append_assoc, arith}
-use Rattle.std.specs.Prelude.{bytes_eq, filter_map, flat_map, ◌↔◌, IsTrue}
+use Rattle.std.proofs.Common.{Bool, true, false, refl, ap, sym, append_assoc, arith}
+use Rattle.std.specs.Prelude.{bytes_eq, flat_map, ◌↔◌, IsTrue}
 use Rattle.std.specs.Option.{option_to_list}
 use Rattle.std.proofs.lemmas.Grind.{flat_map-append}
 use Rattle.std.proofs.lemmas.List.{get_or-map, take_more_same}

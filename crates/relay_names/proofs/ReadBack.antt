@@ -1,18 +1,17 @@
 -- What is told is read again as it was written.
 use Rattle.std.proofs.Common.{◌≡◌, ◌∙◌, ℕ, ◌<◌, ◌^◌, Bool, true, List, [], ◌∷◌, ◌++◌, Option, Some}
-use Rattle.std.proofs.Common.{None, refl, ap, sym, map, codes, length, take, drop}
-use Rattle.std.specs.Prelude.{◌&&◌, decimal, flat_map, IfSome, IsTrue}
+use Rattle.std.proofs.Common.{None, refl, ap, map, codes, length, take, drop}
+use Rattle.std.specs.Prelude.{◌&&◌, IfSome, IsTrue}
 use Rattle.std.specs.List.{list_all, position_or_len}
 use Rattle.std.specs.Option.{option_and_then}
 use Rattle.std.proofs.Math.Seq.{take-append_seam, drop-append_seam}
 use Rattle.std.proofs.lemmas.Bool.{and_parts, eq-eqb}
 use Rattle.std.proofs.lemmas.List.{map-append}
 use Rattle.std.proofs.lemmas.List.Folds.{list_all-append}
-use Rattle.relay_conf.specs.Lines.{lines_of}
 use Rattle.relay_names.specs.Names.{GroupNames, Names, Told}
 use Rattle.relay_names.specs.Text.{NamesLine, At, After, IsWritable, all_said, are_words}
 use Rattle.relay_names.specs.Text.{front_part, group_words, is_mark, is_word, last_words}
-use Rattle.relay_names.specs.Text.{line_octets, lines_said, names_said, names_words, next_part}
+use Rattle.relay_names.specs.Text.{lines_said, names_said, names_words, next_part}
 use Rattle.relay_names.specs.Text.{part_words, told_after, told_octets, told_of, told_said}
 use Rattle.relay_names.specs.Text.{told_words}
 use Rattle.relay_names.proofs.SaidAgain.{after_again, at_again, first_place, joined, names_again}

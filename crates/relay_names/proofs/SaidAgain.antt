@@ -1,15 +1,14 @@
 -- What written lines say is what they were made of.
-use Rattle.std.proofs.Common.{◌≡◌, ◌∙◌, ℕ, ◌<◌, ◌≤◌, ◌^◌, Bool, true, false, List, [], ◌∷◌, ◌++◌, length}
-use Rattle.std.proofs.Common.{Option, Some, None, refl, ap, sym, map, take, drop, arith, codes}
-use Rattle.std.proofs.Common.{append_assoc, append-nil, one-add}
+use Rattle.std.proofs.Common.{◌≡◌, ◌∙◌, ℕ, ◌<◌, ◌^◌, Bool, true, false, List, [], ◌∷◌, ◌++◌, length}
+use Rattle.std.proofs.Common.{Option, Some, None, refl, ap, sym, map, arith, codes}
+use Rattle.std.proofs.Common.{append-nil, one-add}
 use Rattle.std.proofs.Common.{rules, tests, ◌||◌}
-use Rattle.std.specs.Prelude.{◌&&◌, decimal, filter_map, nat_le, not, option_map, flat_map}
+use Rattle.std.specs.Prelude.{◌&&◌, decimal, filter_map, nat_le, not, option_map}
 use Rattle.std.specs.Char.{is_ascii_digit}
 use Rattle.std.specs.List.{list_all, list_any, position_or_len}
 use Rattle.std.specs.Str.{all_ascii_digits}
 use Rattle.std.specs.Str.Parse.{digits_value}
 use Rattle.std.proofs.Math.Dec.{leb-zero}
-use Rattle.std.proofs.Math.Seq.{take-append_seam, drop-append_seam}
 use Rattle.std.proofs.lemmas.Bool.{and_parts, le-leb, or_parts}
 use Rattle.std.proofs.lemmas.Fmt.{decimal_nonempty, decimal_is_IsNumeral, digits_decimal}
 use Rattle.std.proofs.lemmas.List.{map-append}
@@ -17,7 +16,7 @@ use Rattle.std.proofs.lemmas.List.Elements.{filter_map-append}
 use Rattle.std.proofs.lemmas.List.Folds.{list_any-append}
 use Rattle.std.proofs.lemmas.Str.Parse.{numerals_by_value, tells_all_ascii_digits}
 use Rattle.news_terms.specs.Article.{is_empty}
-use Rattle.line_words.specs.Numbers.{is_numeral, number_within}
+use Rattle.line_words.specs.Numbers.{is_numeral}
 use Rattle.relay_names.specs.Names.{GroupNames, Names}
 use Rattle.relay_names.specs.Text.{NamesLine, At, After, BufferLine, GroupLine, FeedLine}
 use Rattle.relay_names.specs.Text.{are_words, both_there, buffer_of, feed_of, group_of}

@@ -1,14 +1,13 @@
 -- The lines of a text that was written are those that it was made of.
-use Rattle.std.proofs.Common.{◌≡◌, ◌∙◌, ◌==◌, ℕ, ◌-◌, Bool, true, false, List, [], ◌∷◌, ◌++◌, length}
+use Rattle.std.proofs.Common.{◌≡◌, ◌∙◌, ◌==◌, ℕ, ◌-◌, true, false, List, [], ◌∷◌, ◌++◌, length}
 use native.Mathlib.Numerals.{unary_clauses}
 use Rattle.std.proofs.Common.{◌≢◌, Some, None, refl, ap, arith, get_or, map, append_assoc}
-use Rattle.std.specs.Prelude.{All, flat_map, not, ◌||◌}
+use Rattle.std.specs.Prelude.{All, flat_map}
 use Rattle.std.specs.List.{list_all}
 use Rattle.std.specs.Str.Lines.{strip_carriage_return}
-use Rattle.std.proofs.lemmas.Bool.{and_parts, not-true}
+use Rattle.std.proofs.lemmas.Bool.{and_parts}
 use Rattle.std.proofs.lemmas.List.Elements.{All-cons, All-nil}
 use Rattle.std.proofs.lemmas.List.Splits.{slice_split_at}
-use Rattle.line_words.specs.Parts.{parts}
 use Rattle.relay_conf.specs.Lines.{lines_in, lines_of}
 use Rattle.relay_conf.proofs.FileLines.{lines_more}
 use Rattle.relay_names.specs.Text.{all_said, both_there, ended_lines, is_word, line_octets}

@@ -1,7 +1,7 @@
 -- The words of a line that was written are those that it was made of.
-use Rattle.std.proofs.Common.{◌≡◌, ◌∙◌, ◌==◌, ℕ, ◌<◌, Bool, true, false, List, [], ◌∷◌, ◌++◌, length}
+use Rattle.std.proofs.Common.{◌≡◌, ◌∙◌, ◌==◌, ℕ, Bool, true, false, List, [], ◌∷◌, ◌++◌, length}
 use Rattle.std.proofs.Common.{refl, ap, append-nil}
-use Rattle.std.specs.Prelude.{All, filter, flat_map, not, ◌&&◌}
+use Rattle.std.specs.Prelude.{All, filter, flat_map, not}
 use Rattle.std.specs.List.{list_all, slice_split}
 use Rattle.std.proofs.Math.Dec.{eqb-suc-zero}
 use Rattle.std.proofs.lemmas.Bool.{and_parts, not-true}

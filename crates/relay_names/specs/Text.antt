@@ -1,5 +1,5 @@
 -- The text of names, as it is read and as it is written (docs/FORMATS.md, Names file).
-use Rattle.std.specs.Prelude.{◌≡◌, ℕ, ◌<◌, ◌^◌, ◌==◌, ◌&&◌, ◌||◌, not, Bool, List, [], ◌∷◌, ◌++◌}
+use Rattle.std.specs.Prelude.{ℕ, ◌<◌, ◌^◌, ◌==◌, ◌&&◌, not, Bool, List, [], ◌∷◌, ◌++◌}
 use Rattle.std.specs.Prelude.{Option, None, Some, IfSome, IsTrue, if◌then◌else◌, bytes_eq, codes}
 use Rattle.std.specs.Prelude.{decimal, drop, false, true, filter_map, flat_map, map, option_map, take}
 use Rattle.std.specs.List.{list_all, list_any, position_or_len}

@@ -41,7 +41,8 @@ fn push_part(text: &mut Vec<u8>, kind: &[u8], stop: u64, names: &Names) -> Resul
     push_line(text, kind, digits.format(stop).as_bytes())?;
     push_each(text, b"buffer", &names.buffers)?;
     push_groups(text, &names.groups)?;
-    push_each(text, b"feed", &names.feeds)
+    push_each(text, b"feed", &names.feeds)?;
+    Ok(())
 }
 
 /// Writes a line of each name behind this word.

@@ -1,4 +1,4 @@
-use Rattle.std.proofs.Common.{◌≡◌, ◌∙◌, ap, arith, length, sym, true}
+use Rattle.std.proofs.Common.{◌≡◌, arith, sym, true}
 use Rattle.std.specs.Prelude.{bytes_eq}
 use Rattle.relay_names.proofs.OneMore.{same_more}
 use Rattle.relay_names.proofs.sameness.are_same_names.Goals as goal
