@@ -43,7 +43,8 @@ numeral_again n fits =
 pub stop_again : (n : ℕ) → n < 2 ^ 64 → stop_of (decimal n) ≡ Some n
 stop_again n fits =
     let value : digits_value 10 (decimal n) ≡ n = (decimal_is_IsNumeral n fits).1 in
-    let most : nat_le n 18446744073709551615 ≡ true = le-leb n 18446744073709551615 (omega (arith, fits)) in
+    let most : nat_le n 18446744073709551615 ≡ true =
+    le-leb n 18446744073709551615 (omega (arith, fits)) in
     rw (numeral_again n fits, value, leb-zero n, most) refl
 
 -- LINES

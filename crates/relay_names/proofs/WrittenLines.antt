@@ -80,7 +80,8 @@ unended (line ∷ more) c last =
 -- So what is ended is read,
 pub ended_of : (lines ended : List (List ℕ)) (last : List ℕ) → lines ≡ ended ++ last ∷ []
     → length last ≡ 0 → all_said lines ≡ lines_said ended
-ended_of lines ended [] is none = ap all_said is ∙ ap (option_and_then lines_said) (ended_again ended)
+ended_of lines ended [] is none =
+    ap all_said is ∙ ap (option_and_then lines_said) (ended_again ended)
 ended_of lines ended (c ∷ last) is none = absurd (omega (arith, none))
 
 -- and what isn't is refused.

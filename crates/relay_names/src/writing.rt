@@ -1,5 +1,6 @@
 //! How names are written.
-ghost use Rattle.std.specs.Prelude.{◌≡◌, ◌++◌, ◌∷◌, [], IfOk, OnOk, decimal, flat_map, map, option_map};
+ghost use Rattle.std.specs.Prelude.{◌≡◌, ◌++◌, ◌∷◌, [], IfOk, OnOk, decimal, flat_map, map};
+ghost use Rattle.std.specs.Prelude.{option_map};
 ghost use Rattle.news_terms.specs.Lines.{space};
 ghost use Rattle.relay_names.specs.Text.{group_words, line_octets, names_words, part_words};
 ghost use Rattle.relay_names.specs.Text.{told_octets};
@@ -34,8 +35,8 @@ pub fn write_names(
 
 /// Writes a part.
 fn push_part(text: &mut Vec<u8>, kind: &[u8], stop: u64, names: &Names) -> Result<(), AllocError>
-    ensures { OnOk result (text.new.items
-        ≡ text.old.items ++ flat_map line_octets (part_words kind.now stop (names_view names.now))) }
+    ensures { OnOk result (text.new.items ≡ text.old.items
+        ++ flat_map line_octets (part_words kind.now stop (names_view names.now))) }
 {
     let mut digits = Buffer::new();
     push_line(text, kind, digits.format(stop).as_bytes())?;
