@@ -1,11 +1,12 @@
 -- Feeds that are taken out one after the other.
-use Rattle.std.proofs.Common.{◌≡◌, ◌≢◌, ◌⊎◌, inl, inr, ℕ, ◌+◌, ◌-◌, ◌<◌, ◌≤◌, zero, suc, min, List, []}
-use Rattle.std.proofs.Common.{◌∷◌, ◌++◌, length, take, drop, map, zip, set, get_or, slice_get, Option}
+use Rattle.std.proofs.Common.{◌≡◌, ◌≢◌, ◌⊎◌, inl, inr, ℕ, ◌+◌, ◌-◌, ◌<◌, ◌≤◌, zero, suc, min}
+use Rattle.std.proofs.Common.{List, []}
+use Rattle.std.proofs.Common.{◌∷◌, ◌++◌, length, take, drop, map, set, get_or, slice_get, Option}
 use Rattle.std.proofs.Common.{Some, None, IsSome, is_some, option_and_then, option_map, Bool, true}
 use Rattle.std.proofs.Common.{false, cond, bytes_eq, refl, ap, ap₂, subst, ◌∙◌, sym, arith}
-use Rattle.std.proofs.Common.{append_assoc, length-drop}
+use Rattle.std.proofs.Common.{append_assoc}
 use Rattle.std.proofs.lemmas.Bool.{cond-false, false≢true, ne_eqb}
-use Rattle.std.proofs.lemmas.List.{at_drop_more, at_drop_all, take_rest, drop-map, length-map}
+use Rattle.std.proofs.lemmas.List.{at_drop_more, take_rest}
 use Rattle.std.proofs.lemmas.Option.{none-some, same_Some, slice_get-map}
 use Rattle.std.proofs.lemmas.Slice.Eq.{bytes_eq-Decides}
 use Rattle.id_history.specs.History.{KeptFeed}

@@ -1,6 +1,6 @@
 -- Names that are gone through, one after the other.
-use Rattle.std.proofs.Common.{◌≡◌, ℕ, ◌+◌, ◌<◌, ◌≤◌, suc, List, [], ◌∷◌, length, drop, get_or, map}
-use Rattle.std.proofs.Common.{Option, Some, None, Bool, false, true, refl, ap, ◌∙◌, sym, arith}
+use Rattle.std.proofs.Common.{◌≡◌, ℕ, ◌+◌, ◌<◌, ◌≤◌, suc, List, length, drop, get_or}
+use Rattle.std.proofs.Common.{Option, Some, None, false, true, refl, ap, ◌∙◌, arith}
 use Rattle.std.proofs.lemmas.List.{at_drop_more, at_drop_all}
 use Rattle.std.specs.Prelude.{bytes_eq, option_map}
 use Rattle.named_history.specs.Places.{place_of}

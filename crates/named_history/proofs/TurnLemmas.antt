@@ -1,13 +1,14 @@
 -- Where a group goes on, as it is found in two parts.
-use Rattle.std.proofs.Common.{◌≡◌, ◌⊎◌, inl, inr, ℕ, ◌<◌, ◌≤◌, zero, suc, min, List, [], ◌∷◌, ◌++◌}
-use Rattle.std.proofs.Common.{length, take, drop, map, zip, slice_get, Option, Some, None, unwrap_or}
+use Rattle.std.proofs.Common.{◌≡◌, inl, inr, ℕ, ◌≤◌, zero, suc, min, List, [], ◌∷◌, ◌++◌}
+use Rattle.std.proofs.Common.{length, take, drop, map, zip, slice_get, Option, Some, None}
+use Rattle.std.proofs.Common.{unwrap_or}
 use Rattle.std.proofs.Common.{option_and_then, drop_of_length-le, refl, ap, ap₂, ◌∙◌, sym, arith}
 use Rattle.std.proofs.lemmas.Bool.{cases_lt}
 use Rattle.std.proofs.lemmas.List.{take_all}
 use Rattle.std.proofs.lemmas.Option.{none-some, same_Some}
 use Rattle.std.specs.Option.{option_or}
 use Rattle.named_history.specs.Naming.{name_of, position_of, turn_by, turn_from}
-use Rattle.named_history.specs.Places.{first_place, place_of, under}
+use Rattle.named_history.specs.Places.{first_place, place_of}
 use Rattle.relay_names.specs.Names.{GroupNames}
 
 -- One place before those that two lists give.
@@ -54,17 +55,15 @@ turn_parts known position turn own before from is front back =
     ∙ ap₂ (λ (xs ys : List (List ℕ)). option_or (first_place xs own) (first_place ys own))
     (sym (back ∙ cut.1)) (sym (front ∙ cut.0)))
 
--- Past the end of either of two lists nothing stands beside another.
-zip_past : {X Y : Type 0} (xs : List X) (ys : List Y) (i : ℕ)
-    → ((length xs ≤ i) ⊎ (length ys ≤ i)) → slice_get (zip xs ys) i ≡ None
+-- Past the end of the second list nothing stands beside another.
+zip_past : {X Y : Type 0} (xs : List X) (ys : List Y) (i : ℕ) → length ys ≤ i
+    → slice_get (zip xs ys) i ≡ None
 zip_past [] ys i past = refl
 zip_past (x ∷ xs) [] i past = refl
 zip_past (x ∷ xs) (y ∷ ys) zero past =
-    let within : ⊥ = elim past [ inl h ↦ omega (arith, h) | inr h ↦ omega (arith, h) ] in
+    let within : ⊥ = omega (arith, past) in
     absurd within
-zip_past (x ∷ xs) (y ∷ ys) (suc i) past =
-    zip_past xs ys i
-    (elim past [ inl h ↦ inl (omega (arith, h)) | inr h ↦ inr (omega (arith, h)) ])
+zip_past (x ∷ xs) (y ∷ ys) (suc i) past = zip_past xs ys i (omega (arith, past))
 
 -- What stands at a place of two lists side by side.
 zip_at : {X Y : Type 0} (xs : List X) (ys : List Y) (i : ℕ) (x : X) (y : Y)
@@ -75,17 +74,10 @@ zip_at {X} {Y} (a ∷ xs) (b ∷ ys) zero x y left right =
     ap₂ (λ (c : X) (d : Y). Some (c, d)) (same_Some a x left) (same_Some b y right)
 zip_at (a ∷ xs) (b ∷ ys) (suc i) x y left right = zip_at xs ys i x y left right
 
--- Where the group isn't known, it begins with its first buffer.
-pub position_none : (known : List GroupNames) (kept : List ℕ) (own : GroupNames)
-    → place_of own.name (map name_of known) ≡ None → 0 ≡ position_of known kept own
-position_none known kept own is =
-    sym (ap (λ (found : Option ℕ).
-    turn_from own.buffers (option_and_then (slice_get (zip known kept)) found)) is)
-
--- So it does where no position of it is kept.
+-- Where no position of a group is kept, it begins with its first buffer.
 pub position_past : (known : List GroupNames) (kept : List ℕ) (own : GroupNames) (place : ℕ)
     → place_of own.name (map name_of known) ≡ Some place
-    → ((length known ≤ place) ⊎ (length kept ≤ place)) → 0 ≡ position_of known kept own
+    → length kept ≤ place → 0 ≡ position_of known kept own
 position_past known kept own place is past =
     sym (ap (λ (found : Option ℕ).
     turn_from own.buffers (option_and_then (slice_get (zip known kept)) found)) is

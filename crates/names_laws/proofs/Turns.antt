@@ -1,10 +1,13 @@
 -- Where groups go on.
 use Rattle.std.proofs.Common.{◌≡◌, ℕ, ◌<◌, zero, suc, List, [], ◌∷◌, ◌++◌, length, map, take, drop}
-use Rattle.std.proofs.Common.{zip, Option, Some, None, Bool, true, false, cond, refl, ap, ◌∙◌, sym}
+use Rattle.std.proofs.Common.{zip, Option, Some, None, Bool, true, false, cond, refl, ap, ◌∙◌}
 use Rattle.std.proofs.Common.{arith, bytes_eq, option_map, slice_get, unwrap_or}
 use Rattle.std.proofs.lemmas.Option.{none-some, same_Some}
 use Rattle.std.specs.List.{AllByRecursion, AllZip}
+use Rattle.std.proofs.Common.{nat_lt}
+use Rattle.std.proofs.lemmas.Bool.{and_from, lt-ltb}
 use Rattle.std.specs.Option.{option_or}
+use Rattle.id_history.specs.Conditions.{are_positions}
 use Rattle.named_history.specs.Naming.{buffer_count, in_turn, name_of, position_of, turn_by}
 use Rattle.named_history.specs.Naming.{turn_from}
 use Rattle.named_history.specs.Places.{first_place, place_of, under}
@@ -64,6 +67,18 @@ positions_within known kept (group ∷ own) some = (
   turn_within group.buffers (under group.name (map name_of known) (zip known kept)) some.0,
   positions_within known kept own some.1,
 )
+
+-- So their positions pass.
+pub positions_pass : (known : List GroupNames) (kept : List ℕ) (own : List GroupNames)
+    → AllByRecursion (λ group. 0 < buffer_count group) own
+    → are_positions (map (position_of known kept) own) (map buffer_count own) ≡ true
+positions_pass known kept [] some = refl
+positions_pass known kept (group ∷ own) some =
+    and_from (nat_lt (position_of known kept group) (buffer_count group))
+    (are_positions (map (position_of known kept) own) (map buffer_count own))
+    (lt-ltb (position_of known kept group) (buffer_count group)
+    (turn_within group.buffers (under group.name (map name_of known) (zip known kept)) some.0))
+    (positions_pass known kept own some.1)
 
 -- What stands at a place is the first of what is left from there on.
 pub drop_at : {X : Type 0} (xs : List X) (k : ℕ) (x : X) → slice_get xs k ≡ Some x

@@ -1,6 +1,7 @@
 -- What stands under a name.
-use Rattle.std.proofs.Common.{◌≡◌, ◌≢◌, ℕ, ◌<◌, ◌≤◌, ◌+◌, zero, suc, List, [], ◌∷◌, length, map, zip}
-use Rattle.std.proofs.Common.{Option, Some, None, Bool, true, false, refl, ap, ◌∙◌, sym, arith, cond}
+use Rattle.std.proofs.Common.{◌≡◌, ◌≢◌, ℕ, zero, suc, List, [], ◌∷◌, length, map}
+use Rattle.std.proofs.Common.{zip}
+use Rattle.std.proofs.Common.{Option, Some, None, true, false, refl, ap, ◌∙◌, sym, arith}
 use Rattle.std.proofs.Common.{bytes_eq, option_map, option_and_then, slice_get}
 use Rattle.std.proofs.Common.{ap₂}
 use Rattle.std.proofs.lemmas.Bool.{false_from_ne_true}

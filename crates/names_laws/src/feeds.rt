@@ -5,7 +5,7 @@ ghost use Rattle.id_history.specs.History.{FeedHolds, Kept, KeptFeed};
 ghost use Rattle.named_history.specs.Fitting.{fitted, new_feed};
 ghost use Rattle.named_history.specs.Naming.{named};
 ghost use Rattle.relay_names.specs.Names.{Names};
-ghost use Rattle.names_laws.specs.Staying.{IsFirstAt, IsNowhere};
+ghost use Rattle.names_laws.specs.Staying.{IsFirstAt, IsNowhere, WaitedIn};
 
 /// A feed whose name was known goes on with what was kept at the first place of that name, as its
 /// ring has room for it.
@@ -44,4 +44,12 @@ pub fn newest_stay()
 pub fn fitted_holds()
     ensures { (buffers ring old : ℕ) (feed : KeptFeed) → FeedHolds buffers feed old
         → FeedHolds buffers (fitted ring feed) ring }
+{}
+
+/// All that waits in a feed waited before in one feed, in the same order, with no token between
+/// missing and none after.
+pub fn what_waits_waited()
+    ensures { (known own : Names) (rings : List ℕ) (kept : Kept) (i : ℕ) (new : KeptFeed)
+        → slice_get (named known own rings kept).feeds i ≡ Some new
+        → WaitedIn kept.feeds new.waiting }
 {}

@@ -33,3 +33,11 @@ pub fn named_holds()
         → Holds (record { buffers = buffers; groups = map buffer_count own.groups; rings = rings })
         (named known own rings kept) }
 {}
+
+/// The names of a relay can be those under which its history by name is kept.
+pub fn own_names_are_of_it()
+    ensures { (known own : Names) (rings : List ℕ) (kept : Kept)
+        → length own.feeds ≡ length rings
+        → AllByRecursion (λ group. 0 < buffer_count group) own.groups
+        → is_of own (named known own rings kept) ≡ true }
+{}

@@ -1,4 +1,4 @@
-use Rattle.std.proofs.Common.{◌≡◌, ◌⊎◌, inl, inr, ℕ, ◌+◌, ◌≤◌, List, [], ◌∷◌, ◌++◌, length, drop}
+use Rattle.std.proofs.Common.{◌⊎◌, inl, inr, ℕ, ◌+◌, ◌≤◌, List, [], ◌∷◌, ◌++◌, length, drop}
 use Rattle.std.proofs.Common.{refl, map, get_or, ap, sym, ◌∙◌, arith, append-nil, length-drop}
 use Rattle.std.proofs.Common.{All, ◌<◌, ◌^◌, subst}
 use Rattle.std.proofs.lemmas.List.Elements.{All-push}

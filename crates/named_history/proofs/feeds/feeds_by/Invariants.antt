@@ -9,7 +9,8 @@ abbrev pub invariant-loop-place : goal.invariant-loop-place
 invariant-loop-place l =
     record {
       made : map feed_view l.feeds.items
-          ++ feeds_by l.known (map feed_view l.left.items) (drop l.place l.own) (drop l.place l.rings)
+          ++ feeds_by l.known (map feed_view l.left.items) (drop l.place l.own)
+          (drop l.place l.rings)
           ≡ feeds_by l.known (map feed_view l.fn.kept.items) l.own l.rings;
       count : length l.feeds.items ≡ l.place;
       room : All (λ (feed : KeptFeed). length feed.waiting.items < 2 ^ 32) l.feeds.items;

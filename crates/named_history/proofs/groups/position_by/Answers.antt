@@ -1,6 +1,5 @@
-use Rattle.std.proofs.Common.{◌≡◌, ℕ, List, Some, inl, inr, map, get_or, option_map, refl, ap, sym}
-use Rattle.std.proofs.Common.{ap₂, ◌∙◌, arith}
-use Rattle.std.proofs.lemmas.List.{length-map}
+use Rattle.std.proofs.Common.{ℕ, List, map, get_or, option_map, refl, ap, sym}
+use Rattle.std.proofs.Common.{ap₂, ◌∙◌}
 use Rattle.std.proofs.lemmas.Option.{slice_get-get_or, slice_get-map, slice_get_read}
 use Rattle.named_history.specs.Naming.{name_of, turn_by}
 use Rattle.named_history.specs.Places.{place_of}
@@ -8,20 +7,13 @@ use Rattle.relay_names.specs.Views.{group_view}
 use Rattle.relay_names.specs.declared.names.GroupNames.{GroupNames}
 use Rattle.named_history.proofs.TurnLemmas.{position_past, position_there}
 use Rattle.named_history.proofs.groups.position_by.Goals as goal
-use Rattle.named_history.proofs.groups.position_by.Goals.{then-place-known-via-then-place-known}
-use Rattle.named_history.proofs.groups.position_by.Goals.{then-place-known-via-else-place-known+then-place-kept}
 
-pub returns-then-place-known : goal.returns-then-place-known
-returns-then-place-known c =
+pub returns-then-place-kept : goal.returns-then-place-kept
+returns-then-place-kept c =
     let known = map group_view c.args.known.now in
     position_past known c.args.kept.now (group_view c.args.own.now) c.in-Some.place
     (ap (λ (name : List ℕ). place_of name (map name_of known)) (sym c.as_slice.ensures)
-    ∙ sym c.group_place.ensures ∙ c.in-Some.is)
-    (elim c.then-place-known.branch [
-      | then-place-known-via-then-place-known w ↦
-          inl (omega (arith, length-map c.args.known.now group_view, w.if-place-known.true))
-      | then-place-known-via-else-place-known+then-place-kept w ↦ inr w.if-place-kept.true
-    ])
+    ∙ sym c.group_place.ensures.place ∙ c.in-Some.is) c.if-place-kept.true
 
 pub returns : goal.returns
 returns c =
@@ -37,8 +29,8 @@ returns c =
     ∙ position_there known c.args.kept.now (group_view c.args.own.now) (group_view old) place
     position
     (ap (λ (name : List ℕ). place_of name (map name_of known)) (sym c.as_slice.ensures)
-    ∙ sym c.group_place.ensures ∙ c.in-Some.is)
+    ∙ sym c.group_place.ensures.place ∙ c.in-Some.is)
     (slice_get-map group_view c.args.known.now place
     ∙ ap (option_map group_view) (slice_get_read c.args.known.now _ place old refl
-    c.if-place-known.false c.index-known-place.is))
+    c.in-Some.ensures.within c.index-known-place.is))
     (slice_get-get_or c.args.kept.now place 0 c.if-place-kept.false)
