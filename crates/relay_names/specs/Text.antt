@@ -1,7 +1,8 @@
 -- The text of names, as it is read and as it is written (docs/FORMATS.md, Names file).
-use Rattle.std.specs.Prelude.{◌≡◌, ℕ, ◌<◌, ◌^◌, ◌==◌, ◌&&◌, ◌||◌, not, Bool, List, [], ◌∷◌, ◌++◌}
+use Rattle.std.specs.Prelude.{ℕ, ◌<◌, ◌^◌, ◌==◌, ◌&&◌, not, Bool, List, [], ◌∷◌, ◌++◌}
 use Rattle.std.specs.Prelude.{Option, None, Some, IfSome, IsTrue, if◌then◌else◌, bytes_eq, codes}
-use Rattle.std.specs.Prelude.{decimal, drop, false, true, filter_map, flat_map, map, option_map, take}
+use Rattle.std.specs.Prelude.{decimal, drop, false, true, filter_map, flat_map, map, option_map}
+use Rattle.std.specs.Prelude.{take}
 use Rattle.std.specs.List.{list_all, list_any, position_or_len}
 use Rattle.std.specs.Option.{option_and_then}
 use Rattle.news_terms.specs.Article.{is_empty}
@@ -129,7 +130,8 @@ front_part lines = take (position_or_len is_mark lines) lines
 abbrev pub next_part : List NamesLine → List NamesLine
 next_part lines = drop (position_or_len is_mark lines) lines
 
--- what is told of a stop whose own names are these, or aren't known, by the lines of its later names
+-- what is told of a stop whose own names are these, or aren't known, by the lines of its later
+-- names
 abbrev pub later_told : (stop : ℕ) → (last : Option Names) → List NamesLine → Option Told
 later_told stop last lines =
     option_map (λ later. record { stop = stop; last = last; later = later }) (last_part lines)

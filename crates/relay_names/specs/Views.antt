@@ -1,5 +1,5 @@
 -- Names of the code as the definitions have them.
-use Rattle.std.specs.Prelude.{◌≡◌, List, map, option_map, Option, None, Some, Result, Ok, Err}
+use Rattle.std.specs.Prelude.{◌≡◌, map, option_map, Option, None, Some, Result, Ok, Err}
 use Rattle.line_words.specs.Words.{words}
 use Rattle.line_words.specs.declared.words.Between.TheVariants.{Spaces}
 use Rattle.relay_names.specs.declared.names.GroupNames.{GroupNames}

@@ -74,12 +74,19 @@ fn numbered_names(
 {
     let mut names = Vec::new(alloc);
     for number in numbers {
-        match buffers.get(*number) {
-            Some(buffer) => push_name(alloc, &mut names, buffer.name.as_slice())?,
-            None => push_name(alloc, &mut names, b"")?,
-        }
+        push_name(alloc, &mut names, name_of_buffer(buffers, *number))?;
     }
     Ok(names)
+}
+
+/// The name of the buffer of a number; one that isn't there has none.
+fn name_of_buffer(buffers: &[BufferConf], number: usize) -> &[u8]
+    ensures { result.now ≡ buffer_name (slice_get buffers.now number) }
+{
+    match buffers.get(number) {
+        Some(buffer) => buffer.name.as_slice(),
+        None => b"",
+    }
 }
 
 /// The names of the feeds' peers, which are among these.
@@ -89,10 +96,17 @@ fn feed_names(alloc: Global, peers: &[Peer], feeds: &[Feed]) -> Result<Vec<Octet
 {
     let mut names = Vec::new(alloc);
     for feed in feeds {
-        match peers.get(usize::from(feed.peer)) {
-            Some(peer) => push_name(alloc, &mut names, peer.name.as_slice())?,
-            None => push_name(alloc, &mut names, b"")?,
-        }
+        push_name(alloc, &mut names, name_of_peer(peers, feed.peer))?;
     }
     Ok(names)
+}
+
+/// The name of the peer of a number; one that isn't there has none.
+fn name_of_peer(peers: &[Peer], number: u16) -> &[u8]
+    ensures { result.now ≡ peer_name (slice_get peers.now number) }
+{
+    match peers.get(usize::from(number)) {
+        Some(peer) => peer.name.as_slice(),
+        None => b"",
+    }
 }

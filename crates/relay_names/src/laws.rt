@@ -1,8 +1,8 @@
 //! Laws of the text of names. Nothing of the code stands on them.
 ghost use Rattle.std.specs.Prelude.{◌≡◌, ◌++◌, None, Some, codes};
-ghost use Rattle.relay_names.specs.Examples.{empty_parts, empty_told, first, first_text, later_names};
-ghost use Rattle.relay_names.specs.Examples.{later_text, loose_text, odd_group, odd_told, own_names};
-ghost use Rattle.relay_names.specs.Examples.{third, third_text};
+ghost use Rattle.relay_names.specs.Examples.{empty_parts, empty_told, first, first_text};
+ghost use Rattle.relay_names.specs.Examples.{later_names, loose_text, odd_group, odd_told};
+ghost use Rattle.relay_names.specs.Examples.{own_names, third, third_text};
 ghost use Rattle.relay_names.specs.Names.{Told, names_at};
 ghost use Rattle.relay_names.specs.Text.{told_octets, told_of, IsWritable};
 

@@ -62,7 +62,8 @@ impl Names {
         ensures buffers { OnOk result (self.new.buffers.items
             ≡ self.old.buffers.items ++ option_to_list (buffer_of (line_view line.entry))) }
         ensures groups { OnOk result (map group_view self.new.groups.items
-            ≡ map group_view self.old.groups.items ++ option_to_list (group_of (line_view line.entry))) }
+            ≡ map group_view self.old.groups.items
+            ++ option_to_list (group_of (line_view line.entry))) }
         ensures feeds { OnOk result (self.new.feeds.items
             ≡ self.old.feeds.items ++ option_to_list (feed_of (line_view line.entry))) }
     {

@@ -23,10 +23,13 @@ fn all_lines<'a>(alloc: Global, lines: &[&'a [u8]]) -> Result<Vec<Line<'a>>, Nam
     ensures { TextGives (λ said. map line_view said.items) result
         (all_said (map (λ line. line.now) lines.now)) }
 {
-    match lines.split_last() {
-        Some((last, ended)) if last.is_empty() => each_line(alloc, ended),
-        _ => Err(NamesError::BadNames),
+    let Some((last, ended)) = lines.split_last() else {
+        return Err(NamesError::BadNames);
+    };
+    if !last.is_empty() {
+        return Err(NamesError::BadNames);
     }
+    each_line(alloc, ended)
 }
 
 /// Reads lines.

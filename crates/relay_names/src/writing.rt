@@ -1,5 +1,7 @@
 //! How names are written.
-ghost use Rattle.std.specs.Prelude.{◌≡◌, ◌++◌, ◌∷◌, [], IfOk, OnOk, decimal, flat_map, map, option_map};
+ghost use Rattle.std.specs.Prelude.{◌≡◌, ◌++◌, ◌∷◌, [], IfOk, OnOk, decimal, flat_map, map};
+ghost use Rattle.std.specs.Prelude.{option_map};
+ghost use Rattle.news_terms.specs.Lines.{space};
 ghost use Rattle.relay_names.specs.Text.{group_words, line_octets, names_words, part_words};
 ghost use Rattle.relay_names.specs.Text.{told_octets};
 ghost use Rattle.relay_names.specs.Views.{group_view, names_view};
@@ -33,14 +35,15 @@ pub fn write_names(
 
 /// Writes a part.
 fn push_part(text: &mut Vec<u8>, kind: &[u8], stop: u64, names: &Names) -> Result<(), AllocError>
-    ensures { OnOk result (text.new.items
-        ≡ text.old.items ++ flat_map line_octets (part_words kind.now stop (names_view names.now))) }
+    ensures { OnOk result (text.new.items ≡ text.old.items
+        ++ flat_map line_octets (part_words kind.now stop (names_view names.now))) }
 {
     let mut digits = Buffer::new();
     push_line(text, kind, digits.format(stop).as_bytes())?;
     push_each(text, b"buffer", &names.buffers)?;
     push_groups(text, &names.groups)?;
-    push_each(text, b"feed", &names.feeds)
+    push_each(text, b"feed", &names.feeds)?;
+    Ok(())
 }
 
 /// Writes a line of each name behind this word.
@@ -72,11 +75,20 @@ fn push_group(text: &mut Vec<u8>, group: &GroupNames) -> Result<(), AllocError>
 {
     text.extend_from_slice(b"group ")?;
     text.extend_from_slice(group.name.as_slice())?;
-    for buffer in &group.buffers {
-        text.push(b' ')?;
-        text.extend_from_slice(buffer.as_slice())?;
-    }
+    push_words(text, &group.buffers)?;
     text.push(b'\n')?;
+    Ok(())
+}
+
+/// Writes words, a space before each.
+fn push_words(text: &mut Vec<u8>, words: &[Octets]) -> Result<(), AllocError>
+    ensures { OnOk result (text.new.items
+        ≡ text.old.items ++ flat_map (λ word. space ∷ word) words.now) }
+{
+    for word in words {
+        text.push(b' ')?;
+        text.extend_from_slice(word.as_slice())?;
+    }
     Ok(())
 }
 
