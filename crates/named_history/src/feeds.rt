@@ -61,7 +61,13 @@ pub(crate) fn feeds_by(
     let mut left = kept;
     let mut feeds = Vec::with_capacity(alloc, count)?;
     for place in 0..count {
-        let kept = take_kept(alloc, own[place].as_slice(), known, &mut left, &own[place + 1..])?;
+        let kept = take_kept(
+            alloc,
+            own[place].as_slice(),
+            known,
+            &mut left,
+            &own[place + 1..],
+        )?;
         feeds.push(feed_by(alloc, rings[place], kept)?)?;
     }
     Ok(feeds)

@@ -28,19 +28,11 @@ fn fitted(ring: u32, feed: KeptFeed) -> Result<KeptFeed, AllocError>
     if count as u64 == room {
         return Ok(feed);
     }
-    let KeptFeed {
-        gained,
-        passed: _,
-        taken,
-        mut waiting,
-    } = feed;
-    let newest = waiting.split_off(count.saturating_sub(ring as usize))?;
-    Ok(KeptFeed {
-        gained,
-        passed: gained.saturating_sub(newest.len() as u64),
-        taken,
-        waiting: newest,
-    })
+    let mut left = feed;
+    let newest = left.waiting.split_off(count.saturating_sub(ring as usize))?;
+    left.passed = left.gained.saturating_sub(newest.len() as u64);
+    left.waiting = newest;
+    Ok(left)
 }
 
 /// A feed with a ring of this size, of which this is kept, if anything is.

@@ -1,5 +1,5 @@
 //! The positions of groups, taken by name.
-ghost use Rattle.std.specs.Prelude.{◌≡◌, ◌<◌, ◌^◌, IfOk, length, map};
+ghost use Rattle.std.specs.Prelude.{◌≡◌, ◌<◌, ◌^◌, IfOk, IfSome, length, map};
 ghost use Rattle.id_history.specs.Conditions.{are_positions};
 ghost use Rattle.named_history.specs.Naming as terms;
 ghost use Rattle.named_history.specs.Places.{place_of, under};
@@ -44,7 +44,8 @@ fn turn_by(known: &[Octets], position: u32, own: &[Octets]) -> usize
 
 /// The place of the first group of this name, counted from 0.
 fn group_place(name: &[u8], groups: &[GroupNames]) -> Option<usize>
-    ensures { result ≡ place_of name.now (map terms.name_of (map group_view groups.now)) }
+    ensures place { result ≡ place_of name.now (map terms.name_of (map group_view groups.now)) }
+    ensures within { IfSome result (λ place. place < length groups.now) }
 {
     for place in 0..groups.len() {
         if is(name, groups[place].name.as_slice()) {
@@ -62,7 +63,7 @@ fn position_by(known: &[GroupNames], kept: &[u32], own: &GroupNames) -> usize
     let Some(place) = group_place(own.name.as_slice(), known) else {
         return 0;
     };
-    if place >= known.len() || place >= kept.len() {
+    if place >= kept.len() {
         return 0;
     }
     turn_by(&known[place].buffers, kept[place], &own.buffers)

@@ -1,0 +1,3 @@
+pub mod FeedLemmas
+pub mod PlaceLemmas
+pub mod TurnLemmas

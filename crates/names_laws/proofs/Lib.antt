@@ -1,0 +1,5 @@
+pub mod Fits
+pub mod SameNames
+pub mod Turns
+pub mod Under
+pub mod Waiting
