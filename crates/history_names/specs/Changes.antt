@@ -24,17 +24,17 @@ feed_of (other ∷ names) [] name = None
 feed_of (other ∷ names) (feed ∷ feeds) name =
     if bytes_eq other name then Some feed else feed_of names feeds name
 
--- Of a feed of the configuration with a ring for so many tokens: it is new, or so many of those that
--- wait have no room in the ring, and are passed over.
+-- of those that wait in a feed, as many as have no room in a ring for so many are passed over
+abbrev pub passed_over : (name : List ℕ) → (ring waiting : ℕ) → List (List ℕ)
+passed_over name ring waiting =
+    if nat_lt ring waiting
+    then (codes "names feed=" ++ (name ++ (codes " passed=" ++ decimal (waiting - ring)))) ∷ []
+    else []
+
+-- of a feed of the configuration with a ring for so many: it is new, or passes over some that wait
 abbrev pub of_feed : (name : List ℕ) → (ring : ℕ) → Option KeptFeed → List (List ℕ)
 of_feed name ring None = (codes "names feed=" ++ (name ++ codes " new")) ∷ []
-of_feed name ring (Some feed) =
-    if nat_lt ring (length feed.waiting)
-    then (
-      codes "names feed="
-      ++ (name ++ (codes " passed=" ++ decimal (length feed.waiting - ring)))
-    ) ∷ []
-    else []
+of_feed name ring (Some feed) = passed_over name ring (length feed.waiting)
 
 -- the same of each feed of the configuration, by their names and rings
 abbrev pub of_feeds : (known : List (List ℕ)) → List KeptFeed → (own : List (List ℕ))
@@ -44,14 +44,11 @@ of_feeds known feeds (name ∷ own) [] = []
 of_feeds known feeds (name ∷ own) (ring ∷ rings) =
     of_feed name ring (feed_of known feeds name) ++ of_feeds known feeds own rings
 
--- a feed that the configuration has no more, with so many tokens that wait
-abbrev pub gone_feed : (own : List (List ℕ)) → (name : List ℕ) → KeptFeed → List (List ℕ)
-gone_feed own name feed =
-    if is_among own name then []
-    else (
-      codes "names feed="
-      ++ (name ++ (codes " gone waiting=" ++ decimal (length feed.waiting)))
-    ) ∷ []
+-- a feed that isn't among those of the configuration is gone, with so many that wait
+abbrev pub gone_line : (is_among : Bool) → (name : List ℕ) → (waiting : ℕ) → List (List ℕ)
+gone_line true name waiting = []
+gone_line false name waiting =
+    (codes "names feed=" ++ (name ++ (codes " gone waiting=" ++ decimal waiting))) ∷ []
 
 -- each such feed: these are the names of the feeds
 abbrev pub gone_feeds : (own : List (List ℕ)) → (known : List (List ℕ)) → List KeptFeed
@@ -59,7 +56,7 @@ abbrev pub gone_feeds : (own : List (List ℕ)) → (known : List (List ℕ)) �
 gone_feeds own [] feeds = []
 gone_feeds own (name ∷ known) [] = []
 gone_feeds own (name ∷ known) (feed ∷ feeds) =
-    gone_feed own name feed ++ gone_feeds own known feeds
+    gone_line (is_among own name) name (length feed.waiting) ++ gone_feeds own known feeds
 
 -- THE GROUPS
 
@@ -67,16 +64,17 @@ gone_feeds own (name ∷ known) (feed ∷ feeds) =
 abbrev pub group_names : List GroupNames → List (List ℕ)
 group_names groups = map (λ (group : GroupNames). group.name) groups
 
--- a group that isn't among the others, which is told so
-abbrev pub of_group : (others : List (List ℕ)) → (end : List ℕ) → (name : List ℕ)
-    → List (List ℕ)
-of_group others end name =
-    if is_among others name then [] else (codes "names group=" ++ (name ++ end)) ∷ []
+-- a group that isn't among the others is told so
+abbrev pub group_line : (is_among : Bool) → (end name : List ℕ) → List (List ℕ)
+group_line true end name = []
+group_line false end name = (codes "names group=" ++ (name ++ end)) ∷ []
 
 -- each such group
 abbrev pub of_groups : (others : List (List ℕ)) → (end : List ℕ) → (names : List (List ℕ))
     → List (List ℕ)
-of_groups others end names = flat_map (of_group others end) names
+of_groups others end [] = []
+of_groups others end (name ∷ names) =
+    group_line (is_among others name) end name ++ of_groups others end names
 
 -- ALL
 
@@ -90,6 +88,6 @@ changes_of known own rings kept =
     ++ (of_groups (group_names known.groups) (codes " new") (group_names own.groups)
     ++ of_groups (group_names own.groups) (codes " gone") (group_names known.groups)))
 
--- these octets have these lines behind them, each with its end
-abbrev pub Adds : (old new : List ℕ) → (lines : List (List ℕ)) → Type 0
-Adds old new lines = new ≡ old ++ flat_map ended lines
+-- octets that have these lines behind them, each with its end
+pub record Adds (old new : List ℕ) (lines : List (List ℕ)) : Type 0 where
+  pub octets : new ≡ old ++ flat_map ended lines

@@ -12,6 +12,9 @@ use line_words::Octets;
 use relay_names::{GroupNames, Names};
 use std::alloc::{AllocError, Global};
 
+/// The octet that ends a line.
+const END: [u8; 1] = *b"\n";
+
 /// The lines that tell what has changed by name, where a history with these names goes on with
 /// those of a configuration, whose feeds have these rings. Where nothing has changed there is none.
 /// Names are looked for one by one, which for 1,024 feeds takes a million comparisons.
@@ -34,6 +37,10 @@ pub fn told_changes(
 }
 
 /// Tells of each feed of the configuration that it is new, or passes over some that wait.
+#[tactic(
+    auto,
+    using(crate::proofs::Lines::adds_more, crate::proofs::Lines::adds_all)
+)]
 fn put_feeds(
     alloc: Global,
     out: &mut Vec<u8>,
@@ -47,8 +54,10 @@ fn put_feeds(
 {
     let mut names = own;
     let mut left = rings;
-    while let (Some((name, others)), Some((ring, more))) = (names.split_first(), left.split_first())
-    {
+    while let Some((name, others)) = names.split_first() {
+        let Some((ring, more)) = left.split_first() else {
+            return Ok(());
+        };
         put_feed(alloc, out, name, *ring, feed_of(known, feeds, name))?;
         names = others;
         left = more;
@@ -63,9 +72,8 @@ fn feed_of<'a>(names: &[Octets], feeds: &'a [KeptFeed], name: &Octets) -> Option
 {
     let mut others = names;
     let mut left = feeds;
-    while let (Some((other, names)), Some((feed, feeds))) =
-        (others.split_first(), left.split_first())
-    {
+    while let Some((other, names)) = others.split_first() {
+        let (feed, feeds) = left.split_first()?;
         if other.as_slice() == name.as_slice() {
             return Some(feed);
         }
@@ -86,18 +94,36 @@ fn put_feed(
     ensures { OnOk result (Adds out.old.items out.new.items (terms.of_feed name.now ring
         (option_map (λ feed. feed_view feed.now) feed.entry))) }
 {
-    let Some(feed) = feed else {
-        let line = [b"names feed=", name.as_slice(), b" new\n"].concat(alloc)?;
-        return out.extend_from_slice(&line);
-    };
-    let waiting = feed.waiting.len();
-    if waiting <= ring as usize {
-        return Ok(());
+    match feed {
+        None => put_line(alloc, out, b"names feed=", name, b" new"),
+        Some(feed) => put_passed(alloc, out, name, ring as usize, feed.waiting.len()),
     }
-    put_count(alloc, out, name, b" passed=", waiting - ring as usize)
+}
+
+/// Tells of a feed that it passes over those that have no room in its ring, of so many that wait.
+#[tactic(auto, using(crate::proofs::Lines::adds_none))]
+fn put_passed(
+    alloc: Global,
+    out: &mut Vec<u8>,
+    name: &Octets,
+    ring: usize,
+    waiting: usize,
+) -> Result<(), AllocError>
+    ensures { OnOk result (Adds out.old.items out.new.items
+        (terms.passed_over name.now ring waiting)) }
+{
+    if ring < waiting {
+        put_count(alloc, out, name, b" passed=", waiting - ring)
+    } else {
+        Ok(())
+    }
 }
 
 /// Tells of each feed that the configuration has no more how many wait in it.
+#[tactic(
+    auto,
+    using(crate::proofs::Lines::adds_more, crate::proofs::Lines::adds_all)
+)]
 fn put_gone_feeds(
     alloc: Global,
     out: &mut Vec<u8>,
@@ -110,15 +136,34 @@ fn put_gone_feeds(
 {
     let mut names = known;
     let mut left = feeds;
-    while let (Some((name, others)), Some((feed, more))) = (names.split_first(), left.split_first())
-    {
-        if !is_among(own, name) {
-            put_count(alloc, out, name, b" gone waiting=", feed.waiting.len())?;
-        }
+    while let Some((name, others)) = names.split_first() {
+        let Some((feed, more)) = left.split_first() else {
+            return Ok(());
+        };
+        put_gone_feed(alloc, out, is_among(own, name), name, feed.waiting.len())?;
         names = others;
         left = more;
     }
     Ok(())
+}
+
+/// Tells of a feed how many wait in it, unless it is among those of the configuration.
+#[tactic(auto, using(crate::proofs::Lines::adds_none))]
+fn put_gone_feed(
+    alloc: Global,
+    out: &mut Vec<u8>,
+    is_among: bool,
+    name: &Octets,
+    waiting: usize,
+) -> Result<(), AllocError>
+    ensures { OnOk result (Adds out.old.items out.new.items
+        (terms.gone_line is_among name.now waiting)) }
+{
+    if is_among {
+        Ok(())
+    } else {
+        put_count(alloc, out, name, b" gone waiting=", waiting)
+    }
 }
 
 /// Whether the name stands among these.
@@ -139,13 +184,51 @@ fn put_count(
     ensures { OnOk result (Adds out.old.items out.new.items
         ((codes "names feed=" ++ (name.now ++ (what.now ++ decimal count))) ∷ [])) }
 {
+    let end = counted(alloc, what, count)?;
+    put_line(alloc, out, b"names feed=", name, &end)
+}
+
+/// A number behind what it counts.
+fn counted(alloc: Global, what: &[u8], count: usize) -> Result<Vec<u8>, AllocError>
+    ensures { IfOk result (λ text. text.items ≡ what.now ++ decimal count) }
+{
     let mut digits = Buffer::new();
-    let digits = digits.format(count).as_bytes();
-    let line = [b"names feed=", name.as_slice(), what, digits, b"\n"].concat(alloc)?;
+    [what, digits.format(count).as_bytes()].concat(alloc)
+}
+
+/// Puts a line of a name behind what is there.
+fn put_line(
+    alloc: Global,
+    out: &mut Vec<u8>,
+    before: &[u8],
+    name: &Octets,
+    after: &[u8],
+) -> Result<(), AllocError>
+    ensures { OnOk result (Adds out.old.items out.new.items
+        ((before.now ++ (name.now ++ after.now)) ∷ [])) }
+{
+    let line = line_of(alloc, before, name.as_slice(), after)?;
     out.extend_from_slice(&line)
 }
 
+/// A line of three parts, with its end.
+fn line_of(
+    alloc: Global,
+    before: &[u8],
+    name: &[u8],
+    after: &[u8],
+) -> Result<Vec<u8>, AllocError>
+    ensures { IfOk result (λ line.
+        line.items ≡ before.now ++ name.now ++ after.now ++ 10 ∷ []) }
+{
+    [before, name, after, END.as_slice()].concat(alloc)
+}
+
 /// Tells of each group that isn't among the others.
+#[tactic(
+    auto,
+    using(crate::proofs::Lines::adds_more, crate::proofs::Lines::adds_all)
+)]
 fn put_groups(
     alloc: Global,
     out: &mut Vec<u8>,
@@ -157,38 +240,43 @@ fn put_groups(
         (group_names (map group_view others.now)) end.now
         (group_names (map group_view groups.now)))) }
 {
-    for group in groups {
-        put_group(alloc, out, others, end, &group.name)?;
+    let mut left = groups;
+    while let Some((group, more)) = left.split_first() {
+        put_group(alloc, out, is_group(others, &group.name), end, &group.name)?;
+        left = more;
     }
     Ok(())
 }
 
-/// Tells of a group, where it isn't among the others.
+/// Tells of a group, unless it is among the others.
+#[tactic(auto, using(crate::proofs::Lines::adds_none))]
 fn put_group(
     alloc: Global,
     out: &mut Vec<u8>,
-    others: &[GroupNames],
+    is_among: bool,
     end: &[u8],
     name: &Octets,
 ) -> Result<(), AllocError>
-    ensures { OnOk result (Adds out.old.items out.new.items (terms.of_group
-        (group_names (map group_view others.now)) end.now name.now)) }
+    ensures { OnOk result (Adds out.old.items out.new.items
+        (terms.group_line is_among end.now name.now)) }
 {
-    if is_group(others, name) {
-        return Ok(());
+    if is_among {
+        Ok(())
+    } else {
+        put_line(alloc, out, b"names group=", name, end)
     }
-    let line = [b"names group=", name.as_slice(), end, b"\n"].concat(alloc)?;
-    out.extend_from_slice(&line)
 }
 
 /// Whether a group has this name.
 fn is_group(groups: &[GroupNames], name: &Octets) -> bool
     ensures { result ≡ terms.is_among (group_names (map group_view groups.now)) name.now }
 {
-    for group in groups {
+    let mut left = groups;
+    while let Some((group, more)) = left.split_first() {
         if group.name.as_slice() == name.as_slice() {
             return true;
         }
+        left = more;
     }
     false
 }

@@ -8,6 +8,7 @@
 
 mod changes;
 mod keeping;
+pub mod laws;
 mod reading;
 
 pub use changes::told_changes;
