@@ -33,7 +33,7 @@ block_there (suc n) (suc k) octets h =
     ∙ ap (take BLOCK_OCTETS) (one_later k octets)
 
 -- as the octets are the same up to a place, so are those of them that are behind an earlier place
-front_behind : (earlier place : ℕ) (old new : List ℕ)
+pub front_behind : (earlier place : ℕ) (old new : List ℕ)
     → take (earlier + place) new ≡ take (earlier + place) old
     → take place (drop earlier new) ≡ take place (drop earlier old)
 front_behind earlier place old new same =

@@ -11,3 +11,4 @@ pub mod SeenLemmas
 pub mod StoreLemmas
 mod AskedLemmas
 mod BlankLemmas
+mod ZeroLemmas

@@ -3,7 +3,7 @@ use Rattle.std.specs.Prelude.{◌+◌, ℕ, List, [], ◌∷◌, Bool, true, fal
 use Rattle.file_blocks.specs.declared.flusher.Flusher.{Flusher}
 use Rattle.file_blocks.specs.declared.host.HeldFile.{HeldFile}
 use Rattle.file_blocks.specs.declared.host.HostFile.{HostFile}
-use Rattle.file_blocks.specs.declared.host.Identity.{Identity}
+use Rattle.file_blocks.specs.declared.which.Identity.{Identity}
 
 -- the calls so far, the first of them first: the place of each, and whether it failed
 abbrev pub asked_of : HostFile → List (ℕ × Bool)

@@ -6,4 +6,6 @@ pub mod Host
 pub mod Overlay
 pub mod Run
 pub mod Store
+pub mod Which
 pub mod Writing
+pub mod Zeros

@@ -5,9 +5,12 @@ ghost use Rattle.news_terms.specs.HeadBlocks.{head_blocks};
 ghost use Rattle.file_blocks.specs.Blocks.{IsBlank, octets_at};
 ghost use Rattle.file_blocks.specs.Fitted.{count_of, file_of, was_blank};
 ghost use Rattle.file_blocks.specs.Host.{asked_of, held_identity, identity_of};
+ghost use Rattle.file_blocks.specs.Which.{IsOfDevice};
+ghost use Rattle.file_blocks.specs.Zeros.{IsUntouched};
 
 use crate::file::RunFile;
 use crate::host::{HeldFile, HostFile, Unusable};
+use crate::zeros::are_zeros_between;
 use cyc_block::{BLOCK_OCTETS, DeviceFailed, are_zeros, head_count};
 
 /// A file that has room for so many blocks and their head blocks.
@@ -63,6 +66,47 @@ impl<F: RunFile> FittedFile<F> {
         }
     }
 
+    /// Looks through the file whether nothing was ever kept there, a buffer or anything else: each
+    /// octet of its blocks and head blocks is 0. In one that can't be read something may have been.
+    pub fn look_through(&mut self)
+        ensures blank { F.honest (file_of self.old)
+            → F.failures (file_of self.new) ≡ F.failures (file_of self.old)
+            → (IsTrue (was_blank self.new)
+            ↔ IsUntouched (count_of self.old) (F.held (file_of self.old))) }
+        ensures unread { F.failures (file_of self.new) ≢ F.failures (file_of self.old)
+            → was_blank self.new ≡ false }
+        ensures count { count_of self.new ≡ count_of self.old }
+        ensures same { F.honest (file_of self.old)
+            → F.held (file_of self.new) ≡ F.held (file_of self.old) }
+        ensures honest { F.honest (file_of self.old) → F.honest (file_of self.new) }
+    {
+        match self.is_untouched() {
+            Ok(untouched) => self.blank = untouched,
+            Err(_) => self.blank = false,
+        }
+    }
+
+    /// Whether each octet of the blocks and head blocks is 0. The head blocks come first: where a
+    /// buffer was kept they have other octets.
+    fn is_untouched(&mut self) -> Result<bool, DeviceFailed>
+        ensures zeros { F.honest (file_of self.old) → IfOk result (λ untouched. IsTrue untouched
+            ↔ IsUntouched (count_of self.old) (F.held (file_of self.old))) }
+        ensures count { count_of self.new ≡ count_of self.old }
+        ensures same { F.honest (file_of self.old)
+            → F.held (file_of self.new) ≡ F.held (file_of self.old) }
+        ensures honest { F.honest (file_of self.old) → F.honest (file_of self.new) }
+        ensures failed { OnErr result (F.failures (file_of self.new)
+            ≡ F.failures (file_of self.old) + 1) }
+        ensures no_failure { OnOk result (F.failures (file_of self.new)
+            ≡ F.failures (file_of self.old)) }
+    {
+        let heads = place_of(self.count);
+        if !are_zeros_between(&mut self.file, heads, size_of(self.count))? {
+            return Ok(false);
+        }
+        are_zeros_between(&mut self.file, 0, heads)
+    }
+
     /// Whether no buffer was kept in the file: each octet of its first block and of its first head
     /// block is 0, as in a file that was just made.
     fn is_blank(&mut self) -> Result<bool, DeviceFailed>
@@ -100,9 +144,9 @@ impl<F: RunFile> FittedFile<F> {
 }
 
 impl FittedFile<HostFile> {
-    /// A file that is held, for n blocks and their head blocks. It is made longer with zeros where
-    /// it is shorter; octets that it has stay. The error says why it can't be used, and then
-    /// nothing is promised of the file.
+    /// A file that is held, for n blocks and their head blocks. A regular one is made longer with
+    /// zeros where it is shorter; octets that it has stay. The error says why it can't be used, as
+    /// a block device that is smaller, and then nothing is promised of the file.
     pub fn of_held(held: HeldFile, n: u32) -> Result<FittedFile<HostFile>, Unusable>
         ensures count { IfOk result (λ fitted. count_of fitted ≡ n) }
         ensures unasked { IfOk result (λ fitted. asked_of (file_of fitted) ≡ []) }
@@ -110,10 +154,17 @@ impl FittedFile<HostFile> {
     {
         Ok(FittedFile::new(held.fit(size_of(n))?, n))
     }
+
+    /// Whether it is a block device.
+    pub fn is_device(&self) -> bool
+        ensures { IsTrue result ↔ IsOfDevice (identity_of (file_of self.now)) }
+    {
+        self.file.identity.is_device()
+    }
 }
 
-/// How many octets of a file n blocks and their head blocks take.
-pub(crate) fn size_of(n: u32) -> u64
+/// How many octets of a file, or of a device, n blocks and their head blocks take.
+pub fn size_of(n: u32) -> u64
     ensures { result ≡ (n + head_blocks n) * BLOCK_OCTETS }
 {
     (u64::from(n) + u64::from(head_count(n))) * BLOCK_OCTETS as u64

@@ -2,13 +2,14 @@
 ghost use Rattle.std.specs.Prelude.{◌≡◌, IfOk, is_err};
 ghost use Rattle.file_blocks.specs.Host.{flushed_identity, held_identity};
 
-use crate::host::{HeldFile, Identity, Unusable, look_before};
+use crate::host::{HeldFile, Unusable};
+use crate::which::{Identity, look_before};
 use cyc_block::DeviceFailed;
 use std::fs::{File, Files, OpenOptions};
 use std::io;
 use std::io::ErrorKind;
 
-/// A regular file of the machine that is open once more, to be flushed by another thread than the
+/// A regular file of the machine, or a block device, that is open once more, to be flushed by another thread than the
 /// one that writes it.
 pub struct Flusher {
     file: File,
@@ -34,7 +35,7 @@ impl HeldFile {
     {
         look_before(rt, path)?;
         let file = OpenOptions::new().read(true).write(true).open(rt, path)?;
-        let identity = Identity::of(&file.metadata()?);
+        let identity = Identity::of(&file.metadata()?)?;
         if identity == self.identity {
             Ok(Flusher { file, identity })
         } else {

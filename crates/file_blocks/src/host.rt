@@ -1,17 +1,21 @@
-//! Files of the machine.
+//! Files of the machine: regular ones and block devices.
 ghost use Rattle.std.specs.Prelude.{◌≡◌, ◌+◌, ◌++◌, ◌∷◌, [], true, false, length, is_err};
-ghost use Rattle.std.specs.Prelude.{◌↔◌, IfErr, IfOk, IsOk, IsTrue, OnErr, OnOk};
-ghost use Rattle.std.specs.Fs.{file_type, IsFile};
+ghost use Rattle.std.specs.Prelude.{◌↔◌, ◌≤◌, IfErr, IfOk, IsOk, IsTrue, OnErr, OnOk};
 ghost use Rattle.file_blocks.specs.declared.host.Unusable.TheVariants as unusable;
 ghost use Rattle.file_blocks.specs.Host.{asked_of, failed_in, held_identity, identity_of};
 ghost use Rattle.file_blocks.specs.Host.{IsEmptied, IsFlushed};
 
+use crate::device::Device;
 use crate::file::RunFile;
+use crate::fitted::size_of;
+use crate::which::{Identity, look_before};
+use crate::zeros::zero_blocks;
 use cyc_block::{BLOCK_OCTETS, DeviceFailed, are_zeros};
 use http_server::Log;
-use std::fs::{File, Files, Metadata, OpenOptions, TryLockError};
-use std::os::unix::fs::{FileExt, MetadataExt};
-use std::{fs, io};
+use std::fs::{File, Files, OpenOptions, TryLockError};
+use std::io;
+use std::io::{Seek, SeekFrom};
+use std::os::unix::fs::FileExt;
 
 /// How many octets are read at once to see whether a file has zeros alone.
 const PIECE: usize = 65_536;
@@ -22,13 +26,26 @@ const MOST_PIECES: u64 = 1 << 47;
 /// Why a file can't be used, in the order of trial.
 #[derive(Drop)]
 pub enum Unusable {
-    /// What stands at the path is no regular file, such as a folder, a pipe or a device.
+    /// What stands at the path is neither a regular file nor a block device, such as a folder, a
+    /// pipe or a terminal.
     NotRegular,
     /// Another holds it, as a relay that is served by it.
     Locked,
-    /// The machine refused to find it, open it, lock it, make it longer, or read and write its last
-    /// block.
+    /// It is a block device with fewer octets than the blocks and their head blocks take.
+    TooSmall,
+    /// It is a block device over which zeros couldn't be written.
+    Unwritten,
+    /// The machine refused to find it, open it, lock it, ask its size, make it longer, or read and
+    /// write its last block.
     Refused(io::Error),
+}
+
+impl From<DeviceFailed> for Unusable {
+    fn from(_failed: DeviceFailed) -> Unusable
+        ensures { result ≡ unusable.Unwritten }
+    {
+        Unusable::Unwritten
+    }
 }
 
 impl From<io::Error> for Unusable {
@@ -39,25 +56,9 @@ impl From<io::Error> for Unusable {
     }
 }
 
-/// Which file it is, whatever its names: the number of its device, and that of its inode there.
-#[derive(Clone, Copy, PartialEq, Eq)]
-pub struct Identity {
-    device: u64,
-    inode: u64,
-}
-
-impl Identity {
-    /// Which file it is of which this was found.
-    pub(crate) fn of(found: &Metadata) -> Identity {
-        Identity {
-            device: found.dev(),
-            inode: found.ino(),
-        }
-    }
-}
-
-/// A regular file of the machine that is held: it is open to be read and written, and locked, so
-/// that nobody else who asks for its lock has it. Nothing was read of it or written to it.
+/// A regular file of the machine, or a block device, that is held: it is open to be read and
+/// written, and locked, so that nobody else who asks for its lock has it. Nothing was read of it or
+/// written to it.
 pub struct HeldFile {
     file: File,
     pub(crate) identity: Identity,
@@ -84,23 +85,21 @@ impl HeldFile {
             .create(true)
             .open(rt, path)?;
         // Another may have taken its place since.
-        let found = file.metadata()?;
-        take_regular(&found)?;
+        let identity = Identity::of(&file.metadata()?)?;
         lock(&file)?;
-        Ok(HeldFile {
-            file,
-            identity: Identity::of(&found),
-        })
+        Ok(HeldFile { file, identity })
     }
 
-    /// Whether both are one file, whatever its names: the same inode of the same device.
+    /// Whether both are one file, whatever its names: the same inode of the same device, or one
+    /// block device.
     pub fn same_file(&self, other: &HeldFile) -> bool
         ensures { IsTrue result ↔ (held_identity self.now ≡ held_identity other.now) }
     {
         self.identity == other.identity
     }
 
-    /// Whether the file has no other octet than 0, as one that was just made or made longer.
+    /// Whether the file has no other octet than 0, as one that was just made or made longer. Of a
+    /// block device all octets are read, also those behind a buffer.
     pub fn is_zeros(&self) -> Result<bool, Unusable> {
         let mut room = [0; PIECE];
         let mut place: u64 = 0;
@@ -117,17 +116,19 @@ impl HeldFile {
         Ok(false)
     }
 
-    /// The file, which has so many octets afterwards, or more: it is made longer with zeros where
-    /// it is shorter, and is left as it is where it is longer. Its last block of these is tried.
+    /// The file, which has so many octets afterwards, or more. A regular one is made longer with
+    /// zeros where it is shorter, and is left as it is where it is longer; its last block of these
+    /// is tried. A block device has to have as many, and isn't written.
     pub(crate) fn fit(self, size: u64) -> Result<HostFile, Unusable>
         ensures unasked { IfOk result (λ file. asked_of file ≡ []) }
         ensures same { IfOk result (λ file. identity_of file ≡ held_identity self) }
     {
         let HeldFile { file, identity } = self;
-        if file.metadata()?.len() < size {
-            file.set_len(size)?;
+        if identity.is_device() {
+            take_long_enough(end_of_device(&file)?, size)?;
+        } else {
+            make_longer(&file, size)?;
         }
-        try_last_block(&file, size)?;
         Ok(HostFile {
             file,
             identity,
@@ -138,11 +139,11 @@ impl HeldFile {
     }
 }
 
-/// A regular file of the machine, open to be read and written, and locked.
+/// A regular file of the machine, or a block device, open to be read and written, and locked.
 #[derive(Drop)]
 pub struct HostFile {
     file: File,
-    identity: Identity,
+    pub(crate) identity: Identity,
     /// The place of each call, and whether it failed.
     asked: Log<u64, bool>,
     /// Whether the device was had take all that was written.
@@ -179,10 +180,11 @@ impl HostFile {
         }
     }
 
-    /// Empties the file, and makes it as long again, and so many octets at least, each of which is
-    /// 0 then: nothing of what was kept there stays, not even behind what is written next. It is
-    /// noted. The last block of these is tried.
-    pub(crate) fn empty(&mut self, size: u64) -> Result<(), Unusable>
+    /// Empties the file: nothing of what was kept there in n blocks and their head blocks stays. A
+    /// regular one is made as long again, and long enough for them, each octet of which is 0 then,
+    /// also behind them, and its last block of these is tried. Over those of a block device zeros
+    /// are written, which the device takes; what is behind them stays. It is noted.
+    pub(crate) fn empty(&mut self, n: u32) -> Result<(), Unusable>
         ensures emptied { OnOk result (IsEmptied self.new) }
         ensures failed { OnErr result (self.new.emptied ≡ self.old.emptied) }
         ensures unflushed { ¬ IsFlushed self.new }
@@ -190,10 +192,11 @@ impl HostFile {
         ensures same { identity_of self.new ≡ identity_of self.old }
     {
         self.flushed = false;
-        let length = self.file.metadata()?.len();
-        self.file.set_len(0)?;
-        self.file.set_len(length.max(size))?;
-        try_last_block(&self.file, size)?;
+        if self.identity.is_device() {
+            zero_blocks(&mut Device::of(&self.file), n)?;
+        } else {
+            empty_regular(&self.file, size_of(n))?;
+        }
         self.emptied = true;
         Ok(())
     }
@@ -256,25 +259,38 @@ impl RunFile for HostFile {
     }
 }
 
-/// Refuses what stands at the path and is no regular file. Where nothing stands there, the file is
-/// to be made.
-pub(crate) fn look_before(rt: &impl Files, path: &str) -> Result<(), Unusable> {
-    match fs::metadata(rt, path) {
-        Ok(found) => take_regular(&found),
-        Err(error) if error.kind() == io::ErrorKind::NotFound => Ok(()),
-        Err(error) => Err(error.into()),
+/// Makes a regular file so long with zeros where it is shorter, and tries its last block of these.
+fn make_longer(file: &File, size: u64) -> Result<(), Unusable> {
+    if file.metadata()?.len() < size {
+        file.set_len(size)?;
     }
+    Ok(try_last_block(file, size)?)
 }
 
-/// Takes a regular file alone.
-fn take_regular(found: &Metadata) -> Result<(), Unusable>
-    ensures regular { IsOk result ↔ IsFile (file_type found.now) }
-    ensures named { IfErr result (λ error. error ≡ unusable.NotRegular) }
+/// Empties a regular file, makes it as long again, and so long at least, and tries its last block
+/// of these.
+fn empty_regular(file: &File, size: u64) -> Result<(), Unusable> {
+    let length = file.metadata()?.len();
+    file.set_len(0)?;
+    file.set_len(length.max(size))?;
+    Ok(try_last_block(file, size)?)
+}
+
+/// How many octets a block device has: of one the machine says no length.
+fn end_of_device(file: &File) -> io::Result<u64> {
+    let mut file = file;
+    file.seek(SeekFrom::End(0))
+}
+
+/// Takes a block device that has so many octets, or more.
+fn take_long_enough(length: u64, size: u64) -> Result<(), Unusable>
+    ensures enough { IsOk result ↔ (size ≤ length) }
+    ensures named { IfErr result (λ error. error ≡ unusable.TooSmall) }
 {
-    if found.is_file() {
+    if size <= length {
         Ok(())
     } else {
-        Err(Unusable::NotRegular)
+        Err(Unusable::TooSmall)
     }
 }
 

@@ -9,6 +9,7 @@
 #![tactic(auto)]
 
 mod course;
+mod device;
 mod file;
 mod fitted;
 mod flusher;
@@ -19,10 +20,13 @@ mod past;
 mod reading;
 mod run;
 mod store;
+mod which;
+mod zeros;
 
 pub use file::RunFile;
-pub use fitted::FittedFile;
+pub use fitted::{FittedFile, size_of};
 pub use flusher::Flusher;
-pub use host::{HeldFile, HostFile, Identity, Unusable};
+pub use host::{HeldFile, HostFile, Unusable};
 pub use run::RUN_BLOCKS;
 pub use store::FileBlocks;
+pub use which::Identity;

@@ -194,7 +194,7 @@ fn put_at(all: &mut [u8], place: usize, octets: &[u8; BLOCK_OCTETS])
 }
 
 /// Reads so many octets at a place of a file into the front of a room.
-fn read_front<F: RunFile>(
+pub(crate) fn read_front<F: RunFile>(
     file: &mut F,
     place: u64,
     all: &mut [u8],

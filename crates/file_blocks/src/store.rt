@@ -134,9 +134,9 @@ impl FileBlocks<HostFile> {
         FileBlocks::new(alloc, file, count, blank)
     }
 
-    /// Empties the file, and makes it as long again: each of its blocks and head blocks has zeros
-    /// alone then, as of a file that was just made. What was gathered or read at once is given up,
-    /// also where that fails.
+    /// Empties the file, a regular one by making it as long again, a block device by writing zeros:
+    /// each of its blocks and head blocks has zeros alone then, as of a file that was just made.
+    /// What was gathered or read at once is given up, also where that fails.
     pub fn empty(&mut self) -> Result<(), Unusable>
         ensures emptied { OnOk result (IsEmptied (file_of self.new)) }
         ensures gathered { gathered_of self.new ≡ [] }
@@ -149,7 +149,7 @@ impl FileBlocks<HostFile> {
         self.gathered.clear();
         self.ahead.clear();
         self.course = Course::new();
-        self.file.empty(size_of(self.count))
+        self.file.empty(self.count)
     }
 
     /// Has the device take all that was written to the file, which what is gathered is not.

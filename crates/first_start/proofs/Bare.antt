@@ -13,7 +13,7 @@ use Rattle.cyc_buffer.proofs.Refusals.{held_on}
 use Rattle.cyc_buffer.specs.Reads.{StaysHeld}
 use Rattle.news_terms.specs.HeadBlocks.{head_image}
 use Rattle.first_start.specs.Completing.{CompletesHead, HasNoneOrFirst, IsBare, IsCutShort}
-use Rattle.first_start.specs.Completing.{IsHeadMissing, IsZero, first_head}
+use Rattle.first_start.specs.Completing.{IsHeadMissing, IsUnmarked, IsZero, first_head}
 use Rattle.first_start.proofs.Walked.{Walked, map_each, next_walked, there, walked_so_far}
 
 module _ {S : Type 0} (g : Ghosts S) where
@@ -119,6 +119,14 @@ module _ {S : Type 0} (g : Ghosts S) where
         };
   }
 
+  -- no article is marked on a store on which none was, as it was looked at
+  pub unmarked_before : (old new : S) → StaysHeld g old new → g.honest old → IsUnmarked g new
+      → IsUnmarked g old
+  unmarked_before old new held honest marks = λ k behind within.
+      subst (λ (heads : List (List ℕ)). IsZero (block_at heads k)) (held.heads honest)
+      (marks k behind
+      (subst (λ (heads : List (List ℕ)). k < length heads) (sym (held.heads honest)) within))
+
   -- where no head is another than the first one, one is missing, and no block has more than zeros,
   -- a first start was cut short
   pub cut_by : (old mid : List S) → AreEach (λ (b : ℕ). StaysHeld g) old mid
@@ -127,13 +135,17 @@ module _ {S : Type 0} (g : Ghosts S) where
       → IsHeadMissing g old
       → ((b : ℕ) (store : S) → slice_get mid b ≡ Some store → g.honest store
       → All IsZero (g.blocks store))
+      → ((b : ℕ) (store : S) → slice_get mid b ≡ Some store → g.honest store
+      → IsUnmarked g store)
       → IsCutShort g old
-  cut_by old mid held heads missing zeros = record {
+  cut_by old mid held heads missing zeros marks = record {
     bare = λ b store is honest.
         let later = held.each b store is in
         record {
           blocks = subst (All IsZero) (later.belongs.blocks honest)
               (zeros b later.item later.there (later.belongs.honest honest));
+          marks = unmarked_before store later.item later.belongs honest
+              (marks b later.item later.there (later.belongs.honest honest));
           head = heads b store is honest;
         };
     missing = missing;
@@ -144,6 +156,7 @@ module _ {S : Type 0} (g : Ghosts S) where
       → IsBare g b old
   bare_before b old new held honest bare = record {
     blocks = subst (All IsZero) (held.blocks honest) bare.blocks;
+    marks = unmarked_before old new held honest bare.marks;
     head = elim bare.head [
       | inl none ↦ inl (subst IsZero (ap (λ heads. block_at heads 0) (held.heads honest)) none)
       | inr first ↦
@@ -187,6 +200,25 @@ module _ {S : Type 0} (g : Ghosts S) where
               (rw (← same) (cut.missing.3 (rw same (later.belongs.honest honest)))),
         );
   }
+
+  -- the head blocks of a store before a place, but head block 0, have zeros alone
+  abbrev pub UnmarkedBefore : (store : S) (k : ℕ) → Type 0
+  UnmarkedBefore store k = (j : ℕ) → 0 < j → j < k → IsZero (block_at (g.heads store) j)
+
+  -- one more head block of a store has zeros alone
+  pub marks_more : (old mid : S) (k : ℕ) (octets : List ℕ) → StaysHeld g old mid → g.honest old
+      → octets ≡ block_at (g.heads mid) k → IsZero octets → UnmarkedBefore old k
+      → UnmarkedBefore old (k + 1)
+  marks_more old mid k octets held honest is zero had = λ j behind before.
+      elim (cases_lt j k) [
+        | inl earlier ↦ had j behind earlier
+        | inr late ↦
+            let same : j ≡ k = omega (arith, late, before) in
+            subst IsZero
+            (is
+            ∙ ap (λ (heads : List (List ℕ)). block_at heads k) (held.heads honest)
+            ∙ ap (λ (n : ℕ). block_at (g.heads old) n) (sym same)) zero
+      ]
 
   -- one more block of a store has zeros alone
   pub zeros_more : (old mid : S) (k : ℕ) (octets : List ℕ) → StaysHeld g old mid

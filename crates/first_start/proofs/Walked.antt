@@ -1,7 +1,7 @@
 -- Stores are called, one after the other.
 use Rattle.std.proofs.Common.{◌≡◌, ◌∙◌, ◌+◌, ◌<◌, ◌≤◌, ◌∷◌, [], ℕ, List, Some, ap, arith}
 use Rattle.std.proofs.Common.{inl, inr, length, length-set, get_or, map, refl, slice_get, slice_set}
-use Rattle.std.proofs.Common.{suc, sym, zero}
+use Rattle.std.proofs.Common.{suc, sym}
 use Rattle.std.proofs.lemmas.Bool.{cases_lt}
 use Rattle.std.proofs.lemmas.Option.{same_Some, slice_get-get_or, slice_get_within}
 use Rattle.block_shelf.proofs.Shelving.{put_both, put_there}

@@ -1,6 +1,6 @@
 -- A first start that was cut short before it had formatted all its buffers (docs/PROTOCOL.md,
 -- Crashes: what `serve` does).
-use Rattle.std.specs.Prelude.{◌≡◌, ◌⊎◌, ℕ, All, List, Some, length, slice_get}
+use Rattle.std.specs.Prelude.{◌≡◌, ◌⊎◌, ◌<◌, ℕ, All, List, Some, length, slice_get}
 use Rattle.block_shelf.specs.Each.{AreEach}
 use Rattle.block_shelf.specs.Starting.{buffer_over}
 use Rattle.cyc_block.specs.Store.{block_at}
@@ -27,10 +27,17 @@ IsFirstHead g number store =
 abbrev pub HasNoneOrFirst : {S : Type 0} → Ghosts S → (number : ℕ) → S → Type 0
 HasNoneOrFirst g number store = IsHeadless g store ⊎ IsFirstHead g number store
 
--- Nothing was ever kept in the buffer of this number: each of its blocks has zeros alone, and it
--- has no head, or one that is open and was never stopped.
+-- no article is marked in the bitmap on a store: each head block but head block 0 has zeros alone
+abbrev pub IsUnmarked : {S : Type 0} → Ghosts S → S → Type 0
+IsUnmarked g store =
+    (k : ℕ) → 0 < k → k < length (g.heads store) → IsZero (block_at (g.heads store) k)
+
+-- Nothing was ever kept in the buffer of this number, nor anything else at its place: each of its
+-- blocks has zeros alone, and so has each head block but head block 0; it has no head, or one that
+-- is open and was never stopped.
 pub record IsBare {S : Type 0} (g : Ghosts S) (number : ℕ) (store : S) : Type 0 where
   pub blocks : All IsZero (g.blocks store)
+  pub marks : IsUnmarked g store
   pub head : HasNoneOrFirst g number store
 
 -- the buffer on one of these stores has no head, if it is honest

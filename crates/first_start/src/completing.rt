@@ -8,10 +8,11 @@ ghost use Rattle.cyc_block.specs.declared.head.HeadState.TheVariants as states;
 ghost use Rattle.cyc_buffer.specs.Reads.{StaysHeld};
 ghost use Rattle.first_start.specs.Completing.{CompletesHead, HasNoneOrFirst};
 ghost use Rattle.first_start.specs.Completing.{IsCutShort, IsHeadMissing, IsHeadless, IsZero};
-ghost use Rattle.first_start.specs.Completing.{first_head};
+ghost use Rattle.first_start.specs.Completing.{IsUnmarked, first_head};
 
 use cyc_block::{
-    BLOCK_OCTETS, BlockStore, DeviceFailed, HeadNumbers, HeadState, are_zeros, head_image,
+    BLOCK_OCTETS, BlockStore, DeviceFailed, HeadNumbers, HeadState, are_zeros, head_count,
+    head_image,
 };
 use relay_remains::numbers_of;
 
@@ -79,16 +80,50 @@ fn is_first(head: &HeadNumbers) -> bool
     head.state == HeadState::Open && head.stop == 0
 }
 
-/// Whether each block of each store has zeros alone.
+/// Whether each block of each store has zeros alone, and each head block but head block 0.
 fn lack_blocks<S: BlockStore>(stores: &mut [S]) -> bool
     ensures zeros { IsTrue result → (b : ℕ) (store : S) → slice_get stores.old b ≡ Some store
         → S.honest store → All IsZero (S.blocks store) }
+    ensures marks { IsTrue result → (b : ℕ) (store : S) → slice_get stores.old b ≡ Some store
+        → S.honest store → IsUnmarked ⟦<S as BlockStore>⟧ store }
     ensures held { AreEach (λ (b : ℕ). StaysHeld ⟦<S as BlockStore>⟧) stores.old stores.new }
     ensures blocks { map (λ store. length (S.blocks store)) stores.new
         ≡ map (λ store. length (S.blocks store)) stores.old }
 {
     for place in 0..stores.len() {
-        if !lacks_blocks(&mut stores[place]) {
+        if !lacks_all(&mut stores[place]) {
+            return false;
+        }
+    }
+    true
+}
+
+/// Whether each block of the store has zeros alone, and each head block but head block 0.
+fn lacks_all<S: BlockStore>(store: &mut S) -> bool
+    ensures zeros { S.honest store.old → IsTrue result → All IsZero (S.blocks store.old) }
+    ensures marks { S.honest store.old → IsTrue result
+        → IsUnmarked ⟦<S as BlockStore>⟧ store.old }
+    ensures held { StaysHeld ⟦<S as BlockStore>⟧ store.old store.new }
+{
+    if !lacks_marks(store) {
+        return false;
+    }
+    lacks_blocks(store)
+}
+
+/// Whether each head block of the store but head block 0 has zeros alone. Where the device fails
+/// one may have more.
+fn lacks_marks<S: BlockStore>(store: &mut S) -> bool
+    ensures marks { S.honest store.old → IsTrue result
+        → IsUnmarked ⟦<S as BlockStore>⟧ store.old }
+    ensures held { StaysHeld ⟦<S as BlockStore>⟧ store.old store.new }
+{
+    let mut octets = [0; BLOCK_OCTETS];
+    for k in 1..head_count(store.count()) {
+        if store.read_head(k, &mut octets).is_err() {
+            return false;
+        }
+        if !are_zeros(&octets) {
             return false;
         }
     }
