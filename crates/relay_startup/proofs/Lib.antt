@@ -1,5 +1,6 @@
 mod AddFaults
 mod CauseLemmas
+mod CausesByName
 mod Counted
 pub mod Faults
 pub mod FileFaults
@@ -9,6 +10,7 @@ mod HeadsRead
 mod Kept
 mod Listed
 mod Looks
+mod NamesKept
 pub mod Rows
 pub mod Sizes
 mod ToldCauses

@@ -87,13 +87,25 @@ tells_both : (config : Config) (one other : Option (List ℕ)) (error : ServeErr
 tells_both config one other (faults.Start (starts.BadHistory cause)) same told = sym same ∙ told
 tells_both config one other error same told = tt
 
+-- a text that is empty has the cause of none
+kept_as : (config : Config) (text : List ℕ)
+    → cause_of config (kept_text text) ≡ cause_of config (Some text)
+kept_as config [] = refl
+kept_as config (octet ∷ octets) = refl
+
+-- so an error tells the cause of a text that is kept
+pub text_tells : (config : Config) (text : List ℕ) (error : ServeError)
+    → TellsCause config (kept_text text) error → TellsCause config (Some text) error
+text_tells config text error told =
+    tells_both config (kept_text text) (Some text) error (kept_as config text) told
+
 -- the text that a relay starts from
-abbrev text_in : Beginning → List ℕ
+abbrev pub text_in : Beginning → List ℕ
 text_in Formats = []
 text_in (Starts text) = text
 
 -- whether it starts from one
-abbrev is_start : Beginning → Bool
+abbrev pub is_start : Beginning → Bool
 is_start Formats = false
 is_start (Starts text) = true
 
