@@ -1,0 +1,4 @@
+pub mod Examples
+pub mod Names
+pub mod Text
+pub mod Views
