@@ -1,7 +1,6 @@
 -- What of a feed stays whatever its ring.
-use Rattle.std.proofs.Common.{◌≡◌, ℕ, ◌-◌, ◌≤◌, zero, suc, List, [], ◌∷◌, length, drop, min}
-use Rattle.std.proofs.Common.{refl, ap}
-use Rattle.std.proofs.Common.{sym, arith, Option, Some, None, length-drop}
+use Rattle.std.proofs.Common.{◌≡◌, ℕ, ◌-◌, ◌≤◌, zero, suc, List, [], ◌∷◌, length, drop, min, refl}
+use Rattle.std.proofs.Common.{ap, sym, arith, Option, Some, None, length-drop}
 use Rattle.std.proofs.lemmas.Bool.{cond_both, cond-true, eqb-true, eq-eqb}
 use Rattle.std.specs.List.{AllByRecursion}
 use Rattle.id_history.specs.History.{FeedHolds, IsThere, KeptFeed, RingHolds}

@@ -1,7 +1,6 @@
 -- The same names change nothing, and what comes out holds.
-use Rattle.std.proofs.Common.{◌≡◌, ℕ, ◌<◌, zero, suc, List, [], ◌∷◌, length, map, zip, refl}
-use Rattle.std.proofs.Common.{ap, ap₂}
-use Rattle.std.proofs.Common.{◌∙◌, arith, Option, Some, None, true, false, bytes_eq, slice_get}
+use Rattle.std.proofs.Common.{◌≡◌, ℕ, ◌<◌, zero, suc, List, [], ◌∷◌, length, map, zip, refl, ap}
+use Rattle.std.proofs.Common.{ap₂, ◌∙◌, arith, Option, Some, None, true, false, bytes_eq, slice_get}
 use Rattle.std.proofs.Common.{option_map, option_and_then, get_or, nat_lt, subst, ◌==◌}
 use Rattle.std.proofs.lemmas.Bool.{and_parts, eqb-true, false≢true, ltb-true}
 use Rattle.std.proofs.lemmas.Option.{none-some, same_Some, slice_get-get_or}

@@ -1,9 +1,7 @@
 -- What stands under a name.
-use Rattle.std.proofs.Common.{◌≡◌, ◌≢◌, ℕ, zero, suc, List, [], ◌∷◌, length, map}
-use Rattle.std.proofs.Common.{zip}
-use Rattle.std.proofs.Common.{Option, Some, None, true, false, refl, ap, ◌∙◌, sym, arith}
-use Rattle.std.proofs.Common.{bytes_eq, option_map, option_and_then, slice_get}
-use Rattle.std.proofs.Common.{ap₂}
+use Rattle.std.proofs.Common.{◌≡◌, ◌≢◌, ℕ, zero, suc, List, [], ◌∷◌, length, map, zip, Option, Some}
+use Rattle.std.proofs.Common.{None, true, false, refl, ap, ap₂, ◌∙◌, sym, arith, bytes_eq}
+use Rattle.std.proofs.Common.{option_map, option_and_then, slice_get}
 use Rattle.std.proofs.lemmas.Bool.{false_from_ne_true}
 use Rattle.std.proofs.lemmas.Option.{none-some, same_Some, slice_get-map}
 use Rattle.std.proofs.lemmas.Slice.Eq.{bytes_eq-Decides}
@@ -11,9 +9,9 @@ use Rattle.std.specs.List.{AllByRecursion, AllZip, IsDistinct}
 use Rattle.id_history.specs.History.{Kept, KeptFeed}
 use Rattle.named_history.specs.Fitting.{feed_by}
 use Rattle.named_history.specs.Naming.{name_of, named, position_of, turn_from}
-use Rattle.named_history.specs.Places.{place_of, under}
+use Rattle.named_history.specs.Places.{first_place, place_of, under}
 use Rattle.relay_names.specs.Names.{GroupNames, Names}
-use Rattle.names_laws.specs.Staying.{IsFirstAt, IsNowhere}
+use Rattle.names_laws.specs.Staying.{AreGoneBefore, IsFirstAt, IsNowhere}
 
 -- A name is its own.
 pub same_name : (name : List ℕ) → bytes_eq name name ≡ true
@@ -143,3 +141,36 @@ pub position_at : (known own : Names) (rings : List ℕ) (kept : Kept) (i : ℕ)
 position_at known own rings kept i group found at is =
     map_at (position_of known.groups kept.positions) own.groups i group at
     ∙ ap (λ (o : Option (GroupNames × ℕ)). Some (turn_from group.buffers o)) is
+
+-- Where the first of more is gone, the others are gone before one place less.
+later_gone : (place : ℕ) (first : List ℕ) (names others : List (List ℕ))
+    → AreGoneBefore (suc place) (first ∷ names) others → AreGoneBefore place names others
+later_gone place first names others are =
+    record {
+      gone = λ before name less at. are.gone (suc before) name (omega (arith, less)) at;
+    }
+
+-- The first that is among the others gives its place,
+pub first_there : (names others : List (List ℕ)) (turn place : ℕ) (name : List ℕ)
+    → slice_get names turn ≡ Some name → AreGoneBefore turn names others
+    → IsFirstAt name place others → first_place names others ≡ Some place
+first_there [] others turn place name at gone is = absurd (none-some name at)
+first_there (first ∷ names) others zero place name at gone is =
+    let found : place_of first others ≡ Some place =
+    ap (λ (n : List ℕ). place_of n others) (same_Some first name at)
+    ∙ place_first name others place is in
+    rw found refl
+first_there (first ∷ names) others (suc turn) place name at gone is =
+    let none : place_of first others ≡ None =
+    place_none first others (gone.gone 0 first (omega arith) refl) in
+    rw none (first_there names others turn place name at (later_gone turn first names others gone)
+    is)
+
+-- and where none is, there is none.
+pub first_none : (names others : List (List ℕ)) → AreGoneBefore (length names) names others
+    → first_place names others ≡ None
+first_none [] others gone = refl
+first_none (first ∷ names) others gone =
+    let none : place_of first others ≡ None =
+    place_none first others (gone.gone 0 first (omega arith) refl) in
+    rw none (first_none names others (later_gone (length names) first names others gone))

@@ -1,6 +1,6 @@
 -- What waits in a history that is taken by name.
-use Rattle.std.proofs.Common.{◌≡◌, ℕ, ◌-◌, zero, suc, List, [], ◌∷◌, length, slice_get}
-use Rattle.std.proofs.Common.{Option, Some, None, option_and_then, refl, ap, subst, sym, arith}
+use Rattle.std.proofs.Common.{◌≡◌, ℕ, ◌-◌, zero, suc, List, [], ◌∷◌, length, slice_get, Option}
+use Rattle.std.proofs.Common.{Some, None, option_and_then, refl, ap, subst, sym, arith}
 use Rattle.std.proofs.lemmas.Option.{none-some, same_Some}
 use Rattle.id_history.specs.History.{KeptFeed}
 use Rattle.named_history.specs.Fitting.{feed_by}

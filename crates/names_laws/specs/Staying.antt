@@ -15,6 +15,11 @@ pub record IsFirstAt (name : List ℕ) (place : ℕ) (names : List (List ℕ)) :
 pub record IsNowhere (name : List ℕ) (names : List (List ℕ)) : Type 0 where
   pub none : (place : ℕ) → slice_get names place ≢ Some name
 
+-- of the names those before this place are nowhere among the others
+pub record AreGoneBefore (place : ℕ) (names others : List (List ℕ)) : Type 0 where
+  pub gone : (before : ℕ) (name : List ℕ) → before < place → slice_get names before ≡ Some name
+      → IsNowhere name others
+
 -- no buffer of the group has the name of another
 abbrev pub HasDistinctBuffers : GroupNames → Type 0
 HasDistinctBuffers group = IsDistinct bytes_eq group.buffers
