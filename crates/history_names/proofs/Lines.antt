@@ -26,9 +26,9 @@ adds_one old new line before name after is put =
           put
           ∙ ap (λ (more : List ℕ). old ++ more)
           (
-            is
-            ∙ ap (λ (text : List ℕ). text ++ 10 ∷ []) (append_assoc before name after)
-            ∙ sym (append-nil ((before ++ (name ++ after)) ++ 10 ∷ []))
+          is
+          ∙ ap (λ (text : List ℕ). text ++ 10 ∷ []) (append_assoc before name after)
+          ∙ sym (append-nil ((before ++ (name ++ after)) ++ 10 ∷ []))
           );
     }
 

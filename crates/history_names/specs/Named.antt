@@ -61,8 +61,8 @@ named_read config None text (Some kept) = As text None
 named_read config (Some names) text (Some kept) =
     named_told config (told_at names kept.stop) text kept
 
--- What the text of a history is by name, where this is kept as the text of names, none where nothing
--- is: where that is missing or empty, or tells nothing of the history's stop, it is as it stands.
+-- What the text of a history is by name, where this is kept as the text of names, None where none
+-- is. Where that is missing or empty, or tells nothing of the history's stop, it is as it stands.
 abbrev pub named_by : Config → (names : Option (List ℕ)) → (text : List ℕ) → NamedBy
 named_by config names text = named_read config names text (all_of text)
 

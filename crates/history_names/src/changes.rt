@@ -12,9 +12,6 @@ use line_words::Octets;
 use relay_names::{GroupNames, Names};
 use std::alloc::{AllocError, Global};
 
-/// The octet that ends a line.
-const END: [u8; 1] = *b"\n";
-
 /// The lines that tell what has changed by name, where a history with these names goes on with
 /// those of a configuration, whose feeds have these rings. Where nothing has changed there is none.
 /// Names are looked for one by one, which for 1,024 feeds takes a million comparisons.
@@ -29,7 +26,14 @@ pub fn told_changes(
         (names_view own.now) rings.now (history_view history.now))) }
 {
     let mut out = Vec::new(alloc);
-    put_feeds(alloc, &mut out, &known.feeds, &history.feeds, &own.feeds, rings)?;
+    put_feeds(
+        alloc,
+        &mut out,
+        &known.feeds,
+        &history.feeds,
+        &own.feeds,
+        rings,
+    )?;
     put_gone_feeds(alloc, &mut out, &own.feeds, &known.feeds, &history.feeds)?;
     put_groups(alloc, &mut out, &known.groups, b" new", &own.groups)?;
     put_groups(alloc, &mut out, &own.groups, b" gone", &known.groups)?;
@@ -37,10 +41,7 @@ pub fn told_changes(
 }
 
 /// Tells of each feed of the configuration that it is new, or passes over some that wait.
-#[tactic(
-    auto,
-    using(crate::proofs::Lines::adds_more, crate::proofs::Lines::adds_all)
-)]
+#[tactic(auto, using(crate::proofs::Lines::adds_more, crate::proofs::Lines::adds_all))]
 fn put_feeds(
     alloc: Global,
     out: &mut Vec<u8>,
@@ -120,10 +121,7 @@ fn put_passed(
 }
 
 /// Tells of each feed that the configuration has no more how many wait in it.
-#[tactic(
-    auto,
-    using(crate::proofs::Lines::adds_more, crate::proofs::Lines::adds_all)
-)]
+#[tactic(auto, using(crate::proofs::Lines::adds_more, crate::proofs::Lines::adds_all))]
 fn put_gone_feeds(
     alloc: Global,
     out: &mut Vec<u8>,
@@ -170,7 +168,9 @@ fn put_gone_feed(
 fn is_among(names: &[Octets], name: &Octets) -> bool
     ensures { result ≡ terms.is_among names.now name.now }
 {
-    names.iter().any(|other| other.as_slice() == name.as_slice())
+    names
+        .iter()
+        .any(|other| other.as_slice() == name.as_slice())
 }
 
 /// Tells a number of a feed.
@@ -212,23 +212,19 @@ fn put_line(
 }
 
 /// A line of three parts, with its end.
-fn line_of(
-    alloc: Global,
-    before: &[u8],
-    name: &[u8],
-    after: &[u8],
-) -> Result<Vec<u8>, AllocError>
+fn line_of(alloc: Global, before: &[u8], name: &[u8], after: &[u8]) -> Result<Vec<u8>, AllocError>
     ensures { IfOk result (λ line.
         line.items ≡ before.now ++ name.now ++ after.now ++ 10 ∷ []) }
 {
-    [before, name, after, END.as_slice()].concat(alloc)
+    let mut line = Vec::from_slice(alloc, before)?;
+    line.extend_from_slice(name)?;
+    line.extend_from_slice(after)?;
+    line.push(b'\n')?;
+    Ok(line)
 }
 
 /// Tells of each group that isn't among the others.
-#[tactic(
-    auto,
-    using(crate::proofs::Lines::adds_more, crate::proofs::Lines::adds_all)
-)]
+#[tactic(auto, using(crate::proofs::Lines::adds_more, crate::proofs::Lines::adds_all))]
 fn put_groups(
     alloc: Global,
     out: &mut Vec<u8>,

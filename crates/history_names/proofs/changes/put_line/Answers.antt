@@ -8,11 +8,11 @@ pub returns : goal.returns
 returns c =
     on_ok_weaker c.extend_from_slice.result
     (
-      adds_one c.args.out.now.items c.extend_from_slice.new.self.items c.deref.result.now
-      c.args.before.now c.args.name.now c.args.after.now
-      (c.deref.ensures.value ∙ (rw c.as_slice.ensures at c.in_ok-line.ensures))
+    adds_one c.args.out.now.items c.extend_from_slice.new.self.items c.deref.result.now
+    c.args.before.now c.args.name.now c.args.after.now
+    (c.deref.ensures.value ∙ (rw c.as_slice.ensures at c.in_ok-line.ensures))
     )
     (
-      on_ok c.extend_from_slice.result c.args.out.now.items c.extend_from_slice.new.self.items
-      c.deref.result.now c.extend_from_slice.ensures.items
+    on_ok c.extend_from_slice.result c.args.out.now.items c.extend_from_slice.new.self.items
+    c.deref.result.now c.extend_from_slice.ensures.items
     )
