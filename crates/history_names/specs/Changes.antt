@@ -29,12 +29,12 @@ feed_of (other ∷ names) (feed ∷ feeds) name =
 abbrev pub passed_over : (name : List ℕ) → (ring waiting : ℕ) → List (List ℕ)
 passed_over name ring waiting =
     if nat_lt ring waiting
-    then (codes "names feed=" ++ (name ++ (codes " passed=" ++ decimal (waiting - ring)))) ∷ []
+    then (codes "changed feed=" ++ (name ++ (codes " passed=" ++ decimal (waiting - ring)))) ∷ []
     else []
 
 -- of a feed of the configuration with a ring for so many: it is new, or passes over some that wait
 abbrev pub of_feed : (name : List ℕ) → (ring : ℕ) → Option KeptFeed → List (List ℕ)
-of_feed name ring None = (codes "names feed=" ++ (name ++ codes " new")) ∷ []
+of_feed name ring None = (codes "changed feed=" ++ (name ++ codes " new")) ∷ []
 of_feed name ring (Some feed) = passed_over name ring (length feed.waiting)
 
 -- the same of each feed of the configuration, by their names and rings
@@ -49,7 +49,7 @@ of_feeds known feeds (name ∷ own) (ring ∷ rings) =
 abbrev pub gone_line : (is_among : Bool) → (name : List ℕ) → (waiting : ℕ) → List (List ℕ)
 gone_line true name waiting = []
 gone_line false name waiting =
-    (codes "names feed=" ++ (name ++ (codes " gone waiting=" ++ decimal waiting))) ∷ []
+    (codes "changed feed=" ++ (name ++ (codes " gone waiting=" ++ decimal waiting))) ∷ []
 
 -- each such feed: these are the names of the feeds
 abbrev pub gone_feeds : (own : List (List ℕ)) → (known : List (List ℕ)) → List KeptFeed
@@ -68,7 +68,7 @@ group_names groups = map (λ (group : GroupNames). group.name) groups
 -- a group that isn't among the others is told so
 abbrev pub group_line : (is_among : Bool) → (end name : List ℕ) → List (List ℕ)
 group_line true end name = []
-group_line false end name = (codes "names group=" ++ (name ++ end)) ∷ []
+group_line false end name = (codes "changed group=" ++ (name ++ end)) ∷ []
 
 -- each such group
 abbrev pub of_groups : (others : List (List ℕ)) → (end : List ℕ) → (names : List (List ℕ))

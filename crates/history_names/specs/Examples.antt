@@ -54,8 +54,8 @@ rings = 100 ∷ 3 ∷ []
 -- what is told
 abbrev pub told : List ℕ
 told =
-    codes "names feed=p3 new\n"
-    ++ codes "names feed=p4 passed=17\n"
-    ++ codes "names feed=p2 gone waiting=3\n"
-    ++ codes "names group=alt new\n"
-    ++ codes "names group=x gone\n"
+    codes "changed feed=p3 new\n"
+    ++ codes "changed feed=p4 passed=17\n"
+    ++ codes "changed feed=p2 gone waiting=3\n"
+    ++ codes "changed group=alt new\n"
+    ++ codes "changed group=x gone\n"

@@ -96,7 +96,7 @@ fn put_feed(
         (option_map (λ feed. feed_view feed.now) feed.entry))) }
 {
     match feed {
-        None => put_line(alloc, out, b"names feed=", name, b" new"),
+        None => put_line(alloc, out, b"changed feed=", name, b" new"),
         Some(feed) => put_passed(alloc, out, name, ring as usize, feed.waiting.len()),
     }
 }
@@ -182,10 +182,10 @@ fn put_count(
     count: usize,
 ) -> Result<(), AllocError>
     ensures { OnOk result (Adds out.old.items out.new.items
-        ((codes "names feed=" ++ (name.now ++ (what.now ++ decimal count))) ∷ [])) }
+        ((codes "changed feed=" ++ (name.now ++ (what.now ++ decimal count))) ∷ [])) }
 {
     let end = counted(alloc, what, count)?;
-    put_line(alloc, out, b"names feed=", name, &end)
+    put_line(alloc, out, b"changed feed=", name, &end)
 }
 
 /// A number behind what it counts.
@@ -259,7 +259,7 @@ fn put_group(
     if is_among {
         Ok(())
     } else {
-        put_line(alloc, out, b"names group=", name, end)
+        put_line(alloc, out, b"changed group=", name, end)
     }
 }
 
