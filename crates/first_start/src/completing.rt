@@ -118,12 +118,12 @@ fn lacks_marks<S: BlockStore>(store: &mut S) -> bool
         → IsUnmarked ⟦<S as BlockStore>⟧ store.old }
     ensures held { StaysHeld ⟦<S as BlockStore>⟧ store.old store.new }
 {
-    let mut octets = [0; BLOCK_OCTETS];
+    let mut marks = [0; BLOCK_OCTETS];
     for k in 1..head_count(store.count()) {
-        if store.read_head(k, &mut octets).is_err() {
+        if store.read_head(k, &mut marks).is_err() {
             return false;
         }
-        if !are_zeros(&octets) {
+        if !are_zeros(&marks) {
             return false;
         }
     }

@@ -3,17 +3,21 @@ ghost use Rattle.std.specs.Prelude.{◌≡◌, length, IfErr, IfOk};
 ghost use Rattle.relay_command.specs.declared.load.CheckError.TheVariants.{Memory};
 
 use crate::load::CheckError;
+use file_blocks::{Identity, size_of};
 use relay_conf::{BufferConf, Buffers};
 use relay_drill::{DrillError, read_all};
-use relay_explain::{Found, found_of};
+use relay_explain::{Found, found_device, found_of};
 use std::alloc::Global;
 use std::fs::Files;
-use std::io::{ErrorKind, Read};
+use std::io::{ErrorKind, Read, Seek, SeekFrom};
 use std::path::Path;
 use std::{fs, str};
 
 /// The octets of a file that are looked at: its first block.
 const FRONT_OCTETS: u64 = 512;
+
+/// Those of a block device: file systems begin behind up to 64 KiB of zeros.
+const DEVICE_FRONT_OCTETS: u64 = 131_072;
 
 /// What lies where the file of each buffer is to be, in the order of the buffers. A file whose path
 /// is relative lies in the folder. Nothing is made or locked, and nothing is waited for.
@@ -47,25 +51,38 @@ fn look_at_file<R: Files>(
         return Ok(Found::Unseen);
     };
     let path = Path::new(folder).join(alloc, file)?;
-    look_at(rt, alloc, path.as_str())
+    look_at(rt, alloc, path.as_str(), size_of(buffer.blocks))
 }
 
-/// What lies at a path.
-fn look_at<R: Files>(rt: &R, alloc: Global, path: &str) -> Result<Found, CheckError>
+/// What lies at a path, for a buffer that takes so many octets.
+fn look_at<R: Files>(rt: &R, alloc: Global, path: &str, size: u64) -> Result<Found, CheckError>
     ensures { IfErr result (λ error. error ≡ Memory) }
 {
-    match is_regular(rt, path) {
-        Ok(true) => look_into(rt, alloc, path),
-        Ok(false) => Ok(Found::NotRegular),
+    match kind_at(rt, path) {
+        Ok(Kind::Regular) => look_into(rt, alloc, path),
+        Ok(Kind::Device) => look_into_device(rt, alloc, path, size),
+        Ok(Kind::Other) => Ok(Found::NotRegular),
         Err(ErrorKind::NotFound) => Ok(absent(rt, path)),
         Err(_) => Ok(Found::Unseen),
     }
 }
 
-/// Whether a regular file lies at a path, or why that can't be told.
-fn is_regular<R: Files>(rt: &R, path: &str) -> Result<bool, ErrorKind> {
+/// What kind of file lies at a path.
+#[derive(Clone, Copy)]
+enum Kind {
+    Regular,
+    Device,
+    Other,
+}
+
+/// What kind of file lies at a path, or why that can't be told.
+fn kind_at<R: Files>(rt: &R, path: &str) -> Result<Kind, ErrorKind> {
     match fs::metadata(rt, path) {
-        Ok(there) => Ok(there.is_file()),
+        Ok(there) => match Identity::of(&there) {
+            Ok(identity) if identity.is_device() => Ok(Kind::Device),
+            Ok(_) => Ok(Kind::Regular),
+            Err(_) => Ok(Kind::Other),
+        },
         Err(error) => Err(error.kind()),
     }
 }
@@ -106,6 +123,34 @@ fn look_into<R: Files>(rt: &R, alloc: Global, path: &str) -> Result<Found, Check
     drop(front);
     match read {
         Ok(octets) => Ok(found_of(&octets)),
+        Err(error) => unread(&error),
+    }
+}
+
+/// What a block device is, for a buffer that takes so many octets, by its size and its first
+/// octets.
+fn look_into_device<R: Files>(
+    rt: &R,
+    alloc: Global,
+    path: &str,
+    size: u64,
+) -> Result<Found, CheckError>
+    ensures { IfErr result (λ error. error ≡ Memory) }
+{
+    let Ok(mut file) = fs::File::open(rt, path) else {
+        return Ok(Found::Unseen);
+    };
+    let Ok(octets) = file.seek(SeekFrom::End(0)) else {
+        return Ok(Found::Unseen);
+    };
+    if file.seek(SeekFrom::Start(0)).is_err() {
+        return Ok(Found::Unseen);
+    }
+    let mut front = file.take(DEVICE_FRONT_OCTETS);
+    let read = read_all(alloc, &mut front);
+    drop(front);
+    match read {
+        Ok(seen) => Ok(found_device(octets, size, &seen)),
         Err(error) => unread(&error),
     }
 }

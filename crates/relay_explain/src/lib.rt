@@ -23,5 +23,5 @@ mod text;
 mod whole;
 
 pub use choice::explain_choice;
-pub use found::{Found, found_of};
+pub use found::{Found, found_device, found_of};
 pub use whole::{Sources, explain};

@@ -35,7 +35,7 @@ abbrev pub HasReason : Reason → ServeError → Type 0
 HasReason reason (faults.File lost) = lost.reason ≡ reason
 HasReason reason error = error ≡ faults.Memory
 
--- both are one file, whatever its names: the same inode of the same device
+-- both are one file, whatever its names: the same inode of the same device, or one block device
 abbrev pub SharesFile : (file other : HeldFile) → Type 0
 SharesFile file other = held_identity file ≡ held_identity other
 

@@ -8,7 +8,7 @@ use Rattle.file_blocks.specs.declared.host.Unusable.TheVariants as unusable
 use Rattle.relay_report.specs.declared.reason.Reason.{Reason}
 use Rattle.relay_report.specs.declared.reason.Reason.TheVariants.{NoFolder, NoRight, NotRegular}
 use Rattle.relay_report.specs.declared.reason.Reason.TheVariants.{Held, NoRoom, TooLarge}
-use Rattle.relay_report.specs.declared.reason.Reason.TheVariants.{Refused}
+use Rattle.relay_report.specs.declared.reason.Reason.TheVariants.{TooSmall, Unwritten, Refused}
 
 -- why the system refused a file, by the kind of its error; want of memory is none of these
 abbrev pub file_reason : ErrorKind → Option Reason
@@ -27,4 +27,6 @@ file_reason kind = Some Refused
 abbrev pub reason_of : Unusable → Option Reason
 reason_of unusable.NotRegular = Some NotRegular
 reason_of unusable.Locked = Some Held
+reason_of unusable.TooSmall = Some TooSmall
+reason_of unusable.Unwritten = Some Unwritten
 reason_of (unusable.Refused error) = file_reason (error_kind error)

@@ -3,16 +3,16 @@ ghost use Rattle.std.specs.Prelude.{◌≡◌, ◌↔◌, length, map, All, AllP
 ghost use Rattle.std.specs.Prelude.{IsSome, IsTrue, MatchBool};
 ghost use Rattle.relay_startup.specs.Files.{HasReason, IsFaultAt, IsFaultOf, IsFileFault};
 ghost use Rattle.relay_startup.specs.Files.{DifferentFiles, SharesFile, WasBlank, WasEmptied};
+ghost use Rattle.file_blocks.specs.Fitted.{count_of as fitted_count};
 ghost use Rattle.file_blocks.specs.Host.{flushed_identity, held_identity};
 ghost use Rattle.file_blocks.specs.Store.{count_of, was_blank};
 
 use crate::reasons::reason_of;
-use file_blocks::{FileBlocks, FittedFile, Flusher, HeldFile, RunFile, Unusable};
+use file_blocks::{FileBlocks, FittedFile, Flusher, HeldFile, Identity, RunFile, Unusable};
 use relay_conf::{BufferConf, Buffers};
 use relay_report::{LostFile, Reason, ServeError};
 use std::alloc::{AllocError, Global};
 use std::fs::{File, Files};
-use std::os::unix::fs::MetadataExt;
 use std::path::{Path, PathBuf};
 use std::str;
 
@@ -170,40 +170,48 @@ pub(crate) fn is_of_earlier<R: Files>(
     folder: &str,
     buffer: &BufferConf,
 ) -> Result<bool, AllocError> {
-    let own = place_of(rt, alloc, folder, buffer)?;
+    let own = identity_of(rt, alloc, folder, buffer)?;
     let buffers = settings.buffers.as_slice();
     for earlier in buffers.get(..count).unwrap_or(buffers) {
-        let place = place_of(rt, alloc, folder, earlier)?;
-        if is_same(own, place) {
+        let other = identity_of(rt, alloc, folder, earlier)?;
+        if is_same(own, other) {
             return Ok(true);
         }
     }
     Ok(false)
 }
 
-/// The device and the inode of the file of a buffer, where they are to be had.
-fn place_of<R: Files>(
+/// Which file that of a buffer is, where that is to be had.
+fn identity_of<R: Files>(
     rt: &R,
     alloc: Global,
     folder: &str,
     buffer: &BufferConf,
-) -> Result<Option<(u64, u64)>, AllocError> {
+) -> Result<Option<Identity>, AllocError> {
     match path_of(alloc, folder, buffer) {
-        Ok(path) => match rt.metadata(path.as_str()) {
-            Ok(found) => Ok(Some((found.dev(), found.ino()))),
-            Err(_) => Ok(None),
-        },
+        Ok(path) => Ok(identity_at(rt, path.as_str())),
         Err(Some(_)) => Ok(None),
         Err(None) => Err(AllocError),
     }
 }
 
-/// Whether both are one place, and that is to be had.
-fn is_same(own: Option<(u64, u64)>, place: Option<(u64, u64)>) -> bool
-    ensures { IsTrue result ↔ IsSome own × (own ≡ place) }
+/// Which file stands at a path, where that is to be had.
+fn identity_at<R: Files>(rt: &R, path: &str) -> Option<Identity> {
+    match rt.metadata(path) {
+        Ok(found) => match Identity::of(&found) {
+            Ok(identity) => Some(identity),
+            Err(_) => None,
+        },
+        Err(_) => None,
+    }
+}
+
+/// Whether both are one file, and that is to be had.
+fn is_same(own: Option<Identity>, other: Option<Identity>) -> bool
+    ensures { IsTrue result ↔ IsSome own × (own ≡ other) }
 {
-    match (own, place) {
-        (Some(own), Some(place)) => own.0 == place.0 && own.1 == place.1,
+    match (own, other) {
+        (Some(own), Some(other)) => own == other,
         _ => false,
     }
 }
@@ -223,8 +231,8 @@ fn is_one_of(file: &HeldFile, others: &[HeldFile]) -> bool
 
 /// A store in the file of each buffer, of its blocks, in the order of the buffers, which writes and
 /// reads runs of them: each file is made as long as that takes, its last block is tried, and it is
-/// looked whether a buffer was kept there. The error is want of memory, or the first file with
-/// which that can't be done.
+/// looked whether a buffer was kept there; a block device has to be as long, and isn't written. The
+/// error is want of memory, or the first file with which that can't be done.
 pub fn fit_files(
     alloc: Global,
     settings: &Buffers,
@@ -254,15 +262,28 @@ fn fit_file(alloc: Global, buffer: &BufferConf, file: HeldFile) -> Result<FileBl
 {
     match FittedFile::of_held(file, buffer.blocks) {
         Ok(mut file) => {
-            file.look();
+            look_into(&mut file);
             Ok(FileBlocks::of_fitted(alloc, file)?)
         }
         Err(refused) => Err(unfit(alloc, buffer, &refused)),
     }
 }
 
-/// The stores, the file of each of which was emptied and made as long again. The error is want of
-/// memory, or the first file with which that can't be done.
+/// Looks into a file whether a buffer was kept there. A block device is looked through whether
+/// anything was: what another program keeps there may begin anywhere, and isn't to be written over.
+fn look_into(file: &mut FittedFile)
+    ensures { fitted_count file.new ≡ fitted_count file.old }
+{
+    if file.is_device() {
+        file.look_through();
+    } else {
+        file.look();
+    }
+}
+
+/// The stores, the file of each of which was emptied: a regular one was made as long again, of a
+/// block device all blocks have zeros. The error is want of memory, or the first file with which
+/// that can't be done.
 pub(crate) fn empty_files(
     alloc: Global,
     settings: &Buffers,

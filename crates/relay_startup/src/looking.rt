@@ -11,7 +11,7 @@ use crate::files::{are_blank, is_of_earlier, path_of, unusable};
 use crate::reasons::reason_of;
 use crate::seen_file::SeenFile;
 use crate::standing::{FolderStanding, Stands, standing_by};
-use file_blocks::{FileBlocks, FittedFile};
+use file_blocks::{FileBlocks, FittedFile, size_of};
 use relay_conf::{BufferConf, Buffers, Config};
 use relay_folder::{HostHistory, is_served};
 use relay_report::{Reason, ServeError, StartFault, put};
@@ -177,7 +177,7 @@ fn open_to_see<R: Files<File = File>>(
     buffer: &BufferConf,
 ) -> Result<SeenFile, Option<Reason>> {
     let path = path_of(alloc, folder, buffer)?;
-    match SeenFile::at(rt, path.as_str()) {
+    match SeenFile::at(rt, path.as_str(), size_of(buffer.blocks)) {
         Ok(file) => match is_of_earlier(rt, alloc, settings, count, folder, buffer) {
             Ok(false) => Ok(file),
             Ok(true) => Err(Some(Reason::Shared)),
@@ -187,7 +187,8 @@ fn open_to_see<R: Files<File = File>>(
     }
 }
 
-/// The store in a file, into which was looked whether a buffer was kept there.
+/// The store in a file, into which was looked whether a buffer was kept there, or a block device
+/// that was looked through whether anything was.
 fn look_into(
     alloc: Global,
     buffer: &BufferConf,
@@ -195,8 +196,13 @@ fn look_into(
 ) -> Result<FileBlocks<SeenFile>, AllocError>
     ensures { IfOk result (λ store. count_of store ≡ buffer.now.blocks) }
 {
+    let is_device = file.is_device();
     let mut fitted = FittedFile::new(file, buffer.blocks);
-    fitted.look();
+    if is_device {
+        fitted.look_through();
+    } else {
+        fitted.look();
+    }
     let (file, count, blank) = fitted.into_parts();
     FileBlocks::new(alloc, file, count, blank)
 }

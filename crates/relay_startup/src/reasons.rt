@@ -13,6 +13,8 @@ pub(crate) fn reason_of(unusable: &Unusable) -> Option<Reason>
     match unusable {
         Unusable::NotRegular => Some(Reason::NotRegular),
         Unusable::Locked => Some(Reason::Held),
+        Unusable::TooSmall => Some(Reason::TooSmall),
+        Unusable::Unwritten => Some(Reason::Unwritten),
         Unusable::Refused(error) => file_reason(error.kind()),
     }
 }

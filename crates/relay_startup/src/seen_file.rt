@@ -2,49 +2,71 @@
 ghost use Rattle.std.specs.Prelude.{[]};
 
 use cyc_block::{DeviceFailed, Tally};
-use file_blocks::{RunFile, Unusable};
+use file_blocks::{Identity, RunFile, Unusable};
 use std::fs::{File, Files};
-use std::io::ErrorKind;
-use std::os::unix::fs::{FileExt, MetadataExt};
+use std::io::{ErrorKind, Seek, SeekFrom};
+use std::os::unix::fs::FileExt;
 use std::{fs, io};
 
-/// A regular file of the machine that is open to be read alone, or one that isn't there. Nobody is
-/// kept from it. Behind its end it has zeros, as a start would make it longer.
+/// A regular file of the machine or a block device that is open to be read alone, or one that isn't
+/// there. Nobody is kept from it. Behind the end of a regular one it has zeros, as a start would
+/// make it longer.
 #[derive(Drop)]
 pub(crate) struct SeenFile {
     /// The file, where it is there.
     file: Option<File>,
     /// How many octets it has.
     length: u64,
+    /// Whether it is a block device.
+    is_device: bool,
     /// Its calls, and those that failed.
     asked: Tally,
     failed: Tally,
 }
 
 impl SeenFile {
-    /// The file at a path. Nothing is made, and nothing waits for another program.
-    pub(crate) fn at<R: Files<File = File>>(rt: &R, path: &str) -> Result<SeenFile, Unusable> {
+    /// The file at a path, for so many octets, which a block device has to have. Nothing is made,
+    /// and nothing waits for another program.
+    pub(crate) fn at<R: Files<File = File>>(
+        rt: &R,
+        path: &str,
+        size: u64,
+    ) -> Result<SeenFile, Unusable> {
         let found = match fs::metadata(rt, path) {
             Ok(found) => found,
             Err(error) if error.kind() == ErrorKind::NotFound => {
-                return Ok(SeenFile::over(None, 0));
+                return Ok(SeenFile::over(None, 0, false));
             }
             Err(error) => return Err(Unusable::Refused(error)),
         };
-        if !found.is_file() {
-            return Err(Unusable::NotRegular);
-        }
+        let is_device = Identity::of(&found)?.is_device();
         match File::open(rt, path) {
-            Ok(file) => Ok(SeenFile::over(Some(file), found.len())),
+            Ok(file) if is_device => SeenFile::of_device(file, size),
+            Ok(file) => Ok(SeenFile::over(Some(file), found.len(), false)),
             Err(error) => Err(Unusable::Refused(error)),
         }
     }
 
+    /// A block device that has to have so many octets.
+    fn of_device(mut file: File, size: u64) -> Result<SeenFile, Unusable> {
+        let length = file.seek(SeekFrom::End(0))?;
+        if length < size {
+            return Err(Unusable::TooSmall);
+        }
+        Ok(SeenFile::over(Some(file), length, true))
+    }
+
+    /// Whether it is a block device.
+    pub(crate) fn is_device(&self) -> bool {
+        self.is_device
+    }
+
     /// The file, with so many octets.
-    fn over(file: Option<File>, length: u64) -> SeenFile {
+    fn over(file: Option<File>, length: u64, is_device: bool) -> SeenFile {
         SeenFile {
             file,
             length,
+            is_device,
             asked: Tally::new(),
             failed: Tally::new(),
         }

@@ -29,3 +29,15 @@ returns-in-NotRegular c = rw c.in-NotRegular.is c.put_odd_file-in-NotRegular.ens
 pub returns-in-Unseen : goal.returns-in-Unseen
 unfolding found_text
 returns-in-Unseen c = rw c.in-Unseen.is c.put_odd_file-in-Unseen.ensures
+
+pub returns-in-Device : goal.returns-in-Device
+unfolding found_text
+returns-in-Device c = rw c.in-Device.is c.put_device.ensures
+
+pub returns-in-SmallDevice : goal.returns-in-SmallDevice
+unfolding found_text
+returns-in-SmallDevice c = rw c.in-SmallDevice.is c.put_odd_device.ensures
+
+pub returns-in-OtherDevice : goal.returns-in-OtherDevice
+unfolding found_text
+returns-in-OtherDevice c = rw c.in-OtherDevice.is c.put_odd_device-in-OtherDevice.ensures
