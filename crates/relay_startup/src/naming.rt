@@ -1,6 +1,6 @@
 //! A relay goes on from what was left of it by the names of its configuration (docs/FORMATS.md,
 //! Names file).
-ghost use Rattle.std.specs.Prelude.{◌≡◌, IfErr, IfOk, All, length, map};
+ghost use Rattle.std.specs.Prelude.{◌≡◌, [], true, IfErr, IfOk, length, map};
 ghost use Rattle.block_shelf.specs.Each.{AreEach};
 ghost use Rattle.block_shelf.specs.Starting.{IsUnwritten};
 ghost use Rattle.relay_startup.specs.Faults.{IsServeFault};
@@ -13,7 +13,7 @@ use cyc_block::BlockStore;
 use history_names::{NamedText, keep_names, named_text};
 use relay_conf::Config;
 use relay_folder::HistoryPlace;
-use relay_report::ServeError;
+use relay_report::{HistoryFault, ServeError, StartFault};
 use std::alloc::Global;
 use std::str;
 
@@ -47,6 +47,8 @@ pub fn left_by_name<S: Synced + Drop, N: HistoryPlace>(
         left.changes.items) }
     ensures told { IfOk result (λ left. IsUnstoppedBy ⟦<S as BlockStore>⟧ config.now
         left.text.items stores.items left.unstopped) }
+    // Without a history only one that was never stopped goes on: a lost one may be put back.
+    ensures kept { IfOk result (λ left. left.text.items ≡ [] → left.unstopped ≡ true) }
     ensures unwritten { IfOk result (λ left.
         AreEach (IsUnwritten ⟦<S as BlockStore>⟧ None) stores.items left.stores.items) }
     ensures blocks { IfOk result (λ left.
@@ -66,6 +68,9 @@ pub fn left_by_name<S: Synced + Drop, N: HistoryPlace>(
         stop,
         unstopped,
     } = looked_at(alloc, config, stores, &text)?;
+    if text.is_empty() && !unstopped {
+        return Err(ServeError::Start(StartFault::BadHistory(HistoryFault::Missing)));
+    }
     keep_names(alloc, config, names, stop, known)?;
     Ok(LeftByName {
         stores,
