@@ -264,7 +264,8 @@ module _ (n : ℕ) (old mid new : List ℕ)
   pub all_zeros : HasZeros 0 (n * BLOCK_OCTETS) new → HasZeros 0 (end_of n) new
   all_zeros front =
       between 0 (n * BLOCK_OCTETS) (end_of n) new (omega arith) long
-      ∙ ap (λ (o : List ℕ). o ++ octets_in new (n * BLOCK_OCTETS) (end_of n - n * BLOCK_OCTETS)) front
+      ∙ ap
+      (λ (o : List ℕ). o ++ octets_in new (n * BLOCK_OCTETS) (end_of n - n * BLOCK_OCTETS)) front
       ∙ ap (λ (o : List ℕ). replicate (n * BLOCK_OCTETS - 0) 0 ++ o) heads_kept
       ∙ replicate-append-replicate (n * BLOCK_OCTETS - 0) (end_of n - n * BLOCK_OCTETS) 0
       ∙ ap (λ (k : ℕ). replicate k 0) (omega (arith, long))
@@ -314,7 +315,8 @@ kept_there n place end held heads at to is other =
     let long : n * BLOCK_OCTETS ≤ end_of n = grind arith in (
       λ e. absurd (cc e),
       λ all. sym other
-          ∙ there.1 ((zeros_between 0 (n * BLOCK_OCTETS) (end_of n) held (omega arith) long).0 all).1,
+          ∙ there.1
+          ((zeros_between 0 (n * BLOCK_OCTETS) (end_of n) held (omega arith) long).0 all).1,
     )
 
 -- where they haven't, something was kept just where the blocks have one

@@ -32,8 +32,8 @@ pub record IsPartlyZeroed (from to : ℕ) (old new : List ℕ) : Type 0 where
   pub rest : octets_in new (end + PIECE) (to - (end + PIECE))
       ≡ octets_in old (end + PIECE) (to - (end + PIECE))
 
--- What is left where n blocks and their head blocks are to get zeros, done or not: the blocks are as
--- before, or all head blocks have zeros, and so have the blocks up to a place.
+-- What is left where n blocks and their head blocks are to get zeros, done or not: the blocks are
+-- as before, or all head blocks have zeros, and so have the blocks up to a place.
 abbrev pub IsPartlyEmptied : (n : ℕ) → (old new : List ℕ) → Type 0
 IsPartlyEmptied n old new =
     ChangesOnlyIn (n * BLOCK_OCTETS) (head_blocks n * BLOCK_OCTETS) old new

@@ -9,8 +9,8 @@ use std::fs::{File, Files, OpenOptions};
 use std::io;
 use std::io::ErrorKind;
 
-/// A regular file of the machine, or a block device, that is open once more, to be flushed by another thread than the
-/// one that writes it.
+/// A regular file of the machine, or a block device, that is open once more, to be flushed by
+/// another thread than the one that writes it.
 pub struct Flusher {
     file: File,
     identity: Identity,

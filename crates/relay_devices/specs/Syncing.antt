@@ -4,7 +4,7 @@ use Rattle.std.specs.Prelude.{◌≡◌, ℕ, ◌+◌, ◌&&◌, nat_le, nat_lt,
 use Rattle.std.specs.Prelude.{◌∷◌, ◌++◌, length, map, Option, None, Some}
 use Rattle.file_blocks.specs.Host.{flushed_identity, held_identity}
 use Rattle.file_blocks.specs.declared.host.HeldFile.{HeldFile}
-use Rattle.file_blocks.specs.declared.host.Identity.{Identity}
+use Rattle.file_blocks.specs.declared.which.Identity.{Identity}
 use Rattle.relay_conf.specs.declared.settings.Config.{Config}
 use Rattle.relay_devices.specs.declared.syncing.Deed.{Deed}
 use Rattle.relay_devices.specs.declared.syncing.Deed.TheVariants.{Flushed, Told}

@@ -18,7 +18,8 @@ returns-in_err-write_zeros-2-clause-left g c = λ honest.
     let two = c.flush.ensures.honest one in
     emptied_left c.args.n _ _ _ _ _ _ c.place_of-heads.ensures c.size_of.ensures
     (c.flush.ensures.same one) (c.in_ok-write_zeros.ensures.others honest)
-    (c.in_ok-write_zeros.ensures.zeros honest) (c.write_zeros-2.ensures.others two) (c.write_zeros-2.ensures.left two)
+    (c.in_ok-write_zeros.ensures.zeros honest) (c.write_zeros-2.ensures.others two)
+    (c.write_zeros-2.ensures.left two)
 
 -- all have zeros
 pub returns-clause-zeros : goal.returns-clause-zeros

@@ -5,7 +5,8 @@ use Rattle.first_start.proofs.Bare.{Before}
 use Rattle.first_start.proofs.Walked.{Walked}
 use Rattle.first_start.proofs.completing.lack_blocks.Given as goal
 
--- the blocks of the stores so far have zeros alone, and so has the bitmap; each store holds what it held
+-- the blocks of the stores so far have zeros alone, and so has the bitmap of each; each store holds
+-- what it held
 abbrev pub invariant-loop-place : goal.invariant-loop-place
 invariant-loop-place g l = record {
   walked : Walked (λ (b : ℕ). StaysHeld g.S.BlockStore) l.fn.stores l.stores l.place;
