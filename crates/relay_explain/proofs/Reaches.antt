@@ -60,7 +60,8 @@ nothing_new allow others peer address covered =
     still_in : (allow.peer == peer) ≡ true → has_address allow.range address ≡ true
         → is_allowed others peer address ≡ true
     still_in own has =
-        list_any-from_Any (λ (one : Allow). one.peer == peer && has_address one.range address) others (
+        list_any-from_Any (λ (one : Allow). one.peer == peer && has_address one.range address)
+        others (
           covered.0,
           covered.1,
           covered.2,

@@ -54,6 +54,7 @@ pub fn rooms_are_the_relays()
 /// of the same peer, just those may connect without it that may with it.
 pub fn ranges_within_others_say_nothing_new()
     ensures { (allow : Allow) (others : List Allow) (peer : ℕ) (address : List ℕ)
-        → Any (λ other. (other.peer ≡ allow.peer) × IsTrue (is_within allow.range other.range)) others
+        → Any (λ other. (other.peer ≡ allow.peer)
+        × IsTrue (is_within allow.range other.range)) others
         → may_reach (allow ∷ others) peer address ≡ may_reach others peer address }
 {}

@@ -9,7 +9,8 @@ loop-said-init c = nothing _
 
 pub loop-said-preserved : goal.loop-said-preserved
 loop-said-preserved c =
-    let there : c.loop-said.said-index < length c.args.all.now = omega (arith, c.loop-said-test.true) in
+    let there : c.loop-said.said-index < length c.args.all.now =
+    omega (arith, c.loop-said-test.true) in
     told_next (said_range_text c.args.name.now c.args.all.now) c.args.all.now
     c.loop-said.said-index _ there c.loop-said.invariant c.put_range-text.ensures
 

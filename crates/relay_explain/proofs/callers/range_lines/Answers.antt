@@ -6,7 +6,8 @@ pub loop-at-preserved : goal.loop-at-preserved
 loop-at-preserved c =
     let there : c.loop-at.at < length c.args.lines.now = omega (arith, c.loop-at-test.true) in
     one_line_more c.args.name.now c.args.lines.now c.loop-at.at
-    (record { ref_ptr = (0, 0); now = [] }) _ _ there c.loop-at.invariant c.in_ok-push_numbers.ensures
+    (record { ref_ptr = (0, 0); now = [] }) _ _ there c.loop-at.invariant
+    c.in_ok-push_numbers.ensures
 
 pub returns : goal.returns
 returns c =
