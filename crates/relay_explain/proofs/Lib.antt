@@ -3,6 +3,8 @@ mod Joined
 mod LineWhere
 mod Places
 mod Puts
+mod RangeLines
+mod Reaches
 mod Rooms
 mod SaidEntries
 mod Shadows

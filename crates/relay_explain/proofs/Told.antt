@@ -82,3 +82,23 @@ pub made_all : {X Y : Type 0} (f : ℕ × X → Y) (xs : List X) (k : ℕ) (had 
 made_all f xs k had end so_far =
     let past : length (enumerate_from 0 xs) ≤ k = omega (arith, end, length-enumerate_from 0 xs) in
     so_far ∙ ap (map f) (take_all k (enumerate_from 0 xs) past)
+
+-- What is listed of one numbered element more stands behind what is listed of the others.
+pub listed_more : {X Y : Type 0} (f : ℕ × X → List Y) (xs : List X) (k : ℕ) (d : X)
+    (had after : List Y) → k < length xs → had ≡ flat_map f (take k (enumerate_from 0 xs))
+    → after ≡ had ++ f (k, get_or xs k d)
+    → after ≡ flat_map f (take (k + 1) (enumerate_from 0 xs))
+listed_more f xs k d had after there so_far listed =
+    let front = take k (enumerate_from 0 xs) in
+    listed ∙ ap (λ before. before ++ f (k, get_or xs k d)) so_far
+    ∙ sym (ap (flat_map f) (numbered_more xs k d there)
+    ∙ flat_map-append f front ((k, get_or xs k d) ∷ [])
+    ∙ ap (λ last. flat_map f front ++ last) (append-nil (f (k, get_or xs k d))))
+
+-- At the end it is listed of all.
+pub listed_all : {X Y : Type 0} (f : ℕ × X → List Y) (xs : List X) (k : ℕ) (had : List Y)
+    → length xs ≤ k → had ≡ flat_map f (take k (enumerate_from 0 xs))
+    → had ≡ flat_map f (enumerate_from 0 xs)
+listed_all f xs k had end so_far =
+    let past : length (enumerate_from 0 xs) ≤ k = omega (arith, end, length-enumerate_from 0 xs) in
+    so_far ∙ ap (flat_map f) (take_all k (enumerate_from 0 xs) past)

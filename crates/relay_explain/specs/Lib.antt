@@ -1,4 +1,5 @@
 pub mod Buffers
+pub mod Callers
 pub mod Choice
 pub mod Entries
 pub mod Explained

@@ -4,27 +4,30 @@ use Rattle.std.specs.Prelude.{find, flat_map, take}
 use Rattle.std.specs.Prelude.{bytes_eq, slice_get, Option, Some, None, option_map}
 use Rattle.std.specs.Prelude.{if◌then◌else◌}
 use Rattle.std.specs.List.{enumerate_from}
+use Rattle.relay_conf.specs.Reach.{has_allow}
 use Rattle.relay_conf.specs.declared.hash_feeds.HashFeed.{HashFeed}
 use Rattle.relay_conf.specs.declared.relay.Feed.{Feed}
 use Rattle.relay_conf.specs.declared.relay.Peer.{Peer}
 use Rattle.relay_conf.specs.declared.settings.Relay.{Relay}
+use Rattle.relay_explain.specs.Callers.{anyone_text, callers_text}
 use Rattle.relay_explain.specs.Lines.{line_at, odd_line, peer_line, shared_line, told_line}
 use Rattle.relay_explain.specs.Lines.{words_in}
 use Rattle.relay_explain.specs.Patterns.{pattern_odds}
 use Rattle.relay_explain.specs.Settings.{relay_conf}
 
--- where a peer is served, and how many of its connections at once
-unfoldable pub port_text : Peer → List ℕ
-port_text peer =
+-- where a peer is served, how many of its connections at once, and from where where none of its
+-- ranges is said
+unfoldable pub port_text : (has_ranges : Bool) → Peer → List ℕ
+port_text has_ranges peer =
     if peer.port == 0 then codes "no port: it isn't served"
     else codes "port " ++ decimal peer.port ++ codes ", connections at once: "
-    ++ decimal peer.connections
+    ++ decimal peer.connections ++ anyone_text has_ranges
 
--- `peer p1, identity one.example, port 1119, connections at once: 4`
-unfoldable pub peer_told : Peer → List ℕ
-peer_told peer =
+-- `peer p1, identity one.example, port 1119, connections at once: 4, from any address`
+unfoldable pub peer_told : Relay → (number : ℕ) → Peer → List ℕ
+peer_told relay number peer =
     codes "peer " ++ peer.name ++ codes ", identity " ++ peer.identity ++ codes ", "
-    ++ port_text peer
+    ++ port_text (has_allow relay.allows.items number) peer
 
 -- the name of the first peer, of these, that has this port
 unfoldable pub first_of_port : (port : ℕ) → List Peer → Option (List ℕ)
@@ -57,7 +60,8 @@ peer_odds relay line number peer =
 abbrev pub peer_text : Relay → (lines : List (List ℕ)) → ℕ × Peer → List ℕ
 peer_text relay lines one =
     let line = peer_line (codes "peer") one.1.name lines in
-    told_line relay_conf line (peer_told one.1) ++ peer_odds relay line one.0 one.1
+    told_line relay_conf line (peer_told relay one.0 one.1) ++ peer_odds relay line one.0 one.1
+    ++ callers_text relay lines one.0 one.1
 
 -- what is told of all peers
 unfoldable pub peers_text : Relay → (lines : List (List ℕ)) → List ℕ

@@ -165,7 +165,7 @@ fn word_of(line: &[u8]) -> &[u8]
 }
 
 /// What follows the first word, nothing where there is none.
-fn behind_word(line: &[u8]) -> &[u8]
+pub(crate) fn behind_word(line: &[u8]) -> &[u8]
     ensures { words Spaces result.now ≡ drop 1 (words Spaces line.now) }
 {
     match first_word(line, Between::Spaces) {

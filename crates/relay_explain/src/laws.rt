@@ -1,15 +1,18 @@
 //! What follows from the definitions of what is odd.
-ghost use Rattle.std.specs.Prelude.{◌≡◌, ◌∷◌, ℕ, List, IsFalse, IsTrue, Some, slice_get};
+ghost use Rattle.std.specs.Prelude.{◌≡◌, ◌∷◌, ℕ, Any, List, IsFalse, IsTrue, Some, slice_get};
 ghost use Rattle.std.specs.List.{list_any};
 ghost use Rattle.std.specs.Option.{is_none};
 ghost use Rattle.news_terms.specs.Pattern.{IsExpressionText, Marked, is_match, verdict};
 ghost use Rattle.news_terms.specs.Places.{size_of};
 ghost use Rattle.news_terms.specs.StorageClass.{takes};
+ghost use Rattle.relay_conf.specs.Reach.{may_reach};
 ghost use Rattle.relay_conf.specs.Settings.{places_of_groups};
 ghost use Rattle.relay_conf.specs.Storage.{entry_view};
 ghost use Rattle.relay_conf.specs.declared.cycbuff.GroupConf as confs;
+ghost use Rattle.relay_conf.specs.declared.reach.Allow.{Allow};
 ghost use Rattle.relay_conf.specs.declared.settings.Buffers as settings;
 ghost use Rattle.relay_model.specs.Judging.{fits};
+ghost use Rattle.relay_explain.specs.Callers.{is_within};
 ghost use Rattle.relay_explain.specs.Choice.{first_small};
 ghost use Rattle.relay_explain.specs.Entries.{IsSpelled, Said, shadows};
 ghost use Rattle.relay_explain.specs.Patterns.{has_taking, is_taking};
@@ -45,4 +48,13 @@ pub fn rooms_are_the_relays()
         → slice_get buffers.groups.items number ≡ Some group
         → fits (slice_get (places_of_groups buffers) number) (size_of size)
         ≡ is_none (first_small buffers.buffers.items group.buffers.items size) }
+{}
+
+/// A range that is told as one that says nothing new says nothing new: where it is within another
+/// of the same peer, just those may connect without it that may with it.
+pub fn ranges_within_others_say_nothing_new()
+    ensures { (allow : Allow) (others : List Allow) (peer : ℕ) (address : List ℕ)
+        → Any (λ other. (other.peer ≡ allow.peer)
+        × IsTrue (is_within allow.range other.range)) others
+        → may_reach (allow ∷ others) peer address ≡ may_reach others peer address }
 {}

@@ -6,6 +6,7 @@
 #![tactic(auto)]
 
 mod buffers;
+mod callers;
 mod choice;
 mod entries;
 mod feeds;

@@ -44,7 +44,7 @@ pub(crate) fn peer_line(lines: &[&[u8]], key: &[u8], name: &[u8]) -> usize
 }
 
 /// Whether the first two words of a line are these.
-fn has_words(line: &[u8], key: &[u8], name: &[u8]) -> bool
+pub(crate) fn has_words(line: &[u8], key: &[u8], name: &[u8]) -> bool
     ensures { result ≡ begins_with key.now name.now (words_in line.now) }
 {
     let Some((first, rest)) = first_word(trim(line), Between::Spaces) else {

@@ -58,7 +58,7 @@ pub(crate) fn rows_of<'a>(
 }
 
 /// The number of this place, 0 where there is none.
-fn number_at(numbers: &[usize], place: usize) -> usize
+pub(crate) fn number_at(numbers: &[usize], place: usize) -> usize
     ensures { result ≡ unwrap_or (slice_get numbers.now place) 0 }
 {
     match numbers.get(place) {

@@ -103,7 +103,7 @@ fn add_address(
 
 /// An address as it is written.
 #[tactic(auto, unfolding(crate::specs::Settings::segments_text))]
-fn address_text(alloc: Global, address: [u8; 16]) -> Result<String, AllocError>
+pub(crate) fn address_text(alloc: Global, address: [u8; 16]) -> Result<String, AllocError>
     ensures { IfOk result (λ text. string_bytes text ≡ terms.address_text address) }
 {
     let address = Ipv6Addr::from_octets(address);

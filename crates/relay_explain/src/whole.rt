@@ -76,7 +76,7 @@ fn put_relay(alloc: Global, text: Text, config: &Config, source: &[u8]) -> Text
         Ok(all) => {
             let lines = all.as_slice();
             let text = put_settings(alloc, text, &config.relay, lines);
-            let text = put_peers(text, &config.relay, lines);
+            let text = put_peers(alloc, text, &config.relay, lines);
             put_feeds(text, &config.relay, lines)
         }
         Err(error) => text.fail(error),
