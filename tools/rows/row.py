@@ -238,11 +238,14 @@ class Row:
         self.news[path.name] = at + 1
 
     def compare_names(self, lines):
-        """relay.names has to hold these lines and nothing else."""
-        held = (self.dir / "relay.names").read_bytes()
+        """relay.names has to hold these lines and nothing else, soon where the relay goes on."""
+        path, end = self.dir / "relay.names", time.monotonic() + self.given.patience
         wanted = "".join(f"{it}\n" for it in self.text(lines).split(", ")).encode("latin-1")
-        if held != wanted:
-            raise Wrong(f"relay.names has {cut_to(held, 600)}")
+        while (held := path.read_bytes() if path.is_file() else None) != wanted:
+            relay = self.programs.get("")
+            if not relay or relay.process.poll() is not None or time.monotonic() > end:
+                raise Wrong(f"relay.names has {cut_to(held, 600)}")
+            time.sleep(0.01)
 
     def compare(self, path, more):
         """A file has to hold these octets at this place, or as many, or to be so open to others."""
