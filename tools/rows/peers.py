@@ -55,6 +55,7 @@ TEXTS = {
     "fill": lambda count, octet: chr(int(octet)) * int(count),
     "hex": lambda *digits: "".join(chr(int(it, 16)) for it in digits),
     "crlf": lambda: "\r\n",
+    "lf": lambda: "\n",
 }
 
 

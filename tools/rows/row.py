@@ -59,7 +59,7 @@ EVENT = re.compile(r"(serving|recovering|recovered|starting|closed|failed|left|w
 
 # The lines that say what of a file.
 FILES = ("file", "folder", "pipe", "link", "symlink", "mode", "cut", "poke", "remove", "missing",
-         "holds", "news")
+         "holds", "news", "names")
 
 # How a line of a news log begins: with a moment.
 MOMENT = re.compile(rb"[A-Z][a-z]{2} [ 123]\d \d\d:\d\d:\d\d\.\d{3} ")
@@ -163,6 +163,14 @@ class Row:
             self.conf[name] = []
         self.conf[name].append(line)
 
+    def drop_lines(self, front):
+        """The lines of relay.conf that begin with these words are left out."""
+        lines = self.conf["relay.conf"]
+        left = [it for it in lines if not f"{it} ".startswith(f"{front} ")]
+        if left == lines:
+            raise Wrong(f"relay.conf has no line {front}")
+        self.conf["relay.conf"] = left
+
     def write_conf(self):
         """Writes the files of the configuration, with ports that are free now; those ports."""
         self.numbers = {name: it for name, it in self.numbers.items() if name == "taken"}
@@ -206,6 +214,8 @@ class Row:
                 file.write(self.octets(octets))
         elif word == "news":
             self.read_news(path, more)
+        elif word == "names":
+            self.compare_names(rest)
         else:
             self.compare(path, more)
 
@@ -226,6 +236,16 @@ class Row:
         if not began or lines[at][began.end() :] != self.octets(wanted):
             raise Wrong(f"{path.name} has {cut_to(lines[at])}, not {wanted}")
         self.news[path.name] = at + 1
+
+    def compare_names(self, lines):
+        """relay.names has to hold these lines and nothing else, soon where the relay goes on."""
+        path, end = self.dir / "relay.names", time.monotonic() + self.given.patience
+        wanted = "".join(f"{it}\n" for it in self.text(lines).split(", ")).encode("latin-1")
+        while (held := path.read_bytes() if path.is_file() else None) != wanted:
+            relay = self.programs.get("")
+            if not relay or relay.process.poll() is not None or time.monotonic() > end:
+                raise Wrong(f"relay.names has {cut_to(held, 600)}")
+            time.sleep(0.01)
 
     def compare(self, path, more):
         """A file has to hold these octets at this place, or as many, or to be so open to others."""
@@ -603,6 +623,8 @@ class Row:
             self.on_file(name, rest)
         elif line == "K3":
             self.conf = {name: list(lines) for name, lines in K3.items()}
+        elif name == "without":
+            self.drop_lines(rest)
         elif line == "writes":
             self.write_conf()
         elif line == "nobody":
