@@ -29,8 +29,8 @@ use std::thread::Threads;
 use std::time;
 
 /// What a relay begins over, by the names of its configuration, once one that was left without a
-/// stop is repaired: what is found of it is kept as what a stop leaves, and it begins from that. Any
-/// other begins as it was to.
+/// stop is repaired: what is found of it is kept as what a stop leaves, and it begins from that.
+/// Any other begins as it was to.
 pub(crate) fn begin_again<S, H, N, P, L, R>(
     rt: &R,
     alloc: Global,

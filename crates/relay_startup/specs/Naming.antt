@@ -28,8 +28,8 @@ pub record AreTold {N : Type 0} (n : Ghosts N) (config : Config) (stop : ℕ)
   pub kept : n.honest old → n.kept new ≡ Some (told_octets (told_in config stop known))
   pub lasts : n.honest old → n.lasting new ≡ Some (told_octets (told_in config stop known)) ∷ []
 
--- A text of a history is gone on with as this one: as the names that were kept have it, and those of
--- the configuration are kept now for each later stop.
+-- A text of a history is gone on with as this one: as the names that were kept have it, and those
+-- of the configuration are kept now for each later stop.
 pub record IsTakenByName {N : Type 0} (n : Ghosts N) (config : Config) (text taken : List ℕ)
     (old new : N)
     : Type 0 where
@@ -46,8 +46,8 @@ MayBeUntold n config old new =
     ⊎ ((stop : ℕ) × (known : Option Names)
     × IsNotKept n (told_octets (told_in config stop known)) old new)
 
--- What is left of the names where a relay isn't gone on with: all is as before, unless they couldn't
--- be kept.
+-- What is left of the names where a relay isn't gone on with: all is as before, unless they
+-- couldn't be kept.
 abbrev pub LeavesNames : {N : Type 0} → Ghosts N → Config → (old new : N) → ServeError → Type 0
 LeavesNames n config old new faults.Memory = MayBeUntold n config old new
 LeavesNames n config old new (faults.Start starts.Names) = MayBeUntold n config old new

@@ -21,8 +21,8 @@ use std::io::Write;
 use std::net::Net;
 
 /// Tells in a line how the relay of this configuration in a folder stands, behind what a start would
-/// change by name, or that a start would be refused, and why. Nothing is made, written or locked, and a relay that is served there is asked
-/// nothing.
+/// change by name, or that a start would be refused, and why. Nothing is made, written or locked,
+/// and a relay that is served there is asked nothing.
 pub fn stand_on<R, W: Write>(
     rt: &R,
     alloc: Global,

@@ -43,7 +43,8 @@ pub(crate) fn stop_kept<P: HistoryPlace, N: HistoryPlace>(
     }
 }
 
-/// The number of the stop of a history that is one of this configuration by the names that are kept.
+/// The number of the stop of a history that is one of this configuration by the names that are
+/// kept.
 fn stop_by_name<N: HistoryPlace>(
     alloc: Global,
     config: &Config,
