@@ -152,7 +152,7 @@ fn put_device(text: Text, line: usize, file: &[u8], octets: u64, told: &[u8]) ->
         .add(b"file ")
         .add(file)
         .add(b" is a block device of ")
-        .add_number(u128::from(octets))
+        .add_number(octets as u128)
         .add(told)
         .add(b"\n")
 }
@@ -168,7 +168,7 @@ fn put_odd_device(text: Text, line: usize, file: &[u8], octets: u64, told: &[u8]
         .add(b"file ")
         .add(file)
         .add(b" is a block device of ")
-        .add_number(u128::from(octets))
+        .add_number(octets as u128)
         .add(told)
         .add(b"\n")
 }
