@@ -8,6 +8,7 @@ use Rattle.relay_report.specs.declared.fault.ServeError.TheVariants as faults
 use Rattle.relay_report.specs.declared.keeping.StartFault.TheVariants as starts
 use Rattle.relay_startup.specs.Adding.{IsFileOrHead, IsHistoryFault}
 use Rattle.relay_startup.specs.Files.{IsFileFault}
+use Rattle.relay_startup.specs.Naming.{IsNamedHistoryFault}
 
 -- a file that can't be had is told so
 pub file_or_head : (settings : Buffers) (error : ServeError) → IsFileFault settings error
@@ -44,3 +45,9 @@ history_adds config faults.Memory (inr (inr none)) = absurd none
 history_adds config faults.NoThread (inr (inr none)) = absurd none
 history_adds config (faults.Stop fault) (inr (inr none)) = absurd none
 history_adds config faults.Unwritten (inr (inr none)) = absurd none
+
+-- or by the names that are kept beside it
+pub named_adds : (config : Config) (error : ServeError) → IsNamedHistoryFault error
+    → IsAddFault config error
+named_adds config error (inl fault) = history_adds config error fault
+named_adds config error (inr names) = subst (IsAddFault config) (sym names) tt

@@ -1,5 +1,5 @@
 use Rattle.std.proofs.lemmas.Result.{IfErr-weaker, IfOk-weaker, err_from_is_err_and}
-use Rattle.relay_startup.proofs.AddFaults.{file_adds, head_adds, history_adds}
+use Rattle.relay_startup.proofs.AddFaults.{file_adds, head_adds, named_adds}
 use Rattle.relay_startup.proofs.adding.add_there.Goals as goal
 
 -- the history can't be had,
@@ -7,7 +7,7 @@ pub returns-in_err-stop-clause-fault : goal.returns-in_err-stop-clause-fault
 returns-in_err-stop-clause-fault g c =
     let told = err_from_is_err_and c.from_residual.result c.from_residual.ensures.1 in
     rw (told.1, told.2)
-    (history_adds c.args.config.now c.in_err-stop.field-0.0 c.in_err-stop.ensures.fault)
+    (named_adds c.args.config.now c.in_err-stop.field-0.0 c.in_err-stop.ensures.fault)
 
 -- or a file,
 pub returns-in_err-files-clause-fault : goal.returns-in_err-files-clause-fault
