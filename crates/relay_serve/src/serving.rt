@@ -170,9 +170,7 @@ where
                 desk: &desk,
                 news,
             };
-            let answer = begin_and_run(
-                rt, alloc, config, unbegun, places, journal, access, writer,
-            );
+            let answer = begin_and_run(rt, alloc, config, unbegun, places, journal, access, writer);
             desk.close(rt, asked.folder);
             drop(desk);
             answer
