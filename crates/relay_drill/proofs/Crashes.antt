@@ -11,11 +11,19 @@ use Rattle.std.specs.declared.io.ErrorKind.{ErrorKind}
 use Rattle.std.specs.declared.io.ErrorKind.TheVariants.{OutOfMemory}
 use Rattle.article_verdict.specs.Config.{terms_of}
 use Rattle.block_shelf.specs.Killing.{NoneFailed}
-use Rattle.block_shelf.specs.Leaving.{is_whole}
+use Rattle.block_shelf.specs.Leaving.{AreLeftOf, is_whole, saved_in}
+use Rattle.block_shelf.specs.Openings.{Opening}
+use Rattle.cyc_buffer.specs.Crash.{IsLeftOf}
+use Rattle.news_terms.specs.Courses.{Course}
+use Rattle.news_terms.specs.Token.{Token}
+use Rattle.relay_core.specs.Openings.{openings}
+use Rattle.relay_model.specs.State.{Kept}
+use Rattle.std.proofs.Common.{zero, suc, drop, slice_get, ap}
+use Rattle.std.proofs.Math.Option.{some-injective}
+use Rattle.std.proofs.lemmas.Option.{none-some}
 use Rattle.block_shelf.specs.declared.starting.StopFault.{StopFault}
 use Rattle.block_shelf.specs.declared.starting.StopFault.TheVariants as stops
-use Rattle.cyc_block.specs.declared.failing.FailAt.{FailAt}
-use Rattle.cyc_block.specs.declared.memory.MemoryBlocks.{MemoryBlocks}
+use Rattle.relay_drill.specs.declared.powered.Powered.{Powered}
 use Rattle.cyc_block.specs.declared.store.BlockStore.{Ghosts}
 use Rattle.news_terms.specs.Places.{Buffer}
 use Rattle.news_terms.proofs.ListPlaces.{holds_at}
@@ -33,7 +41,7 @@ use Rattle.relay_model.specs.Terms.{Terms}
 use Rattle.relay_model.specs.World.{World}
 use Rattle.relay_repair.specs.Repairing.{RepairsLeft}
 use Rattle.relay_repair.specs.Telling.{last_stop}
-use Rattle.relay_drill.specs.Crashing.{AreSized, RevivesTo, StartsOf}
+use Rattle.relay_drill.specs.Crashing.{AreSized, HoldSame, RevivesTo, StartsOf}
 use Rattle.relay_drill.specs.Fault.{FailGives, PlayGives, unrepaired_as, unseeded_as}
 use Rattle.relay_drill.specs.Fault.{unstarted_as}
 use Rattle.relay_drill.proofs.Stores.{seen}
@@ -100,6 +108,54 @@ module _ {S : Type 0} {g : Ghosts S} where
       (subst (λ (it : Config). StartsOf g it stores moment new) is starts) x under
       (none_failed (terms_of other) x) refl
 
+-- what stands at a place of a list stands at that of one that a function can't tell from it
+same_at : {A B : Type 0} (f : A → B) (old new : List A) → map f new ≡ map f old → (b : ℕ)
+    (one : A) → slice_get old b ≡ Some one
+    → (other : A) × (slice_get new b ≡ Some other) × (f other ≡ f one)
+same_at f [] new same b one there = absurd (none-some one there)
+same_at f (o ∷ old) [] same b one there = absurd (cc same)
+same_at f (o ∷ old) (n ∷ new) same zero one there =
+    (n, refl, ap (λ (them : List _). get_or them 0 (f n)) same ∙ ap f (some-injective o one there))
+same_at f (o ∷ old) (n ∷ new) same (suc b) one there =
+    same_at f old new (ap (λ (them : List _). drop 1 them) same) b one there
+
+module _ {S : Type 0} {g : Ghosts S} where
+  -- What a crash may have left it may have left with other head blocks.
+  left_same : (w : Terms) (begun : ℕ → Course) (kept : List Kept) (openings : ℕ → Option Opening)
+      (saved : Token → Bool) (stores back : List S) → HoldSame g stores back
+      → AreLeftOf g stores w begun kept openings saved
+      → AreLeftOf g back w begun kept openings saved
+  left_same w begun kept openings saved stores back same left =
+      record {
+        fit = left.fit;
+        laid = left.laid;
+        buffers = λ b buffer there.
+            let one = left.buffers b buffer there in
+            let found = same_at (λ (store : S). g.blocks store) stores back same b one.store
+            one.there in
+            record {
+              store = found.0;
+              there = found.1;
+              history = one.history;
+              is_of_buffer = one.is_of_buffer;
+              is_said = one.is_said;
+              left = subst (λ (blocks : List (List ℕ)).
+                  IsLeftOf one.history (saved_in saved buffer) blocks) (sym found.2) one.left;
+            };
+      }
+
+  -- So a kill leaves it.
+  pub leaves_same : (old : System S g) (stores back : List S) → HoldSame g stores back
+      → LeavesKilled old stores → LeavesKilled old back
+  leaves_same old stores back same leaves x agrees none =
+      let one = leaves x agrees none in
+      record {
+        well = one.well;
+        left = left_same (terms_of old.config) x.state.begun x.state.kept
+            (openings x.work.writer) (is_whole (terms_of old.config) x.state) stores back same
+            one.left;
+      }
+
 -- One more store is of the size of one more buffer.
 pub one_more_sized : {S : Type 0} (g : Ghosts S) (buffers : List BufferConf) (stores : List S)
     (at : ℕ) (buffer : BufferConf) (store : S) → at < length buffers → at < length stores
@@ -147,7 +203,7 @@ noted_leads {reasons = reasons} (Err error) a b old mid before after same memory
     subst P (sym memory) (halts_there a b old.relay mid.relay before after goes)
 
 -- What is started of the stores that a life left is that life, revived.
-pub revived : (config : Config) (moment : ℕ) (old : Life) (stores : List (FailAt MemoryBlocks))
+pub revived : (config : Config) (moment : ℕ) (old : Life) (stores : List Powered)
     (result : Result Life DrillError) → config ≡ old.relay.config → LeavesKilled old.relay stores
     → PlayGives result (λ new. StartsOf seen config stores moment new.relay) ⊤ ⊥ ⊤
     → PlayGives result (λ new. RevivesTo moment old.relay new.relay) ⊤ ⊥ ⊤

@@ -7,6 +7,7 @@ pub mod Lives
 pub mod OneLife
 pub mod Pieces
 pub mod Plays
+pub mod Powers
 pub mod Prints
 pub mod Scripts
 pub mod Stores

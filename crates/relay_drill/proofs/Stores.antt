@@ -5,21 +5,18 @@ use Rattle.std.proofs.Common.{sym, take}
 use Rattle.std.proofs.lemmas.List.{map_push, take_more}
 use Rattle.std.proofs.lemmas.List.Elements.{All-push}
 use Rattle.block_shelf.specs.Leaving.{IsFresh}
-use Rattle.cyc_block.specs.contracts.failing.FailAtBlockStore.TheImpl as failing
-use Rattle.cyc_block.specs.contracts.memory.MemoryBlocks.{the_row}
-use Rattle.cyc_block.specs.contracts.memory.MemoryBlocksBlockStore.TheImpl as memory
-use Rattle.cyc_block.specs.declared.failing.FailAt.{FailAt}
-use Rattle.cyc_block.specs.declared.memory.MemoryBlocks.{MemoryBlocks}
+use Rattle.relay_drill.specs.contracts.powered.PoweredBlockStore.TheImpl as powered
+use Rattle.relay_drill.specs.declared.powered.Powered.{Powered}
 use Rattle.cyc_block.specs.declared.store.BlockStore.{Ghosts}
 use Rattle.relay_conf.specs.declared.cycbuff.BufferConf.{BufferConf}
 use Rattle.relay_drill.specs.Stores.{AreStoresOf}
 
 -- what is seen of a store
-abbrev pub seen : Ghosts (FailAt MemoryBlocks)
-seen = failing.ghosts the_row memory.ghosts memory.dict
+abbrev pub seen : Ghosts Powered
+seen = powered.ghosts
 
 -- Blocks in memory are honest, whatever was done with them.
-pub are_honest : (stores : List (FailAt MemoryBlocks)) → All seen.honest stores
+pub are_honest : (stores : List Powered) → All seen.honest stores
 are_honest stores k d within = tt
 
 -- One more store is that of one more buffer.

@@ -10,6 +10,8 @@ pub mod laws;
 mod line;
 mod manner;
 mod play;
+pub mod power;
+mod powered;
 mod print;
 mod report;
 mod reviving;

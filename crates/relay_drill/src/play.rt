@@ -5,19 +5,22 @@ ghost use Rattle.relay_model.specs.Run as run;
 ghost use Rattle.relay_drill.specs.declared.fault.DrillError.TheVariants as faults;
 ghost use Rattle.relay_drill.specs.Fault.{line_view};
 ghost use Rattle.relay_drill.specs.Play as played;
-ghost use Rattle.relay_drill.specs.Progress.{Goes, Leads, Performs, stand_view};
+ghost use Rattle.relay_drill.specs.Progress.{Leads, Performs, stand_view};
 ghost use Rattle.relay_drill.specs.Todo as todo;
-ghost use Rattle.relay_drill.specs.Todo.{Todo, bring_each, deserted, line_asks, lines_ask};
+ghost use Rattle.relay_drill.specs.Todo.{Todo, behind_line, bring_each, deserted, is_armed};
+ghost use Rattle.relay_drill.specs.Todo.{line_asks, lines_ask};
 ghost use Rattle.relay_drill.specs.Todo.{pieces_in, pieces_of, round_each, turn_each};
 ghost use Rattle.relay_drill.specs.Todo.{with_session, write_each};
 
-use crate::fault::DrillError;
+use crate::fault::{DrillError, Ended};
 use crate::line::{Line, PieceSize};
-use crate::manner::Manner;
+use crate::manner::{Manner, is_cut, with_armed};
+use crate::power::Supply;
+use crate::powered::Powered;
 use crate::print::{print, print_repaired, print_restart};
 use crate::report::report;
 use crate::reviving::revive;
-use cyc_block::{BlockStore, FailAt, MemoryBlocks};
+use cyc_block::BlockStore;
 use line_words::Octets;
 use relay_core::{Event, Output, System};
 use relay_report::put;
@@ -25,25 +28,32 @@ use std::alloc::Global;
 use std::io::Write;
 use std::random::RandomSource;
 
-/// Blocks in memory, any call of which can be made to fail.
-pub type Store = FailAt<MemoryBlocks>;
+/// The stores of a drill.
+pub type Store<'a> = Powered<'a>;
 
-/// The relay over such blocks.
-pub type Relay = System<Store>;
+/// The relay over such stores.
+pub type Relay<'a> = System<Store<'a>>;
 
 /// The relay from its beginning or from a crash on.
-pub struct Life {
-    pub relay: Relay,
+pub struct Life<'a> {
+    pub relay: Relay<'a>,
     /// The history of its last stop, if there was one: a repair's, or a restart's.
     pub history: Option<Vec<u8>>,
+    /// The one before that: where the power goes while the relay is stopped it is still the last.
+    pub earlier: Option<Vec<u8>>,
 }
 
-impl Life {
+impl Life<'_> {
     /// Lets the relay go.
     pub fn let_go(self) {
-        let Life { relay, history } = self;
+        let Life {
+            relay,
+            history,
+            earlier,
+        } = self;
         relay.let_go();
         drop(history);
+        drop(earlier);
     }
 }
 
@@ -56,18 +66,20 @@ pub struct Stand {
     pub piece: Option<PieceSize>,
     /// The moment that a line named last.
     pub moment: u64,
+    /// Whether a crash is ahead.
+    pub armed: bool,
 }
 
-/// Does what the lines of a script ask, one after the other, in this manner. `rt` seeds the hashers
-/// of a relay that is started behind a crash.
-pub fn play<W: Write>(
+/// Does what the lines of a script ask, one after the other, in this manner, in which no crash is
+/// ahead. `rt` seeds the hashers of a relay that is started behind a crash.
+pub fn play<'a, W: Write>(
     rt: &impl RandomSource,
     alloc: Global,
-    life: Life,
-    manner: Manner,
+    life: Life<'a>,
+    manner: Manner<'a>,
     lines: &[Line],
     writer: &mut W,
-) -> Result<Life, DrillError>
+) -> Result<Life<'a>, DrillError>
     ensures { Leads manner.reasons result
         (lines_ask manner.groups (map line_view lines.now) todo.first_stand) todo.Done
         life (W.contents writer.old) (W.contents writer.new) }
@@ -77,6 +89,7 @@ pub fn play<W: Write>(
         sessions: Vec::new(alloc),
         piece: None,
         moment: 0,
+        armed: false,
     };
     for line in lines {
         living = play_one(rt, alloc, living, manner, &mut stand, line, writer)?;
@@ -84,58 +97,67 @@ pub fn play<W: Write>(
     Ok(living)
 }
 
-/// Does what a line of a script asks: `crash` and `fail` of a relay over devices that are armed,
+/// Does what a line of a script asks: `crash` and `fail` of a relay over devices that have power,
 /// all else of any.
-fn play_one<W: Write>(
+fn play_one<'a, W: Write>(
     rt: &impl RandomSource,
     alloc: Global,
-    life: Life,
-    manner: Manner,
+    life: Life<'a>,
+    manner: Manner<'a>,
     stand: &mut Stand,
     line: &Line,
     writer: &mut W,
-) -> Result<Life, DrillError>
-    ensures { (next : todo.Stand → Todo) → Leads manner.reasons result
-        (line_asks manner.groups (line_view line.now) (stand_view stand.old) next)
-        (next (stand_view stand.new))
+) -> Result<Life<'a>, DrillError>
+    ensures { (next : Bool → todo.Stand → Todo) → Leads manner.reasons result
+        (line_asks manner.groups (line_view line.now) (stand_view stand.old)
+        (behind_line (is_armed stand.old.armed (line_view line.now)) next))
+        (next stand.new.armed (stand_view stand.new))
         life (W.contents writer.old) (W.contents writer.new) }
 {
     match line {
-        Line::Crash => crash(rt, alloc, life, stand, writer),
-        Line::Fail(buffer, call) => Ok(armed(life, *buffer, *call)),
-        _ => play_on(alloc, life, manner, stand, line, writer),
+        Line::Crash => crash(rt, alloc, life, manner.supply, stand, writer),
+        Line::CrashAt(buffer, call) => {
+            manner.supply.end(*buffer, *call);
+            stand.armed = true;
+            Ok(life)
+        }
+        Line::Fail(buffer, call) => {
+            manner.supply.fail(*buffer, *call);
+            Ok(life)
+        }
+        _ => play_on(rt, alloc, life, manner, stand, line, writer),
     }
 }
 
-/// From here call number k of this buffer's device fails.
-fn armed(life: Life, buffer: usize, call: u64) -> Life
-    ensures { (reasons : Bool) (more : Todo) (held : Option (List ℕ))
-        → Goes reasons more more life.relay result.relay held held }
-{
-    let mut life = life;
-    life.relay.arm(buffer, call);
-    life
-}
-
-/// Does what a line asks of a relay over any devices.
-fn play_on<W: Write>(
+/// Does what a line asks of a relay over any devices; where the power goes in it, the relay is
+/// repaired.
+fn play_on<'a, W: Write>(
+    rt: &impl RandomSource,
     alloc: Global,
-    life: Life,
-    manner: Manner,
+    life: Life<'a>,
+    manner: Manner<'a>,
     stand: &mut Stand,
     line: &Line,
     writer: &mut W,
-) -> Result<Life, DrillError>
-    ensures { (next : todo.Stand → Todo) → Leads manner.reasons result
-        (line_asks manner.groups (line_view line.now) (stand_view stand.old) next)
-        (next (stand_view stand.new))
+) -> Result<Life<'a>, DrillError>
+    ensures { (next : Bool → todo.Stand → Todo) → Leads manner.reasons result
+        (line_asks manner.groups (line_view line.now) (stand_view stand.old)
+        (behind_line stand.old.armed next))
+        (next stand.new.armed (stand_view stand.new))
         life (W.contents writer.old) (W.contents writer.new) }
 {
     let mut life = life;
     let stop = life.relay.stop();
-    match play_line(alloc, &mut life.relay, manner, stand, line, writer) {
+    let manner = with_armed(manner, stand.armed);
+    let ended = play_line(alloc, &mut life.relay, manner, stand, line, writer);
+    match ended {
         Ok(()) => noted(life, stop),
-        Err(error) => {
+        Err(Ended::Cut) => {
+            let life = noted(life, stop)?;
+            stand.armed = false;
+            crash(rt, alloc, life, manner.supply, stand, writer)
+        }
+        Err(Ended::Faulty(error)) => {
             life.let_go();
             Err(error)
         }
@@ -143,7 +165,7 @@ fn play_on<W: Write>(
 }
 
 /// Where the relay was closed since this stop, its history is noted, as a stop writes it.
-fn noted(life: Life, stop: u64) -> Result<Life, DrillError>
+fn noted(life: Life<'_>, stop: u64) -> Result<Life<'_>, DrillError>
     ensures relay { IfOk result (λ noted. noted.relay ≡ life.relay) }
     ensures memory { IfErr result (λ error. error ≡ faults.Memory) }
 {
@@ -160,35 +182,72 @@ fn noted(life: Life, stop: u64) -> Result<Life, DrillError>
 }
 
 /// The same with this history of the last stop.
-fn with_history(life: Life, history: Vec<u8>) -> Life
+fn with_history(life: Life<'_>, history: Vec<u8>) -> Life<'_>
     ensures { result.relay ≡ life.relay }
 {
     let Life {
         relay,
         history: before,
+        earlier,
     } = life;
-    drop(before);
+    drop(earlier);
     Life {
         relay,
         history: Some(history),
+        earlier: before,
     }
 }
 
 /// The relay is killed, and repaired and started at the moment that a line named last: nobody is
-/// here then.
-fn crash<W: Write>(
+/// here then. Where a crash is ahead, and comes meanwhile, it is so once more.
+fn crash<'a, W: Write>(
     rt: &impl RandomSource,
     alloc: Global,
-    life: Life,
+    life: Life<'a>,
+    supply: &'a Supply,
     stand: &mut Stand,
     writer: &mut W,
-) -> Result<Life, DrillError>
-    ensures { (reasons : Bool) (next : todo.Stand → Todo) → Leads reasons result
+) -> Result<Life<'a>, DrillError>
+    ensures { (reasons : Bool) (next : Bool → todo.Stand → Todo) → Leads reasons result
+        (todo.Crashing stand.old.moment
+        (behind_line stand.old.armed next (deserted (stand_view stand.old))))
+        (next stand.new.armed (stand_view stand.new))
+        life (W.contents writer.old) (W.contents writer.new) }
+{
+    if !stand.armed {
+        return crash_once(rt, alloc, life, supply, stand, writer);
+    }
+    let life = revive(rt, alloc, life, supply, stand.moment)?;
+    if supply.is_gone() {
+        stand.armed = false;
+        return crash_once(rt, alloc, life, supply, stand, writer);
+    }
+    stand.sessions = Vec::new(alloc);
+    match print_repaired(writer) {
+        Ok(()) => Ok(life),
+        Err(_error) => {
+            life.let_go();
+            Err(DrillError::Unwritten)
+        }
+    }
+}
+
+/// It is killed, repaired and started, with power throughout.
+fn crash_once<'a, W: Write>(
+    rt: &impl RandomSource,
+    alloc: Global,
+    life: Life<'a>,
+    supply: &'a Supply,
+    stand: &mut Stand,
+    writer: &mut W,
+) -> Result<Life<'a>, DrillError>
+    ensures crashed { (reasons : Bool) (next : todo.Stand → Todo) → Leads reasons result
         (todo.Crashing stand.old.moment (next (deserted (stand_view stand.old))))
         (next (stand_view stand.new))
         life (W.contents writer.old) (W.contents writer.new) }
+    ensures armed { stand.new.armed ≡ stand.old.armed }
 {
-    let life = revive(rt, alloc, life, stand.moment)?;
+    let life = revive(rt, alloc, life, supply, stand.moment)?;
     stand.sessions = Vec::new(alloc);
     match print_repaired(writer) {
         Ok(()) => Ok(life),
@@ -203,22 +262,22 @@ fn crash<W: Write>(
 fn play_line<S: BlockStore, W: Write>(
     alloc: Global,
     relay: &mut System<S>,
-    manner: Manner,
+    manner: Manner<'_>,
     stand: &mut Stand,
     line: &Line,
     writer: &mut W,
-) -> Result<(), DrillError>
-    ensures { (next : todo.Stand → Todo) → Performs manner.reasons result
+) -> Result<(), Ended>
+    ensures done { (next : todo.Stand → Todo) → Performs manner.reasons manner.armed result
         (line_asks manner.groups (line_view line.now) (stand_view stand.old) next)
         (next (stand_view stand.new))
         relay.old relay.new (W.contents writer.old) (W.contents writer.new) }
+    ensures armed { stand.new.armed ≡ stand.old.armed }
 {
-    let reasons = manner.reasons;
     match *line {
-        Line::Open(session, peer) => open(relay, stand, session, peer, reasons, writer),
+        Line::Open(session, peer) => open(relay, stand, session, peer, manner, writer),
         Line::Bring(session, ref octets) => {
             let size = piece_size(stand, octets);
-            bring(alloc, relay, session, octets, size, reasons, writer)
+            bring(alloc, relay, session, octets, size, manner, writer)
         }
         Line::Split(size) => {
             stand.piece = Some(size);
@@ -226,25 +285,26 @@ fn play_line<S: BlockStore, W: Write>(
         }
         Line::Turn(session, now) => {
             stand.moment = now;
-            perform(relay, Event::Turn { session, now }, reasons, writer)
+            perform(relay, Event::Turn { session, now }, manner, writer)
         }
         Line::Write(group, now) => {
             stand.moment = now;
-            perform(relay, Event::Write { group, now }, reasons, writer)
+            perform(relay, Event::Write { group, now }, manner, writer)
         }
         Line::Rounds(count, now) => {
             stand.moment = now;
             rounds(relay, manner, &stand.sessions, count, now, writer)
         }
-        Line::Break(session) => perform(relay, Event::Break { session }, reasons, writer),
+        Line::Break(session) => perform(relay, Event::Break { session }, manner, writer),
         Line::Expire(shard, now) => {
             stand.moment = now;
-            perform(relay, Event::Expire { shard, now }, reasons, writer)
+            perform(relay, Event::Expire { shard, now }, manner, writer)
         }
         Line::Fail(_, _) => Ok(()),
+        Line::CrashAt(_, _) => Ok(()),
         // Devices of no kind are repaired here.
-        Line::Crash => Err(DrillError::Unrepaired),
-        Line::Restart => restart(relay, reasons, writer),
+        Line::Crash => Err(Ended::Faulty(DrillError::Unrepaired)),
+        Line::Restart => restart(relay, manner, writer),
         Line::Report => print_report(alloc, relay, writer),
     }
 }
@@ -254,8 +314,9 @@ fn print_report<S: BlockStore, W: Write>(
     alloc: Global,
     relay: &System<S>,
     writer: &mut W,
-) -> Result<(), DrillError>
-    ensures { (reasons : Bool) (more : Todo) → Performs reasons result (todo.Report more) more
+) -> Result<(), Ended>
+    ensures { (reasons armed : Bool) (more : Todo)
+        → Performs reasons armed result (todo.Report more) more
         relay.now relay.now (W.contents writer.old) (W.contents writer.new) }
 {
     let text = report(alloc, relay)?;
@@ -281,10 +342,10 @@ fn open<S: BlockStore, W: Write>(
     stand: &mut Stand,
     session: u64,
     peer: usize,
-    reasons: bool,
+    manner: Manner<'_>,
     writer: &mut W,
-) -> Result<(), DrillError>
-    ensures { (next : todo.Stand → Todo) → Performs reasons result
+) -> Result<(), Ended>
+    ensures { (next : todo.Stand → Todo) → Performs manner.reasons manner.armed result
         (todo.Opening session peer (next (with_session (stand_view stand.old) session))
         (next (stand_view stand.old)))
         (next (stand_view stand.new))
@@ -293,7 +354,7 @@ fn open<S: BlockStore, W: Write>(
     let event = Event::Open { session, peer };
     let output = relay.step(&event);
     drop(event);
-    let printed = print(writer, &output, reasons);
+    let printed = print(writer, &output, manner.reasons);
     let refused = is_refused(&output);
     drop(output);
     printed?;
@@ -318,11 +379,11 @@ fn bring<S: BlockStore, W: Write>(
     session: u64,
     octets: &[u8],
     size: usize,
-    reasons: bool,
+    manner: Manner<'_>,
     writer: &mut W,
-) -> Result<(), DrillError>
+) -> Result<(), Ended>
     requires { 0 < length octets.now → 0 < size }
-    ensures { (more : Todo) → Performs reasons result
+    ensures { (more : Todo) → Performs manner.reasons manner.armed result
         (bring_each session (pieces_in (length octets.now) size octets.now) more) more
         relay.old relay.new (W.contents writer.old) (W.contents writer.new) }
 {
@@ -330,7 +391,7 @@ fn bring<S: BlockStore, W: Write>(
     while !rest.is_empty() {
         let (piece, after) = rest.split_at(size.min(rest.len()));
         let piece = Octets::copied(alloc, piece)?;
-        perform(relay, Event::Bytes { session, piece }, reasons, writer)?;
+        perform(relay, Event::Bytes { session, piece }, manner, writer)?;
         rest = after;
     }
     Ok(())
@@ -340,19 +401,19 @@ fn bring<S: BlockStore, W: Write>(
 /// its Write.
 fn rounds<S: BlockStore, W: Write>(
     relay: &mut System<S>,
-    manner: Manner,
+    manner: Manner<'_>,
     sessions: &[u64],
     count: u64,
     now: u64,
     writer: &mut W,
-) -> Result<(), DrillError>
-    ensures { (more : Todo) → Performs manner.reasons result
+) -> Result<(), Ended>
+    ensures { (more : Todo) → Performs manner.reasons manner.armed result
         (round_each manner.groups now sessions.now count more) more
         relay.old relay.new (W.contents writer.old) (W.contents writer.new) }
 {
     for passed in 0..count {
         let _passed = passed;
-        turn_all(relay, sessions, now, manner.reasons, writer)?;
+        turn_all(relay, sessions, now, manner, writer)?;
         write_all(relay, manner, now, writer)?;
     }
     Ok(())
@@ -363,14 +424,14 @@ fn turn_all<S: BlockStore, W: Write>(
     relay: &mut System<S>,
     sessions: &[u64],
     now: u64,
-    reasons: bool,
+    manner: Manner<'_>,
     writer: &mut W,
-) -> Result<(), DrillError>
-    ensures { (more : Todo) → Performs reasons result (turn_each now sessions.now more) more
+) -> Result<(), Ended>
+    ensures { (more : Todo) → Performs manner.reasons manner.armed result (turn_each now sessions.now more) more
         relay.old relay.new (W.contents writer.old) (W.contents writer.new) }
 {
     for session in sessions {
-        turn_open(relay, *session, now, reasons, writer)?;
+        turn_open(relay, *session, now, manner, writer)?;
     }
     Ok(())
 }
@@ -380,31 +441,31 @@ fn turn_open<S: BlockStore, W: Write>(
     relay: &mut System<S>,
     session: u64,
     now: u64,
-    reasons: bool,
+    manner: Manner<'_>,
     writer: &mut W,
-) -> Result<(), DrillError>
-    ensures { (more : Todo) → Performs reasons result (todo.TurnOf session now more) more
+) -> Result<(), Ended>
+    ensures { (more : Todo) → Performs manner.reasons manner.armed result (todo.TurnOf session now more) more
         relay.old relay.new (W.contents writer.old) (W.contents writer.new) }
 {
     if !relay.is_running(session) {
         return Ok(());
     }
-    perform(relay, Event::Turn { session, now }, reasons, writer)
+    perform(relay, Event::Turn { session, now }, manner, writer)
 }
 
 /// The writer of each group has its Write.
 fn write_all<S: BlockStore, W: Write>(
     relay: &mut System<S>,
-    manner: Manner,
+    manner: Manner<'_>,
     now: u64,
     writer: &mut W,
-) -> Result<(), DrillError>
-    ensures { (more : Todo) → Performs manner.reasons result
+) -> Result<(), Ended>
+    ensures { (more : Todo) → Performs manner.reasons manner.armed result
         (write_each now 0 manner.groups more) more
         relay.old relay.new (W.contents writer.old) (W.contents writer.new) }
 {
     for group in 0..manner.groups {
-        perform(relay, Event::Write { group, now }, manner.reasons, writer)?;
+        perform(relay, Event::Write { group, now }, manner, writer)?;
     }
     Ok(())
 }
@@ -412,16 +473,20 @@ fn write_all<S: BlockStore, W: Write>(
 /// The relay is closed and started again, and it is printed whether it was.
 fn restart<S: BlockStore, W: Write>(
     relay: &mut System<S>,
-    reasons: bool,
+    manner: Manner<'_>,
     writer: &mut W,
-) -> Result<(), DrillError>
-    ensures { (more : Todo) → Performs reasons result (todo.Restarting more) more
+) -> Result<(), Ended>
+    ensures { (more : Todo) → Performs manner.reasons manner.armed result (todo.Restarting more) more
         relay.old relay.new (W.contents writer.old) (W.contents writer.new) }
 {
     let event = Event::Restart;
     let output = relay.step(&event);
     drop(event);
-    let printed = print_restart(writer, &output, reasons);
+    if is_cut(manner) {
+        drop(output);
+        return Err(Ended::Cut);
+    }
+    let printed = print_restart(writer, &output, manner.reasons);
     drop(output);
     printed?;
     Ok(())
@@ -431,15 +496,19 @@ fn restart<S: BlockStore, W: Write>(
 fn perform<S: BlockStore, W: Write>(
     relay: &mut System<S>,
     event: Event,
-    reasons: bool,
+    manner: Manner<'_>,
     writer: &mut W,
-) -> Result<(), DrillError>
-    ensures { (more : Todo) → Performs reasons result (todo.Next (event_view event) more) more
+) -> Result<(), Ended>
+    ensures { (more : Todo) → Performs manner.reasons manner.armed result (todo.Next (event_view event) more) more
         relay.old relay.new (W.contents writer.old) (W.contents writer.new) }
 {
     let output = relay.step(&event);
     drop(event);
-    let printed = print(writer, &output, reasons);
+    if is_cut(manner) {
+        drop(output);
+        return Err(Ended::Cut);
+    }
+    let printed = print(writer, &output, manner.reasons);
     drop(output);
     printed?;
     Ok(())

@@ -1,11 +1,11 @@
-//! A crash between two events: the relay is killed, repaired and started (docs/PROTOCOL.md,
-//! Crashes).
+//! A crash: the relay is killed, repaired and started (docs/PROTOCOL.md, Crashes).
 ghost use Rattle.std.specs.Prelude.{◌≡◌, ⊤, true};
-ghost use Rattle.relay_drill.specs.Crashing.{AreSized, RevivesTo, StartsOf};
+ghost use Rattle.relay_drill.specs.Crashing.{AreSized, HoldSame, RevivesTo, StartsOf};
 ghost use Rattle.relay_drill.specs.Fault.{PlayGives, unrepaired_as};
 
 use crate::fault::DrillError;
 use crate::play::{Life, Store};
+use crate::power::Supply;
 use block_shelf::StopFault;
 use cyc_block::BlockStore;
 use relay_conf::{BufferConf, Config};
@@ -15,51 +15,92 @@ use std::alloc::Global;
 use std::io::ErrorKind;
 use std::random::RandomSource;
 
-/// The relay is killed between two events, and repaired and started at this moment.
-pub fn revive(
+/// The relay is killed, and repaired and started at this moment: from what the devices had when the
+/// power went, where it is gone. From then on there is power again.
+pub fn revive<'a>(
     rt: &impl RandomSource,
     alloc: Global,
-    life: Life,
+    life: Life<'a>,
+    supply: &'a Supply,
     now: u64,
-) -> Result<Life, DrillError>
+) -> Result<Life<'a>, DrillError>
     ensures { PlayGives result (λ new. RevivesTo now life.relay new.relay) ⊤ ⊥ ⊤ }
 {
-    let Life { relay, history } = life;
+    let Life {
+        relay,
+        history,
+        earlier,
+    } = life;
+    let stop = relay.stop();
     match relay.kill() {
-        Ok(LeftBehind { config, stores }) => {
-            let revived = revive_stores(rt, alloc, config, stores, history.as_deref(), now);
-            drop(history);
-            revived
+        Ok(LeftBehind { config, mut stores }) => {
+            take_back(&mut stores);
+            if supply.is_gone() {
+                supply.renew();
+            }
+            let last = if is_any_before(&mut stores, stop) {
+                drop(history);
+                earlier
+            } else {
+                drop(earlier);
+                history
+            };
+            revive_stores(rt, alloc, config, stores, last, now)
         }
         Err(relay) => {
             relay.let_go();
             drop(history);
+            drop(earlier);
             Err(DrillError::Memory)
         }
     }
 }
 
+/// The head blocks of each store are as they were when the power went.
+fn take_back<'a>(stores: &mut [Store<'a>])
+    ensures { HoldSame ⟦<Store<'a> as BlockStore>⟧ stores.old stores.new }
+{
+    for place in 0..stores.len() {
+        stores[place].take_back();
+    }
+}
+
+/// Whether the head of a store is of an earlier stop than this.
+fn is_any_before<'a>(stores: &mut [Store<'a>], stop: u64) -> bool
+    ensures { HoldSame ⟦<Store<'a> as BlockStore>⟧ stores.old stores.new }
+{
+    let mut is_any = false;
+    for place in 0..stores.len() {
+        if stores[place].is_before(stop) {
+            is_any = true;
+        }
+    }
+    is_any
+}
+
 /// The relay that was left on these stores, repaired and started.
-fn revive_stores(
+fn revive_stores<'a>(
     rt: &impl RandomSource,
     alloc: Global,
     config: Config,
-    stores: Vec<Store>,
-    text: Option<&[u8]>,
+    stores: Vec<Store<'a>>,
+    last: Option<Vec<u8>>,
     now: u64,
-) -> Result<Life, DrillError>
+) -> Result<Life<'a>, DrillError>
     ensures { PlayGives result (λ new.
-        StartsOf ⟦<Store as BlockStore>⟧ config stores.items now new.relay) ⊤ ⊥ ⊤ }
+        StartsOf ⟦<Store<'a> as BlockStore>⟧ config stores.items now new.relay) ⊤ ⊥ ⊤ }
 {
     if !are_sized(&stores, &config.buffers.buffers) {
         drop(config);
         drop(stores);
+        drop(last);
         return Err(DrillError::Unrepaired);
     }
-    let stopped = match repair(rt, alloc, &config, stores, text, now) {
+    let stopped = match repair(rt, alloc, &config, stores, last.as_deref(), now) {
         Ok(stopped) => stopped,
         Err(why) => {
             drop(config);
+            drop(last);
             return Err(unrepaired(why));
         }
     };
@@ -68,17 +109,19 @@ fn revive_stores(
         Ok(relay) => Ok(Life {
             relay,
             history: Some(history),
+            earlier: last,
         }),
         Err(why) => {
             drop(history);
+            drop(last);
             Err(unrepaired(why))
         }
     }
 }
 
 /// Whether there is a store for each of the buffers, of its blocks.
-fn are_sized(stores: &[Store], buffers: &[BufferConf]) -> bool
-    ensures { result ≡ true → AreSized ⟦<Store as BlockStore>⟧ stores.now buffers.now }
+fn are_sized<'a>(stores: &[Store<'a>], buffers: &[BufferConf]) -> bool
+    ensures { result ≡ true → AreSized ⟦<Store<'a> as BlockStore>⟧ stores.now buffers.now }
 {
     if stores.len() != buffers.len() {
         return false;
@@ -92,7 +135,7 @@ fn are_sized(stores: &[Store], buffers: &[BufferConf]) -> bool
 }
 
 /// Why a drill ends whose relay isn't repaired and started.
-fn unrepaired(why: NotStarted<Store>) -> DrillError
+fn unrepaired(why: NotStarted<Store<'_>>) -> DrillError
     ensures { result ≡ unrepaired_as why }
 {
     match why {

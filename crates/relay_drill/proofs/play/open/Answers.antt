@@ -21,7 +21,7 @@ pub returns : goal.returns
 returns g c = λ next.
     let stand = stand_view c.args.stand.now in
     let opened = next (with_session stand c.args.session) in
-    let G : List ℕ → Type 0 = λ sessions. Goes c.args.reasons
+    let G : List ℕ → Type 0 = λ sessions. Goes c.args.manner.reasons
     (Opening c.args.session c.args.peer opened (next stand))
     (next (record stand { sessions = sessions })) c.args.relay.now c.step-output.new.self
     (g.W.Write.contents c.args.writer.now) (g.W.Write.contents c.print-printed.new.writer) in
@@ -37,7 +37,7 @@ returns-in_err-printed g c = λ next.
     let stand = stand_view c.args.stand.now in
     let opened = next (with_session stand c.args.session) in
     let output = output_view c.step-output.result in
-    fails_unwritten c.from_residual.result _ _ _ _ _ _
+    fails_unwritten _ c.from_residual.result _ _ _ _ _ _
     c.from_residual.ensures.0 c.from_residual.ensures.1
     (breaks_told _ _ _ _ _ _ _ (tells_event _ _ _ c.args.relay.now c.step-output.result
     (Answered output) c.step-output.new.self (does_open c.args.session c.args.peer opened
@@ -47,7 +47,7 @@ returns-in_err-printed g c = λ next.
 pub returns-in_err-push : goal.returns-in_err-push
 returns-in_err-push g c = λ next.
     let stand = stand_view c.args.stand.now in
-    wants_memory c.from_residual-in_err-push.result _ _ _ _ _ _ _ _
+    wants_memory _ c.from_residual-in_err-push.result _ _ _ _ _ _ _ _
     c.from_residual-in_err-push.ensures.0 c.from_residual-in_err-push.ensures.1
     (goes_open c.args.session c.args.peer (next (with_session stand c.args.session)) (next stand)
     c.args.relay.now c.step-output.new.self c.step-output.result false

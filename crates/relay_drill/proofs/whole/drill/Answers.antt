@@ -36,7 +36,7 @@ pub returns-in-Ok-play : goal.returns-in-Ok-play
 returns-in-Ok-play g c =
     let before = g.W.Write.contents c.args.writer.now in
     let after = g.W.Write.contents c.play.new.writer in
-    let life : Life = record { relay = c.in-Ok-new.relay; history = None } in
+    let life : Life = record { relay = c.in-Ok-new.relay; history = None; earlier = None } in
     let says : lines_of_script c.args.config c.in-Ok.script.items
     ≡ Ok (map line_view c.in-Ok-read_script.lines.items) =
     rw (← c.deref.ensures.value) c.in-Ok-read_script.ensures in
@@ -58,7 +58,7 @@ pub returns-in-Ok-new : goal.returns-in-Ok-new
 returns-in-Ok-new g c =
     let before = g.W.Write.contents c.args.writer.now in
     let after = g.W.Write.contents c.play.new.writer in
-    let life : Life = record { relay = c.in-Ok-new.relay; history = None } in
+    let life : Life = record { relay = c.in-Ok-new.relay; history = None; earlier = None } in
     let says : lines_of_script c.args.config c.in-Ok.script.items
     ≡ Ok (map line_view c.in-Ok-read_script.lines.items) =
     rw (← c.deref.ensures.value) c.in-Ok-read_script.ensures in
