@@ -1,6 +1,7 @@
 -- How far the code has come: one part after the other, and where it was broken off.
 use Rattle.std.proofs.Common.{◌≡◌, ℕ, Bool, List, [], ◌∷◌, ◌++◌, Option, None, Some, Result}
 use Rattle.std.proofs.Common.{Ok, Err, true, false, refl}
+use Rattle.std.proofs.lemmas.Bool.{false≢true, true≢false}
 use Rattle.std.specs.Prelude.{⊤}
 use Rattle.std.proofs.Common.{sym, subst, append_assoc, ◌∙◌}
 use Rattle.std.proofs.lemmas.Grind.{flat_map-append}
@@ -375,3 +376,39 @@ leads_on reasons result a b c old mid before held after first =
     (halts_later a b old.relay mid.relay before held after first)
     (breaks_later a b old.relay mid.relay before held after first)
     (kills_later a b old.relay mid.relay before held after first)
+
+-- Behind a line that wasn't cut comes what follows it, where a crash is still ahead or isn't.
+pub passes_on : {S : Type 0} {g : Ghosts S} (reasons armed later : Bool)
+    (next : Bool → Stand → Todo) (stand : Stand) (a : Todo) (old new : System S g)
+    (before after : Option (List ℕ)) → later ≡ armed
+    → Goes reasons a (behind_line armed next stand) old new before after
+    → Goes reasons a (next later stand) old new before after
+passes_on reasons armed later next stand a old new before after same goes =
+    subst (λ (it : Bool). Goes reasons a (next it stand) old new before after) (sym same)
+    (goes_on a (behind_line armed next stand) (next armed stand) old new new before after after goes
+    (goes_behind armed next stand new after))
+
+-- Where the power went in a line the relay is repaired.
+pub comes_to_cut : {S : Type 0} {g : Ghosts S} (reasons armed : Bool)
+    (next : Bool → Stand → Todo) (stand : Stand) (a : Todo) (old new : System S g)
+    (before after : Option (List ℕ))
+    → Loses reasons armed a (behind_line armed next stand) old new before after
+    → Goes reasons a (Crashing stand.moment (next false (deserted stand))) old new before after
+comes_to_cut reasons false next stand a old new before after loses =
+    absurd (false≢true loses.0)
+comes_to_cut reasons true next stand a old new before after loses =
+    loses.1 (Crashing stand.moment (next false (deserted stand))) refl
+
+-- A crash where none is ahead.
+pub crashes_once : (reasons : Bool) (result : Result Life DrillError) (moment : ℕ)
+    (armed later : Bool) (next : Bool → Stand → Todo) (stand there : Stand) (old : Life)
+    (before after : Option (List ℕ)) → armed ≡ false → later ≡ armed
+    → Leads reasons result (Crashing moment (next false stand)) (next false there) old before after
+    → Leads reasons result (Crashing moment (behind_line armed next stand)) (next later there) old
+    before after
+crashes_once reasons result moment false false next stand there old before after is same leads =
+    leads
+crashes_once reasons result moment false true next stand there old before after is same leads =
+    absurd (true≢false same)
+crashes_once reasons result moment true later next stand there old before after is same leads =
+    absurd (true≢false is)

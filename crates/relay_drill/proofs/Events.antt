@@ -25,11 +25,15 @@ use Rattle.relay_drill.specs.Play.{is_refused}
 use Rattle.relay_drill.specs.Crashing.{RevivesTo}
 use Rattle.relay_drill.specs.Print.{Told, Answered, Restarted, Lost, Repaired, Reported}
 use Rattle.relay_drill.specs.Print.{printed_all, told_text}
-use Rattle.relay_drill.specs.Progress.{Breaks, Follows, Goes, Loses, Under}
+use Rattle.relay_drill.specs.Progress.{Breaks, Follows, Goes, Leads, Loses, Under}
 use Rattle.relay_drill.specs.Todo.{Todo, Next, TurnOf, Restarting, Crashing, Arming, Report}
-use Rattle.relay_drill.specs.Todo.{Opening, behind_cut}
+use Rattle.relay_drill.specs.Todo.{Opening, Stand, behind_cut, behind_line, deserted}
 use Rattle.relay_report.specs.Written.{GainsFront}
-use Rattle.relay_drill.proofs.Courses.{goes_past}
+use Rattle.relay_drill.proofs.Courses.{goes_past, leads_on}
+use Rattle.relay_drill.specs.declared.fault.DrillError.{DrillError}
+use Rattle.relay_drill.specs.declared.play.Life.{Life}
+use Rattle.std.proofs.Common.{Result, refl}
+use Rattle.std.proofs.lemmas.Bool.{false≢true, true≢false}
 use Rattle.relay_report.proofs.Writes.{appends_none}
 
 -- the text of one thing
@@ -276,3 +280,25 @@ module _ {S : Type 0} {g : Ghosts S} {reasons : Bool} where
       (if b then refused else opened) old output (Answered (output_view output)) new
       (does_open session peer opened refused (output_view output) b said) steps frame)
       gained
+
+-- A crash where one was ahead, that came in the repair.
+pub crashes_again : (reasons : Bool) (result : Result Life DrillError) (armed later : Bool)
+    (next : Bool → Stand → Todo) (stand there : Stand) (old mid : Life)
+    (before after : Option (List ℕ)) → armed ≡ true → later ≡ false
+    → RevivesTo stand.moment old.relay mid.relay
+    → Leads reasons result (Crashing stand.moment (next false (deserted stand)))
+    (next false there) mid before after
+    → Leads reasons result
+    (Crashing stand.moment (behind_line armed next (deserted stand))) (next later there) old
+    before after
+crashes_again reasons result false later next stand there old mid before after is ends revives
+    leads = absurd (false≢true is)
+crashes_again reasons result true true next stand there old mid before after is ends revives
+    leads = absurd (true≢false ends)
+crashes_again reasons result true false next stand there old mid before after is ends revives
+    leads =
+    let cut = Crashing stand.moment (next false (deserted stand)) in
+    let more = behind_line true next (deserted stand) in
+    leads_on reasons result (Crashing stand.moment more) cut (next false there) old mid before
+    before after
+    (goes_again stand.moment more cut old.relay mid.relay before refl revives) leads

@@ -29,21 +29,21 @@ use std::io::Write;
 use std::random::RandomSource;
 
 /// The stores of a drill.
-pub type Store<'a> = Powered<'a>;
+pub type Store = Powered;
 
 /// The relay over such stores.
-pub type Relay<'a> = System<Store<'a>>;
+pub type Relay = System<Store>;
 
 /// The relay from its beginning or from a crash on.
-pub struct Life<'a> {
-    pub relay: Relay<'a>,
+pub struct Life {
+    pub relay: Relay,
     /// The history of its last stop, if there was one: a repair's, or a restart's.
     pub history: Option<Vec<u8>>,
     /// The one before that: where the power goes while the relay is stopped it is still the last.
     pub earlier: Option<Vec<u8>>,
 }
 
-impl Life<'_> {
+impl Life {
     /// Lets the relay go.
     pub fn let_go(self) {
         let Life {
@@ -72,14 +72,15 @@ pub struct Stand {
 
 /// Does what the lines of a script ask, one after the other, in this manner, in which no crash is
 /// ahead. `rt` seeds the hashers of a relay that is started behind a crash.
-pub fn play<'a, W: Write>(
+pub fn play<W: Write>(
     rt: &impl RandomSource,
     alloc: Global,
-    life: Life<'a>,
-    manner: Manner<'a>,
+    life: Life,
+    manner: Manner,
+    supply: &Supply,
     lines: &[Line],
     writer: &mut W,
-) -> Result<Life<'a>, DrillError>
+) -> Result<Life, DrillError>
     ensures { Leads manner.reasons result
         (lines_ask manner.groups (map line_view lines.now) todo.first_stand) todo.Done
         life (W.contents writer.old) (W.contents writer.new) }
@@ -92,22 +93,23 @@ pub fn play<'a, W: Write>(
         armed: false,
     };
     for line in lines {
-        living = play_one(rt, alloc, living, manner, &mut stand, line, writer)?;
+        living = play_one(rt, alloc, living, manner, supply, &mut stand, line, writer)?;
     }
     Ok(living)
 }
 
 /// Does what a line of a script asks: `crash` and `fail` of a relay over devices that have power,
 /// all else of any.
-fn play_one<'a, W: Write>(
+fn play_one<W: Write>(
     rt: &impl RandomSource,
     alloc: Global,
-    life: Life<'a>,
-    manner: Manner<'a>,
+    life: Life,
+    manner: Manner,
+    supply: &Supply,
     stand: &mut Stand,
     line: &Line,
     writer: &mut W,
-) -> Result<Life<'a>, DrillError>
+) -> Result<Life, DrillError>
     ensures { (next : Bool → todo.Stand → Todo) → Leads manner.reasons result
         (line_asks manner.groups (line_view line.now) (stand_view stand.old)
         (behind_line (is_armed stand.old.armed (line_view line.now)) next))
@@ -115,31 +117,32 @@ fn play_one<'a, W: Write>(
         life (W.contents writer.old) (W.contents writer.new) }
 {
     match line {
-        Line::Crash => crash(rt, alloc, life, manner.supply, stand, writer),
+        Line::Crash => crash(rt, alloc, life, supply, stand, writer),
         Line::CrashAt(buffer, call) => {
-            manner.supply.end(*buffer, *call);
+            supply.end(*buffer, *call);
             stand.armed = true;
             Ok(life)
         }
         Line::Fail(buffer, call) => {
-            manner.supply.fail(*buffer, *call);
+            supply.fail(*buffer, *call);
             Ok(life)
         }
-        _ => play_on(rt, alloc, life, manner, stand, line, writer),
+        _ => play_on(rt, alloc, life, manner, supply, stand, line, writer),
     }
 }
 
 /// Does what a line asks of a relay over any devices; where the power goes in it, the relay is
 /// repaired.
-fn play_on<'a, W: Write>(
+fn play_on<W: Write>(
     rt: &impl RandomSource,
     alloc: Global,
-    life: Life<'a>,
-    manner: Manner<'a>,
+    life: Life,
+    manner: Manner,
+    supply: &Supply,
     stand: &mut Stand,
     line: &Line,
     writer: &mut W,
-) -> Result<Life<'a>, DrillError>
+) -> Result<Life, DrillError>
     ensures { (next : Bool → todo.Stand → Todo) → Leads manner.reasons result
         (line_asks manner.groups (line_view line.now) (stand_view stand.old)
         (behind_line stand.old.armed next))
@@ -149,13 +152,13 @@ fn play_on<'a, W: Write>(
     let mut life = life;
     let stop = life.relay.stop();
     let manner = with_armed(manner, stand.armed);
-    let ended = play_line(alloc, &mut life.relay, manner, stand, line, writer);
+    let ended = play_line(alloc, &mut life.relay, manner, supply, stand, line, writer);
     match ended {
         Ok(()) => noted(life, stop),
         Err(Ended::Cut) => {
             let life = noted(life, stop)?;
             stand.armed = false;
-            crash(rt, alloc, life, manner.supply, stand, writer)
+            crash(rt, alloc, life, supply, stand, writer)
         }
         Err(Ended::Faulty(error)) => {
             life.let_go();
@@ -165,7 +168,7 @@ fn play_on<'a, W: Write>(
 }
 
 /// Where the relay was closed since this stop, its history is noted, as a stop writes it.
-fn noted(life: Life<'_>, stop: u64) -> Result<Life<'_>, DrillError>
+fn noted(life: Life, stop: u64) -> Result<Life, DrillError>
     ensures relay { IfOk result (λ noted. noted.relay ≡ life.relay) }
     ensures memory { IfErr result (λ error. error ≡ faults.Memory) }
 {
@@ -182,7 +185,7 @@ fn noted(life: Life<'_>, stop: u64) -> Result<Life<'_>, DrillError>
 }
 
 /// The same with this history of the last stop.
-fn with_history(life: Life<'_>, history: Vec<u8>) -> Life<'_>
+fn with_history(life: Life, history: Vec<u8>) -> Life
     ensures { result.relay ≡ life.relay }
 {
     let Life {
@@ -200,14 +203,14 @@ fn with_history(life: Life<'_>, history: Vec<u8>) -> Life<'_>
 
 /// The relay is killed, and repaired and started at the moment that a line named last: nobody is
 /// here then. Where a crash is ahead, and comes meanwhile, it is so once more.
-fn crash<'a, W: Write>(
+fn crash<W: Write>(
     rt: &impl RandomSource,
     alloc: Global,
-    life: Life<'a>,
-    supply: &'a Supply,
+    life: Life,
+    supply: &Supply,
     stand: &mut Stand,
     writer: &mut W,
-) -> Result<Life<'a>, DrillError>
+) -> Result<Life, DrillError>
     ensures { (reasons : Bool) (next : Bool → todo.Stand → Todo) → Leads reasons result
         (todo.Crashing stand.old.moment
         (behind_line stand.old.armed next (deserted (stand_view stand.old))))
@@ -233,14 +236,14 @@ fn crash<'a, W: Write>(
 }
 
 /// It is killed, repaired and started, with power throughout.
-fn crash_once<'a, W: Write>(
+fn crash_once<W: Write>(
     rt: &impl RandomSource,
     alloc: Global,
-    life: Life<'a>,
-    supply: &'a Supply,
+    life: Life,
+    supply: &Supply,
     stand: &mut Stand,
     writer: &mut W,
-) -> Result<Life<'a>, DrillError>
+) -> Result<Life, DrillError>
     ensures crashed { (reasons : Bool) (next : todo.Stand → Todo) → Leads reasons result
         (todo.Crashing stand.old.moment (next (deserted (stand_view stand.old))))
         (next (stand_view stand.new))
@@ -262,7 +265,8 @@ fn crash_once<'a, W: Write>(
 fn play_line<S: BlockStore, W: Write>(
     alloc: Global,
     relay: &mut System<S>,
-    manner: Manner<'_>,
+    manner: Manner,
+    supply: &Supply,
     stand: &mut Stand,
     line: &Line,
     writer: &mut W,
@@ -277,7 +281,7 @@ fn play_line<S: BlockStore, W: Write>(
         Line::Open(session, peer) => open(relay, stand, session, peer, manner, writer),
         Line::Bring(session, ref octets) => {
             let size = piece_size(stand, octets);
-            bring(alloc, relay, session, octets, size, manner, writer)
+            bring(alloc, relay, session, octets, size, manner, supply, writer)
         }
         Line::Split(size) => {
             stand.piece = Some(size);
@@ -285,26 +289,26 @@ fn play_line<S: BlockStore, W: Write>(
         }
         Line::Turn(session, now) => {
             stand.moment = now;
-            perform(relay, Event::Turn { session, now }, manner, writer)
+            perform(relay, Event::Turn { session, now }, manner, supply, writer)
         }
         Line::Write(group, now) => {
             stand.moment = now;
-            perform(relay, Event::Write { group, now }, manner, writer)
+            perform(relay, Event::Write { group, now }, manner, supply, writer)
         }
         Line::Rounds(count, now) => {
             stand.moment = now;
-            rounds(relay, manner, &stand.sessions, count, now, writer)
+            rounds(relay, manner, supply, &stand.sessions, count, now, writer)
         }
-        Line::Break(session) => perform(relay, Event::Break { session }, manner, writer),
+        Line::Break(session) => perform(relay, Event::Break { session }, manner, supply, writer),
         Line::Expire(shard, now) => {
             stand.moment = now;
-            perform(relay, Event::Expire { shard, now }, manner, writer)
+            perform(relay, Event::Expire { shard, now }, manner, supply, writer)
         }
         Line::Fail(_, _) => Ok(()),
         Line::CrashAt(_, _) => Ok(()),
         // Devices of no kind are repaired here.
         Line::Crash => Err(Ended::Faulty(DrillError::Unrepaired)),
-        Line::Restart => restart(relay, manner, writer),
+        Line::Restart => restart(relay, manner, supply, writer),
         Line::Report => print_report(alloc, relay, writer),
     }
 }
@@ -342,7 +346,7 @@ fn open<S: BlockStore, W: Write>(
     stand: &mut Stand,
     session: u64,
     peer: usize,
-    manner: Manner<'_>,
+    manner: Manner,
     writer: &mut W,
 ) -> Result<(), Ended>
     ensures { (next : todo.Stand → Todo) → Performs manner.reasons manner.armed result
@@ -379,7 +383,8 @@ fn bring<S: BlockStore, W: Write>(
     session: u64,
     octets: &[u8],
     size: usize,
-    manner: Manner<'_>,
+    manner: Manner,
+    supply: &Supply,
     writer: &mut W,
 ) -> Result<(), Ended>
     requires { 0 < length octets.now → 0 < size }
@@ -391,7 +396,13 @@ fn bring<S: BlockStore, W: Write>(
     while !rest.is_empty() {
         let (piece, after) = rest.split_at(size.min(rest.len()));
         let piece = Octets::copied(alloc, piece)?;
-        perform(relay, Event::Bytes { session, piece }, manner, writer)?;
+        perform(
+            relay,
+            Event::Bytes { session, piece },
+            manner,
+            supply,
+            writer,
+        )?;
         rest = after;
     }
     Ok(())
@@ -401,7 +412,8 @@ fn bring<S: BlockStore, W: Write>(
 /// its Write.
 fn rounds<S: BlockStore, W: Write>(
     relay: &mut System<S>,
-    manner: Manner<'_>,
+    manner: Manner,
+    supply: &Supply,
     sessions: &[u64],
     count: u64,
     now: u64,
@@ -413,8 +425,8 @@ fn rounds<S: BlockStore, W: Write>(
 {
     for passed in 0..count {
         let _passed = passed;
-        turn_all(relay, sessions, now, manner, writer)?;
-        write_all(relay, manner, now, writer)?;
+        turn_all(relay, sessions, now, manner, supply, writer)?;
+        write_all(relay, manner, supply, now, writer)?;
     }
     Ok(())
 }
@@ -424,14 +436,15 @@ fn turn_all<S: BlockStore, W: Write>(
     relay: &mut System<S>,
     sessions: &[u64],
     now: u64,
-    manner: Manner<'_>,
+    manner: Manner,
+    supply: &Supply,
     writer: &mut W,
 ) -> Result<(), Ended>
     ensures { (more : Todo) → Performs manner.reasons manner.armed result (turn_each now sessions.now more) more
         relay.old relay.new (W.contents writer.old) (W.contents writer.new) }
 {
     for session in sessions {
-        turn_open(relay, *session, now, manner, writer)?;
+        turn_open(relay, *session, now, manner, supply, writer)?;
     }
     Ok(())
 }
@@ -441,7 +454,8 @@ fn turn_open<S: BlockStore, W: Write>(
     relay: &mut System<S>,
     session: u64,
     now: u64,
-    manner: Manner<'_>,
+    manner: Manner,
+    supply: &Supply,
     writer: &mut W,
 ) -> Result<(), Ended>
     ensures { (more : Todo) → Performs manner.reasons manner.armed result (todo.TurnOf session now more) more
@@ -450,13 +464,14 @@ fn turn_open<S: BlockStore, W: Write>(
     if !relay.is_running(session) {
         return Ok(());
     }
-    perform(relay, Event::Turn { session, now }, manner, writer)
+    perform(relay, Event::Turn { session, now }, manner, supply, writer)
 }
 
 /// The writer of each group has its Write.
 fn write_all<S: BlockStore, W: Write>(
     relay: &mut System<S>,
-    manner: Manner<'_>,
+    manner: Manner,
+    supply: &Supply,
     now: u64,
     writer: &mut W,
 ) -> Result<(), Ended>
@@ -465,7 +480,7 @@ fn write_all<S: BlockStore, W: Write>(
         relay.old relay.new (W.contents writer.old) (W.contents writer.new) }
 {
     for group in 0..manner.groups {
-        perform(relay, Event::Write { group, now }, manner, writer)?;
+        perform(relay, Event::Write { group, now }, manner, supply, writer)?;
     }
     Ok(())
 }
@@ -473,7 +488,8 @@ fn write_all<S: BlockStore, W: Write>(
 /// The relay is closed and started again, and it is printed whether it was.
 fn restart<S: BlockStore, W: Write>(
     relay: &mut System<S>,
-    manner: Manner<'_>,
+    manner: Manner,
+    supply: &Supply,
     writer: &mut W,
 ) -> Result<(), Ended>
     ensures { (more : Todo) → Performs manner.reasons manner.armed result (todo.Restarting more) more
@@ -482,7 +498,7 @@ fn restart<S: BlockStore, W: Write>(
     let event = Event::Restart;
     let output = relay.step(&event);
     drop(event);
-    if is_cut(manner) {
+    if is_cut(manner, supply) {
         drop(output);
         return Err(Ended::Cut);
     }
@@ -496,7 +512,8 @@ fn restart<S: BlockStore, W: Write>(
 fn perform<S: BlockStore, W: Write>(
     relay: &mut System<S>,
     event: Event,
-    manner: Manner<'_>,
+    manner: Manner,
+    supply: &Supply,
     writer: &mut W,
 ) -> Result<(), Ended>
     ensures { (more : Todo) → Performs manner.reasons manner.armed result (todo.Next (event_view event) more) more
@@ -504,7 +521,7 @@ fn perform<S: BlockStore, W: Write>(
 {
     let output = relay.step(&event);
     drop(event);
-    if is_cut(manner) {
+    if is_cut(manner, supply) {
         drop(output);
         return Err(Ended::Cut);
     }

@@ -4,6 +4,7 @@ ghost use Rattle.relay_drill.specs.Power.{GoesBehind, after_call, is_gone, one_l
 
 use std::alloc::{AllocError, Global};
 use std::cell::Cell;
+use std::rc::Rc;
 
 /// Whether devices have power.
 #[derive(Clone, Copy)]
@@ -65,9 +66,15 @@ pub enum Fate {
     Late,
 }
 
-/// The power of the devices of all buffers, and which call of each fails.
+/// The power of the devices of all buffers, and which call of each fails, as who shares it has it.
 #[derive(Drop)]
 pub struct Supply {
+    mains: Rc<Mains>,
+}
+
+/// The power of the devices of all buffers, and which call of each fails.
+#[derive(Drop)]
+struct Mains {
     power: Cell<Power>,
     /// Of each buffer the calls up to the one that fails, and that one; 0 where none is to fail.
     failing: Vec<Cell<u64>>,
@@ -80,16 +87,26 @@ impl Supply {
         for _buffer in 0..buffers {
             failing.push(Cell::new(0))?;
         }
-        Ok(Supply {
-            power: Cell::new(Power::On),
-            failing,
-        })
+        let mains = Rc::new(
+            alloc,
+            Mains {
+                power: Cell::new(Power::On),
+                failing,
+            },
+        )?;
+        Ok(Supply { mains })
+    }
+
+    /// The same, for one more who shares it.
+    pub fn share(&self) -> Result<Supply, AllocError> {
+        let mains = self.mains.clone()?;
+        Ok(Supply { mains })
     }
 
     /// From here call number k of this buffer's device fails, once. A call of it that was to fail
     /// before no longer is.
     pub fn fail(&self, buffer: usize, k: u64) {
-        if let Some(left) = self.failing.get(buffer) {
+        if let Some(left) = self.mains.failing.get(buffer) {
             left.set(k);
         }
     }
@@ -97,26 +114,26 @@ impl Supply {
     /// From here call number k of this buffer's device is the last that there is power for,
     /// whichever was to be before.
     pub fn end(&self, buffer: usize, k: u64) {
-        self.power.set(Power::Ends(buffer, k));
+        self.mains.power.set(Power::Ends(buffer, k));
     }
 
     /// There is power again.
     pub fn renew(&self) {
-        self.power.set(Power::On);
+        self.mains.power.set(Power::On);
     }
 
     /// Whether the power is gone.
     pub fn is_gone(&self) -> bool {
-        is_gone(self.power.get())
+        is_gone(self.mains.power.get())
     }
 
     /// What becomes of a call of this buffer's device, which is counted.
     pub fn call(&self, buffer: usize) -> Fate {
-        let power = self.power.get();
+        let power = self.mains.power.get();
         if is_gone(power) {
             return Fate::Late;
         }
-        self.power.set(after_call(power, buffer));
+        self.mains.power.set(after_call(power, buffer));
         if self.is_failing(buffer) {
             return Fate::Fails;
         }
@@ -125,7 +142,7 @@ impl Supply {
 
     /// Whether this call of this buffer's device is the one that fails; it is counted.
     fn is_failing(&self, buffer: usize) -> bool {
-        match self.failing.get(buffer) {
+        match self.mains.failing.get(buffer) {
             Some(left) => {
                 let due = left.get();
                 left.set(due.saturating_sub(1));

@@ -21,7 +21,8 @@ pub struct HeadBefore {
 /// Blocks in memory that have power from a supply. Who calls them behind the last call that there
 /// was power for isn't told: a head block is written, and kept as it was besides, so that all of
 /// that can be taken back; a block isn't written, which is told as a failure.
-pub struct Powered<'a> {
+#[derive(Drop)]
+pub struct Powered {
     store: MemoryBlocks,
     /// The reads and writes.
     calls: Tally,
@@ -29,40 +30,21 @@ pub struct Powered<'a> {
     failed: Tally,
     /// The number of its buffer.
     buffer: usize,
-    supply: &'a Supply,
+    supply: Supply,
     alloc: Global,
     /// The head blocks that were written since the power went, as they were, the first one first.
     before: Vec<HeadBefore>,
 }
 
-// Written out, so that nobody who has one proves anew how each part is let go.
-impl Drop for Powered<'_> {
-    fn drop(self) {
-        let Powered {
-            store: _,
-            calls: _,
-            failed: _,
-            buffer: _,
-            supply: _,
-            alloc: _,
-            before: _,
-        } = self;
-    }
-}
-
-impl<'a> Powered<'a> {
+impl Powered {
     /// So many blocks of zeros, and their head blocks, of this buffer.
-    pub fn new(
-        alloc: Global,
-        supply: &'a Supply,
-        buffer: usize,
-        n: u32,
-    ) -> Result<Powered<'a>, AllocError>
+    pub fn new(alloc: Global, supply: &Supply, buffer: usize, n: u32) -> Result<Powered, AllocError>
         ensures blocks { IfOk result (λ powered.
-            ⟦<Powered<'a> as BlockStore>⟧.blocks powered ≡ empty_blocks n) }
+            ⟦<Powered as BlockStore>⟧.blocks powered ≡ empty_blocks n) }
         ensures well { IfOk result (λ powered.
-            ⟦<Powered<'a> as BlockStore>⟧.failures powered ≡ 0) }
+            ⟦<Powered as BlockStore>⟧.failures powered ≡ 0) }
     {
+        let supply = supply.share()?;
         let store = MemoryBlocks::new(alloc, n)?;
         Ok(Powered {
             store,
@@ -77,8 +59,8 @@ impl<'a> Powered<'a> {
 
     /// Its head blocks are again as they were when the power went.
     pub fn take_back(&mut self)
-        ensures { ⟦<Powered<'a> as BlockStore>⟧.blocks self.new
-            ≡ ⟦<Powered<'a> as BlockStore>⟧.blocks self.old }
+        ensures { ⟦<Powered as BlockStore>⟧.blocks self.new
+            ≡ ⟦<Powered as BlockStore>⟧.blocks self.old }
     {
         let before = mem::replace(&mut self.before, Vec::new(self.alloc));
         write_back(&mut self.store, &before);
@@ -86,8 +68,8 @@ impl<'a> Powered<'a> {
 
     /// Whether its head is of an earlier stop than this.
     pub fn is_before(&mut self, stop: u64) -> bool
-        ensures { ⟦<Powered<'a> as BlockStore>⟧.blocks self.new
-            ≡ ⟦<Powered<'a> as BlockStore>⟧.blocks self.old }
+        ensures { ⟦<Powered as BlockStore>⟧.blocks self.new
+            ≡ ⟦<Powered as BlockStore>⟧.blocks self.old }
     {
         let mut octets = [0; BLOCK_OCTETS];
         if self.store.read_head(0, &mut octets).is_err() {
@@ -150,7 +132,7 @@ fn write_back(store: &mut MemoryBlocks, before: &[HeadBefore])
     }
 }
 
-impl BlockStore for Powered<'_> {
+impl BlockStore for Powered {
     ghost blocks = { λ powered. ⟦<MemoryBlocks as BlockStore>⟧.blocks powered.store };
 
     ghost heads = { λ powered. ⟦<MemoryBlocks as BlockStore>⟧.heads powered.store };

@@ -17,13 +17,13 @@ use std::random::RandomSource;
 
 /// The relay is killed, and repaired and started at this moment: from what the devices had when the
 /// power went, where it is gone. From then on there is power again.
-pub fn revive<'a>(
+pub fn revive(
     rt: &impl RandomSource,
     alloc: Global,
-    life: Life<'a>,
-    supply: &'a Supply,
+    life: Life,
+    supply: &Supply,
     now: u64,
-) -> Result<Life<'a>, DrillError>
+) -> Result<Life, DrillError>
     ensures { PlayGives result (λ new. RevivesTo now life.relay new.relay) ⊤ ⊥ ⊤ }
 {
     let Life {
@@ -57,8 +57,8 @@ pub fn revive<'a>(
 }
 
 /// The head blocks of each store are as they were when the power went.
-fn take_back<'a>(stores: &mut [Store<'a>])
-    ensures { HoldSame ⟦<Store<'a> as BlockStore>⟧ stores.old stores.new }
+fn take_back(stores: &mut [Store])
+    ensures { HoldSame ⟦<Store as BlockStore>⟧ stores.old stores.new }
 {
     for place in 0..stores.len() {
         stores[place].take_back();
@@ -66,8 +66,8 @@ fn take_back<'a>(stores: &mut [Store<'a>])
 }
 
 /// Whether the head of a store is of an earlier stop than this.
-fn is_any_before<'a>(stores: &mut [Store<'a>], stop: u64) -> bool
-    ensures { HoldSame ⟦<Store<'a> as BlockStore>⟧ stores.old stores.new }
+fn is_any_before(stores: &mut [Store], stop: u64) -> bool
+    ensures { HoldSame ⟦<Store as BlockStore>⟧ stores.old stores.new }
 {
     let mut is_any = false;
     for place in 0..stores.len() {
@@ -79,16 +79,16 @@ fn is_any_before<'a>(stores: &mut [Store<'a>], stop: u64) -> bool
 }
 
 /// The relay that was left on these stores, repaired and started.
-fn revive_stores<'a>(
+fn revive_stores(
     rt: &impl RandomSource,
     alloc: Global,
     config: Config,
-    stores: Vec<Store<'a>>,
+    stores: Vec<Store>,
     last: Option<Vec<u8>>,
     now: u64,
-) -> Result<Life<'a>, DrillError>
+) -> Result<Life, DrillError>
     ensures { PlayGives result (λ new.
-        StartsOf ⟦<Store<'a> as BlockStore>⟧ config stores.items now new.relay) ⊤ ⊥ ⊤ }
+        StartsOf ⟦<Store as BlockStore>⟧ config stores.items now new.relay) ⊤ ⊥ ⊤ }
 {
     if !are_sized(&stores, &config.buffers.buffers) {
         drop(config);
@@ -120,8 +120,8 @@ fn revive_stores<'a>(
 }
 
 /// Whether there is a store for each of the buffers, of its blocks.
-fn are_sized<'a>(stores: &[Store<'a>], buffers: &[BufferConf]) -> bool
-    ensures { result ≡ true → AreSized ⟦<Store<'a> as BlockStore>⟧ stores.now buffers.now }
+fn are_sized(stores: &[Store], buffers: &[BufferConf]) -> bool
+    ensures { result ≡ true → AreSized ⟦<Store as BlockStore>⟧ stores.now buffers.now }
 {
     if stores.len() != buffers.len() {
         return false;
@@ -135,7 +135,7 @@ fn are_sized<'a>(stores: &[Store<'a>], buffers: &[BufferConf]) -> bool
 }
 
 /// Why a drill ends whose relay isn't repaired and started.
-fn unrepaired(why: NotStarted<Store<'_>>) -> DrillError
+fn unrepaired(why: NotStarted<Store>) -> DrillError
     ensures { result ≡ unrepaired_as why }
 {
     match why {

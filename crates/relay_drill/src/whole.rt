@@ -67,7 +67,6 @@ pub fn drill<R: Read, W: Write>(
         groups: config.buffers.groups.len(),
         reasons,
         armed: false,
-        supply: &supply,
     };
     match System::new(rt, alloc, config, stores) {
         Ok(relay) => {
@@ -76,7 +75,7 @@ pub fn drill<R: Read, W: Write>(
                 history: None,
                 earlier: None,
             };
-            match play(rt, alloc, life, manner, &lines, writer) {
+            match play(rt, alloc, life, manner, &supply, &lines, writer) {
                 Ok(life) => {
                     life.let_go();
                     Ok(())
@@ -89,7 +88,7 @@ pub fn drill<R: Read, W: Write>(
 }
 
 /// Why a drill ends whose relay doesn't begin.
-fn refused(error: BeginError<Store<'_>>) -> DrillError
+fn refused(error: BeginError<Store>) -> DrillError
     ensures { result ≡ told_as error }
 {
     match error {
@@ -109,13 +108,13 @@ fn unbegun(kind: ErrorKind) -> DrillError
 }
 
 /// A store in memory for each of the buffers, of its blocks, with power from this supply.
-fn new_stores<'a>(
+fn new_stores(
     alloc: Global,
-    supply: &'a Supply,
+    supply: &Supply,
     buffers: &[BufferConf],
-) -> Result<Vec<Store<'a>>, AllocError>
+) -> Result<Vec<Store>, AllocError>
     ensures { IfOk result (λ stores.
-        AreStoresOf ⟦<Store<'a> as BlockStore>⟧ buffers.now stores.items) }
+        AreStoresOf ⟦<Store as BlockStore>⟧ buffers.now stores.items) }
 {
     let mut stores = Vec::with_capacity(alloc, buffers.len())?;
     for buffer in buffers {
