@@ -49,7 +49,7 @@ use Rattle.relay_drill.specs.Progress.{Breaks, Follows, Goes, Halts, Kills, Lead
 use Rattle.relay_drill.specs.Todo.{Todo}
 use Rattle.relay_drill.specs.declared.fault.DrillError.TheVariants as faults
 use Rattle.relay_drill.specs.declared.play.Life.{Life}
-use Rattle.relay_drill.proofs.Courses.{halts_there}
+use Rattle.relay_drill.proofs.Courses.{goes_none, halts_there, leads_on}
 use Rattle.relay_drill.specs.Reviving.{Revives, IsFound, IsUnsaid, none_failed}
 
 -- where the test says so no device has failed
@@ -201,6 +201,14 @@ noted_leads {reasons = reasons} (Err error) a b old mid before after same memory
     let P : DrillError → Type 0 = λ it. FailGives it (Halts reasons a old.relay before after)
     (Breaks reasons a old.relay before after) (Kills reasons a old.relay before after) in
     subst P (sym memory) (halts_there a b old.relay mid.relay before after goes)
+
+-- What was done of a life whose history was noted was done of it.
+pub noted_again : (reasons : Bool) (result : Result Life DrillError) (a b : Todo) (old mid : Life)
+    (before after : Option (List ℕ)) → mid.relay ≡ old.relay
+    → Leads reasons result a b mid before after → Leads reasons result a b old before after
+noted_again reasons result a b old mid before after same leads =
+    leads_on reasons result a a b old mid before before after (rw same (goes_none a old.relay before))
+    leads
 
 -- What is started of the stores that a life left is that life, revived.
 pub revived : (config : Config) (moment : ℕ) (old : Life) (stores : List Powered)

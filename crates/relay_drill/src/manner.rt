@@ -14,19 +14,6 @@ pub struct Manner {
     pub armed: bool,
 }
 
-/// The same where a crash is ahead, or isn't.
-pub fn with_armed(manner: Manner, armed: bool) -> Manner
-    ensures groups { result.groups ≡ manner.groups }
-    ensures reasons { result.reasons ≡ manner.reasons }
-    ensures armed { result.armed ≡ armed }
-{
-    Manner {
-        groups: manner.groups,
-        reasons: manner.reasons,
-        armed,
-    }
-}
-
 /// Whether a crash was ahead, and has come.
 pub fn is_cut(manner: Manner, supply: &Supply) -> bool
     ensures { result ≡ true → manner.armed ≡ true }

@@ -1,5 +1,5 @@
 //! Doing what the lines of a script ask of the relay, and printing what it answers.
-ghost use Rattle.std.specs.Prelude.{◌≡◌, ◌<◌, ℕ, Bool, List, Option, length, map, IfErr, IfOk};
+ghost use Rattle.std.specs.Prelude.{◌≡◌, ◌<◌, ℕ, Bool, false, List, length, map, IfErr, IfOk};
 ghost use Rattle.relay_core.specs.Views.{event_view, output_view};
 ghost use Rattle.relay_model.specs.Run as run;
 ghost use Rattle.relay_drill.specs.declared.fault.DrillError.TheVariants as faults;
@@ -14,7 +14,7 @@ ghost use Rattle.relay_drill.specs.Todo.{with_session, write_each};
 
 use crate::fault::{DrillError, Ended};
 use crate::line::{Line, PieceSize};
-use crate::manner::{Manner, is_cut, with_armed};
+use crate::manner::{Manner, is_cut};
 use crate::power::Supply;
 use crate::powered::Powered;
 use crate::print::{print, print_repaired, print_restart};
@@ -151,20 +151,41 @@ fn play_on<W: Write>(
 {
     let mut life = life;
     let stop = life.relay.stop();
-    let manner = with_armed(manner, stand.armed);
+    let manner = Manner {
+        groups: manner.groups,
+        reasons: manner.reasons,
+        armed: stand.armed,
+    };
     let ended = play_line(alloc, &mut life.relay, manner, supply, stand, line, writer);
     match ended {
         Ok(()) => noted(life, stop),
-        Err(Ended::Cut) => {
-            let life = noted(life, stop)?;
-            stand.armed = false;
-            crash(rt, alloc, life, supply, stand, writer)
-        }
+        Err(Ended::Cut) => cut(rt, alloc, life, stop, supply, stand, writer),
         Err(Ended::Faulty(error)) => {
             life.let_go();
             Err(error)
         }
     }
+}
+
+/// The power went in a line, before which this was the last stop.
+fn cut<W: Write>(
+    rt: &impl RandomSource,
+    alloc: Global,
+    life: Life,
+    stop: u64,
+    supply: &Supply,
+    stand: &mut Stand,
+    writer: &mut W,
+) -> Result<Life, DrillError>
+    ensures crashed { (reasons : Bool) (next : todo.Stand → Todo) → Leads reasons result
+        (todo.Crashing stand.old.moment (next (deserted (stand_view stand.old))))
+        (next (stand_view stand.new))
+        life (W.contents writer.old) (W.contents writer.new) }
+    ensures armed { stand.new.armed ≡ false }
+{
+    stand.armed = false;
+    let life = noted(life, stop)?;
+    crash_once(rt, alloc, life, supply, stand, writer)
 }
 
 /// Where the relay was closed since this stop, its history is noted, as a stop writes it.
