@@ -1,8 +1,8 @@
-#!/usr/bin/env python3
 """Lets a peer send articles to `cnrelay serve` for some minutes, and checks what is remembered of them and what is forgotten.
 
-forgetting.py [CNRELAY [MINUTES [REMEMBER [FOLDER]]]]: CNRELAY is the program, crates/cnrelay/out/cnrelay without it; ten
-minutes, and sixty seconds that ids are remembered. A sender connects anew every second, so that a round of forgetting goes
+    tools/check bench forgetting [MINUTES [REMEMBER [WORK]]]
+
+Ten minutes, and sixty seconds that ids are remembered. A sender connects anew every second, so that a round of forgetting goes
 each second, and sends articles in turn for two small buffers, and now and then one that is refused. An asker on another
 port offers ids that were sent: younger than REMEMBER they have to be answered 438; older, and gone from their buffer, 238.
 Memory has to stay flat but for what is kept of each article for the counts at the end. Status 1 where anything is wrong.
@@ -10,24 +10,17 @@ Everything goes over 127.0.0.0/8.
 """
 import collections
 import random
-import shutil
-import signal
-import socket
 import statistics
-import sys
-import tempfile
 import time
 from email.utils import formatdate
-from pathlib import Path
 
-import servers
+from lib import ports, servers
+from lib.nntp import called
+from lib.trying import Wrong, room
 
-HERE = Path(__file__).resolve().parent
-PROGRAM = sys.argv[1] if len(sys.argv) > 1 else str(HERE.parent / "crates/cnrelay/out/cnrelay")
-MINUTES = float(sys.argv[2]) if len(sys.argv) > 2 else 10
-REMEMBER = int(sys.argv[3]) if len(sys.argv) > 3 else 60
-FOLDER = sys.argv[4] if len(sys.argv) > 4 else "/var/tmp"
-PORT = 21951
+# main sets what was said.
+MINUTES, REMEMBER = 10.0, 60
+PORT = ports.free(4)
 # Each of the two buffers: 256 blocks, so 128 articles of two blocks.
 KILOBYTES = 128
 SECOND = 1
@@ -42,29 +35,19 @@ REFUSED = 10
 MOST = 400
 
 
-class Peer:
-    """A connection, its greeting read."""
+def read(peer):
+    """The next line, without its end."""
+    line = peer.line().decode("ascii").rstrip("\r\n")
+    if not line:
+        raise Wrong("a connection ended")
+    return line
 
-    def __init__(self, port):
-        self.socket = socket.create_connection(("127.0.0.1", port), 30)
-        self.lines = self.socket.makefile("rb")
-        self.read()
 
-    def read(self):
-        line = self.lines.readline().decode("ascii").rstrip("\r\n")
-        if not line:
-            raise servers.Trouble("a connection ended")
-        return line
-
-    def send(self, octets):
-        self.socket.sendall(octets)
-
-    def quit(self):
-        self.send(b"QUIT\r\n")
-        while not self.read().startswith("205"):
-            pass
-        self.lines.close()
-        self.socket.close()
+def quit(peer):
+    peer.send(b"QUIT\r\n")
+    while not read(peer).startswith("205"):
+        pass
+    peer.closes()
 
 
 def article(ident, group, is_refused):
@@ -76,28 +59,28 @@ def article(ident, group, is_refused):
 
 def send_batch(first, sent, wrong):
     """Sends so many articles over a connection of their own, and notes when each was answered, and how."""
-    peer = Peer(PORT)
+    peer = called(PORT, 30)
     idents = [f"<{number}.{number * 7919 % 10_007}@soak.example>" for number in range(first, first + BATCH)]
     for at, ident in enumerate(idents):
         peer.send(article(ident, servers.GROUPS[at % 2], at % REFUSED == 0))
     for at, ident in enumerate(idents):
         code = "439" if at % REFUSED == 0 else "239"
-        reply = peer.read()
+        reply = read(peer)
         if reply != f"{code} {ident}":
             wrong.append(f"TAKETHIS {ident}: {reply}, not {code}")
         sent.append((time.time(), ident))
-    peer.quit()
+    quit(peer)
 
 
 def ask(sent, wrong, counts):
     """Offers some ids that were sent, over a connection of the asker's, and compares the answers."""
-    peer = Peer(PORT + 1)
+    peer = called(PORT + 1, 30)
     now = time.time()
     places = random.sample(range(len(sent)), min(60, len(sent)))
     asked = [sent[place] for place in places]
     peer.send("".join(f"CHECK {ident}\r\n" for _, ident in asked).encode("ascii"))
     for stored, ident in asked:
-        age, reply = now - stored, peer.read().split()[0]
+        age, reply = now - stored, read(peer).split()[0]
         if age < REMEMBER - EARLY:
             right = {"438"}
         elif age > REMEMBER + LATE:
@@ -107,31 +90,30 @@ def ask(sent, wrong, counts):
         counts[reply] += 1
         if reply not in right:
             wrong.append(f"CHECK {ident} after {age:.1f} s: {reply}")
-    peer.quit()
+    quit(peer)
 
 
 def soak(folder):
     wrong, counts, sent, seen = [], collections.Counter(), [], []
-    with open(folder / "told", "w+") as told:
-        relay = servers.relay(PROGRAM, folder / "relay", PORT, KILOBYTES, 1, (f"remember {REMEMBER}",), stderr=told)
-        try:
-            begun, number, asked_of = time.monotonic(), 0, 0
-            while time.monotonic() - begun < 60 * MINUTES and len(wrong) < 20:
-                turn = time.monotonic()
-                send_batch(number, sent, wrong)
-                number += BATCH
-                # The newest articles may still lie in their buffers: of those nothing old is asked.
-                if sent:
-                    ask(sent, wrong, counts)
-                # What is long forgotten may be asked again, but needn't be kept here for ever.
-                if len(sent) > 200 * BATCH:
-                    del sent[: 50 * BATCH]
-                seen.append((time.monotonic() - begun, number * (REFUSED - 1) // REFUSED, relay.memory()[0]))
-                time.sleep(max(0, SECOND - (time.monotonic() - turn)))
-            if not relay.is_running():
-                raise servers.Trouble(f"serve ended with {relay.process.returncode}")
-        finally:
-            relay.stop()
+    relay = servers.relay(folder / "relay", PORT, KILOBYTES, 1, (f"remember {REMEMBER}",))
+    try:
+        begun, number, asked_of = time.monotonic(), 0, 0
+        while time.monotonic() - begun < 60 * MINUTES and len(wrong) < 20:
+            turn = time.monotonic()
+            send_batch(number, sent, wrong)
+            number += BATCH
+            # The newest articles may still lie in their buffers: of those nothing old is asked.
+            if sent:
+                ask(sent, wrong, counts)
+            # What is long forgotten may be asked again, but needn't be kept here for ever.
+            if len(sent) > 200 * BATCH:
+                del sent[: 50 * BATCH]
+            seen.append((time.monotonic() - begun, number * (REFUSED - 1) // REFUSED, relay.memory()[0]))
+            time.sleep(max(0, SECOND - (time.monotonic() - turn)))
+        if not relay.is_running():
+            raise Wrong(f"serve ended with {relay.process.returncode}")
+    finally:
+        relay.stop()
     for seconds, stored, memory in seen[:: max(1, len(seen) // 12)]:
         print(f"{seconds:6.0f} seconds {stored:10,} stored {memory / 1e6:8.1f} MB")
     late = [(stored, memory) for seconds, stored, memory in seen if seconds > 2 * REMEMBER + LATE]
@@ -145,19 +127,16 @@ def soak(folder):
     return wrong
 
 
-def main():
-    signal.signal(signal.SIGTERM, lambda *_: sys.exit(143))
-    folder = Path(tempfile.mkdtemp(prefix="cnrelay-forgetting-", dir=FOLDER))
-    try:
+def options(about):
+    servers.ask(about, minutes=MINUTES, remember=REMEMBER, work="/var/tmp")
+
+
+def main(given):
+    global MINUTES, REMEMBER
+    MINUTES, REMEMBER = given.minutes, given.remember
+    with room("forgetting", given.work) as folder:
         wrong = soak(folder)
-    except (servers.Trouble, OSError) as trouble:
-        sys.exit(f"forgetting.py: {trouble}")
-    finally:
-        shutil.rmtree(folder)
     for fault in wrong:
         print(f"WRONG: {fault}")
     print("each answer was as it has to be" if not wrong else f"{len(wrong)} faults")
-    sys.exit(1 if wrong else 0)
-
-
-main()
+    return 1 if wrong else 0

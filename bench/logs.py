@@ -1,25 +1,21 @@
-#!/usr/bin/env python3
 """Measures what the news log costs, and prints the table of RESULTS.md, The news log.
 
-logs.py CNRELAY LOAD [ROUNDS]: CNRELAY is the program, LOAD that of bench/load. Three relays run all the time, without a
-log, with `log refused` and with `log all`; each round sends each of them the same, the first by turns. The lines of the
-logs are counted at the end: those that came faster than they are written are lost. Ends with status 1 where a relay
-answers what it shouldn't, or a log has a line of what it isn't for.
+    tools/check bench logs [ROUNDS]
+
+Three relays run all the time, without a log, with `log refused` and with `log all`; each round sends each of them the
+same, the first by turns. The lines of the logs are counted at the end: those that came faster than they are written are
+lost. Ends with status 1 where a relay answers what it shouldn't, or a log has a line of what it isn't for.
 """
-import shutil
 import statistics
-import subprocess
 import sys
-import tempfile
 import time
-from pathlib import Path
 
-import servers
-from servers import GROUPS, IDENTITIES
+from lib import ports, servers
+from lib.servers import GROUPS
+from lib.trying import Wrong, room
 
-PROGRAM, LOAD = sys.argv[1:3]
-ROUNDS = int(sys.argv[3]) if len(sys.argv) > 3 else 9
-FIRST_PORT = 21931
+# main sets what was said.
+ROUNDS = 9
 KNOWN = 20_000
 # What is done, connections, articles each, the words of the load, and whether they are known before.
 CASES = [
@@ -34,22 +30,16 @@ KINDS = [("without", []), ("refused", ["log refused news"]), ("all", ["log all n
 class Kind:
     """A relay with one kind of log, or with none."""
 
-    def __init__(self, number, name, lines, folder):
+    def __init__(self, name, lines, folder):
         self.name, self.folder = name, folder / name
-        self.port = FIRST_PORT + 4 * number
-        self.server = servers.relay(PROGRAM, self.folder, self.port, 262_144, relay_lines=lines)
+        self.port = ports.free(4)
+        self.server = servers.relay(self.folder, self.port, 262_144, relay_lines=lines)
         self.rates, self.costs, self.sent = {}, {}, {"+": 0, "-": 0}
 
     def load(self, words, connections, run, count):
         before = sum(self.server.seconds())
-        addresses = [f"127.0.0.1:{self.port + number}" for number in range(connections)]
-        command = [LOAD, *words.split(), f"run={run}", f"count={count}", "to=" + ",".join(addresses),
-                   "from=" + ",".join(["127.0.0.1"] * connections), "identity=" + ",".join(IDENTITIES),
-                   "group=" + ",".join(GROUPS[:1] if connections == 1 else GROUPS)]
-        done = subprocess.run(command, capture_output=True, text=True, timeout=600)
-        if done.returncode:
-            raise servers.Trouble(f"{self.name}: {' '.join(command[1:])}: {done.stderr.strip()}")
-        seen = {key: float(value) for key, value in (word.split("=") for word in done.stdout.split())}
+        seen = servers.loaded(servers.load_words(words, run, count, range(self.port, self.port + connections), None,
+                                                 GROUPS[:1] if connections == 1 else GROUPS))
         self.sent["-" if "439" in words else "+"] += int(seen["done"])
         return seen["done"] / seen["seconds"], 1e6 * (sum(self.server.seconds()) - before) / seen["done"]
 
@@ -64,8 +54,8 @@ class Kind:
 def run(folder):
     kinds = []
     try:
-        for number, (name, lines) in enumerate(KINDS):
-            kinds.append(Kind(number, name, lines, folder))
+        for name, lines in KINDS:
+            kinds.append(Kind(name, lines, folder))
         for kind in kinds:
             kind.load("take octets=1024", 4, "known", KNOWN)
         for number in range(ROUNDS):
@@ -89,23 +79,22 @@ def run(folder):
         for kind, most in zip(kinds, wanted):
             lines = kind.lines()
             if any(lines[mark] > most[mark] for mark in lines):
-                raise servers.Trouble(f"the log of {kind.name} has {lines}, more than {most}")
+                raise Wrong(f"the log of {kind.name} has {lines}, more than {most}")
             if not kind.server.is_running():
-                raise servers.Trouble(f"{kind.name} ended by itself")
+                raise Wrong(f"{kind.name} ended by itself")
             print(f"- {kind.name}: {sum(lines.values()):,} of {sum(most.values()):,} lines")
     finally:
         for kind in kinds:
             kind.server.stop()
 
 
-def main():
-    folder = Path(tempfile.mkdtemp(prefix="cnrelay-logs-", dir="/var/tmp"))
-    try:
+def options(about):
+    servers.ask(about, rounds=ROUNDS)
+
+
+def main(given):
+    global ROUNDS
+    ROUNDS = given.rounds
+    servers.load()
+    with room("logs") as folder:
         run(folder)
-    except servers.Trouble as trouble:
-        sys.exit(f"logs.py: {trouble}")
-    finally:
-        shutil.rmtree(folder)
-
-
-main()

@@ -1,29 +1,26 @@
-#!/usr/bin/env python3
 """Measures how fast tools/pull_feed hands a feed on to innd, and prints the table of RESULTS.md, A feed that is pulled.
 
-pulling.py CNRELAY LOAD [ROUNDS [WORK [PULLER]]]: LOAD is that of bench/load; WORK is a folder for both servers' files, made and
-taken away again; PULLER is another state of tools/pull_feed. In each round 20,000 articles of 1 KB come to the relay. One feed of
-theirs is pulled, which innd takes, and then a second, all of which innd knows. A run is timed from its start to its end, by
-`--once`. Ends with status 1 where fewer are handed on.
+    tools/check bench pulling [ROUNDS [WORK [PULLER]]]
+
+WORK is a folder for both servers' files, made and taken away again; PULLER is another state of tools/pull_feed. In each
+round 20,000 articles of 1 KB come to the relay. One feed of theirs is pulled, which innd takes, and then a second, all of
+which innd knows. A run is timed from its start to its end, by `--once`. Runs as root, since innd has to be the user news;
+installs Debian's inn2 where it isn't. Ends with status 1 where fewer are handed on.
 """
 import re
 import resource
-import shutil
-import signal
 import statistics
 import subprocess
 import sys
-import tempfile
 import time
-from pathlib import Path
 
-import servers
+from lib import ports, servers
+from lib.program import ROOT
+from lib.trying import Wrong, room
 
-PROGRAM, LOAD = sys.argv[1:3]
-ROUNDS = int(sys.argv[3]) if len(sys.argv) > 3 else 5
-FOLDER = sys.argv[4] if len(sys.argv) > 4 else "/var/tmp"
-PULLER = sys.argv[5] if len(sys.argv) > 5 else str(Path(__file__).resolve().parent.parent / "tools/pull_feed")
-RELAY_PORT, INND_PORT = 21981, 21989
+# main sets what was said.
+ROUNDS, PULLER = 5, str(ROOT / "tools/pull_feed")
+RELAY_PORT, INND_PORT = ports.free(4), ports.free()
 COUNT, OCTETS = 20_000, 1_024
 # What is wanted of articles that innd takes, a second.
 WANTED = 3_000
@@ -38,9 +35,8 @@ CASES = [
 
 def bring(run):
     """The relay is handed articles, which its feeds gain."""
-    words = ["take", f"octets={OCTETS}", f"run={run}", f"count={COUNT}", f"to=127.0.0.1:{RELAY_PORT}", "from=127.0.0.1",
-             f"identity={servers.IDENTITIES[0]}", f"group={servers.GROUPS[0]}"]
-    subprocess.run([LOAD, *words], check=True, stdout=subprocess.DEVNULL, timeout=servers.PATIENCE)
+    servers.loaded(servers.load_words(f"take octets={OCTETS}", run, COUNT, [RELAY_PORT], None, servers.GROUPS[:1],
+                                      servers.IDENTITIES[:1]), servers.PATIENCE)
 
 
 def children():
@@ -56,7 +52,7 @@ def pull(state, words, port, kind):
     took, used = time.monotonic() - begun, children() - before
     found = re.search(rf" {kind}=(\d+)", told.stderr.splitlines()[-1])
     if told.returncode or not found or int(found[1]) != COUNT:
-        raise servers.Trouble(f"pull_feed ended with {told.returncode}: {told.stderr[-500:]}")
+        raise Wrong(f"pull_feed ended with {told.returncode}: {told.stderr[-500:]}")
     return COUNT / took, 1e6 * used / COUNT
 
 
@@ -66,7 +62,7 @@ def run(folder):
     started = []
     try:
         started.append(inn.innd())
-        started.append(servers.relay(PROGRAM, folder / "relay", RELAY_PORT, KILOBYTES, relay_lines=feeds))
+        started.append(servers.relay(folder / "relay", RELAY_PORT, KILOBYTES, relay_lines=feeds))
         seen = {done: [] for done, *_ in CASES}
         for number in range(ROUNDS):
             bring(f"pull{number}")
@@ -85,16 +81,16 @@ def run(folder):
     print(f"\n- taken by innd: {reached:,.0f} a second, {WANTED:,} wanted: {'reached' if reached >= WANTED else 'NOT reached'}")
 
 
-def main():
-    signal.signal(signal.SIGTERM, lambda *_: sys.exit(143))
-    folder = Path(tempfile.mkdtemp(prefix="cnrelay-bench-", dir=FOLDER))
-    folder.chmod(0o755)
-    try:
+def options(about):
+    servers.ask(about, rounds=ROUNDS, work="/var/tmp", puller=PULLER)
+
+
+def main(given):
+    global ROUNDS, PULLER
+    ROUNDS, PULLER = given.rounds, given.puller
+    servers.needed("inn2")
+    servers.load()
+    with room("bench", given.work, 0o755) as folder:
+        servers.tell_machine()
         run(folder)
-    except servers.Trouble as trouble:
-        sys.exit(f"pulling.py: {trouble}")
-    finally:
-        shutil.rmtree(folder)
-
-
-main()
+        print(f"load average at the end: {servers.load_average()}")

@@ -1,7 +1,8 @@
-#!/usr/bin/env python3
 """Times the whole relay over memory, and prints the tables of RESULTS.md, The relay.
 
-relay.py CNRELAY [count]: CNRELAY is the program, whose drills do the same over and over. What a drill takes is the processor's
+    tools/check bench relay [count]
+
+The program's drills do the same over and over. What a drill takes is the processor's
 time that its script takes, less that of the same script with a bad last line, of which all is read and nothing runs. What one
 more takes is the difference between so many and twice as many, so that no start counts, and what stands before the load
 doesn't; past twice as many, the difference to four times as many. Both are medians of ROUNDS. bench/copies.rs copies as many
@@ -17,8 +18,9 @@ import sys
 import tempfile
 from pathlib import Path
 
+from lib.program import PROGRAM
+
 ROUNDS = 15
-PROGRAM = sys.argv[1]
 # The moment of each event: the first of 2021.
 MOMENT = 1609459200
 BAD_LINE = b"bad\n"
@@ -124,9 +126,9 @@ def write_script(folder, name, loads):
     drill = drilled(folder, path, True, stdout=subprocess.PIPE)
     codes = collections.Counter(line.split(b" ", 2)[1] for line in drill.stdout if line.count(b" ") > 1)
     if drill.wait() or any(codes[code] != count for code, count in script.replies.items()):
-        sys.exit(f"relay.py: {loads}: status {drill.returncode}, {script.replies} wanted, of {codes}")
+        sys.exit(f"relay: {loads}: status {drill.returncode}, {script.replies} wanted, of {codes}")
     if drilled(folder, path, False, stdout=subprocess.DEVNULL, stderr=subprocess.DEVNULL).wait() != 3:
-        sys.exit(f"relay.py: {loads}: a bad line is none")
+        sys.exit(f"relay: {loads}: a bad line is none")
     return path
 
 
@@ -168,16 +170,13 @@ def print_counts(folder):
         print(f"| {ids:,} | {' | '.join(f'{cost:,.0f}' for cost in costs)} |", flush=True)
 
 
-def main():
+def options(about):
+    about.add_argument("what", nargs="?", choices=("count",), help="counts instructions")
+
+
+def main(given):
     with tempfile.TemporaryDirectory(prefix="cnrelay-relay-") as name:
         folder = Path(name)
         for file, text in CONFIGURATION.items():
             (folder / file).write_text(text)
-        if len(sys.argv) > 2:
-            print_counts(folder)
-        else:
-            print_times(folder)
-
-
-if __name__ == "__main__":
-    main()
+        (print_counts if given.what else print_times)(folder)

@@ -1,8 +1,8 @@
-#!/usr/bin/env python3
 """Stops and starts `cnrelay serve` under load, again and again, and checks that each life goes on where the last has ended.
 
-restarts.py CNRELAY [MINUTES [FOLDER [SECONDS]]]: ten minutes without MINUTES, a stop and a start each thirty seconds without
-SECONDS. Four peers stream articles of 300 to 20,000 octets without a pause, each article by two of them; one takes the feed of
+    tools/check bench restarts [MINUTES [WORK [SECONDS]]]
+
+Ten minutes without MINUTES, a stop and a start each thirty seconds without SECONDS. Four peers stream articles of 300 to 20,000 octets without a pause, each article by two of them; one takes the feed of
 all. Two groups of two buffers of 16 MB go round some times. Ends with status 1 where
 
 - an article that was answered 239 isn't offered as known (438) in the next life, or one was answered 239 twice;
@@ -13,32 +13,22 @@ all. Two groups of two buffers of 16 MB go round some times. Ends with status 1 
 import collections
 import random
 import re
-import shutil
-import signal
-import socket
-import subprocess
-import sys
-import tempfile
 import threading
 import time
-from pathlib import Path
 
-import servers
+from lib import ports, servers
+from lib.nntp import Gone, Peer
+from lib.relay import asked, report
+from lib.trying import Wrong, room
 
-PROGRAM = sys.argv[1]
-MINUTES = float(sys.argv[2]) if len(sys.argv) > 2 else 10
-FOLDER = sys.argv[3] if len(sys.argv) > 3 else "/var/tmp"
-SECONDS = float(sys.argv[4]) if len(sys.argv) > 4 else 30
-PORT = 21981
+# main sets what was said.
+MINUTES, SECONDS = 10.0, 30.0
+PORT = ports.free(5)
 KILOBYTES = 16_384
 BLOCKS = 2 * KILOBYTES
 RING = 65_536
 # How many articles a peer has sent and not been answered, and how many ids are offered again in each life.
 WINDOW, TRIED = 16, 2_000
-
-
-class Wrong(Exception):
-    """What a relay said that it shouldn't have."""
 
 
 def text_of(number):
@@ -52,37 +42,6 @@ def text_of(number):
 
 
 DATE = time.strftime("%a, %d %b %Y %H:%M:%S +0000", time.gmtime())
-
-
-class Line:
-    """A connection to a port of the relay."""
-
-    def __init__(self, port):
-        self.socket = socket.create_connection(("127.0.0.1", port), 60)
-        self.file = self.socket.makefile("rb")
-        if not self.file.readline().startswith(b"201 "):
-            raise Wrong("no greeting")
-
-    def ask(self, *lines):
-        self.socket.sendall(b"".join(line.encode() + b"\r\n" for line in lines))
-
-    def reply(self):
-        line = self.file.readline()
-        if not line.endswith(b"\r\n"):
-            raise EOFError
-        return line[:-2].decode()
-
-    def block(self):
-        lines = []
-        while (line := self.file.readline()) != b".\r\n":
-            if not line:
-                raise EOFError
-            lines.append(line[1:] if line.startswith(b"..") else line)
-        return b"".join(lines)
-
-    def close(self):
-        self.file.close()
-        self.socket.close()
 
 
 class Soak:
@@ -114,20 +73,20 @@ class Soak:
         """Sends articles until the relay ends."""
         waiting = collections.deque()
         try:
-            line = Line(PORT + peer)
+            line = Peer(PORT + peer)
             while True:
                 number = self.numbers(peer)
                 path = f"Path: {servers.IDENTITIES[peer]}!not-for-mail\r\n".encode()
-                line.socket.sendall(f"TAKETHIS <{number}@soak>\r\n".encode() + path + text_of(number) + b".\r\n")
+                line.send(f"TAKETHIS <{number}@soak>\r\n".encode() + path + text_of(number) + b".\r\n")
                 waiting.append(number)
                 if len(waiting) >= WINDOW:
-                    self.answered(line.reply(), waiting.popleft())
-        except (EOFError, OSError):
+                    self.answered(line.line(), waiting.popleft())
+        except Gone:
             # What was answered meanwhile is read to the end.
             try:
                 while waiting:
-                    self.answered(line.reply(), waiting.popleft())
-            except (EOFError, OSError, UnboundLocalError):
+                    self.answered(line.line(), waiting.popleft())
+            except (Gone, UnboundLocalError):
                 pass
         finally:
             # What wasn't answered is sent again in the next life.
@@ -145,10 +104,10 @@ class Soak:
 
     def take(self, line):
         """Takes what the feed has; whether there was anything."""
-        line.ask("XTAKE 1000")
-        if line.reply() != "290 Queue follows":
+        line.send("XTAKE 1000\r\n".encode())
+        if line.line() != "290 Queue follows":
             raise Wrong("no queue")
-        missed, *listed = line.block().decode().splitlines()
+        missed, *listed = line.block()
         if missed != "0":
             self.wrong(f"{missed} tokens were overwritten")
         for one in listed:
@@ -162,11 +121,11 @@ class Soak:
     def take_all(self):
         """Takes the feed until the relay ends."""
         try:
-            line = Line(PORT + 4)
+            line = Peer(PORT + 4)
             while True:
                 if not self.take(line):
                     time.sleep(0.05)
-        except (EOFError, OSError):
+        except Gone:
             pass
 
     # ---- what is looked at after a start
@@ -176,7 +135,7 @@ class Soak:
 
     def look(self, report):
         """What is live is there and right, what isn't is gone; what was stored is known."""
-        line = Line(PORT + 4)
+        line = Peer(PORT + 4)
         while self.take(line):
             pass
         fronts, live, gone, seen = self.fronts(report), 0, 0, set()
@@ -187,8 +146,8 @@ class Soak:
             # Of those that are gone some are tried.
             if not is_live and random.random() > 0.02:
                 continue
-            line.ask(f"XFETCH {token}")
-            reply = line.reply()
+            line.send(f"XFETCH {token}\r\n".encode())
+            reply = line.line()
             if not is_live:
                 gone += 1
                 if reply != f"492 {token} gone":
@@ -198,7 +157,7 @@ class Soak:
             if reply != f"292 {token}":
                 self.wrong(f"{reply} for {token}, which is live")
                 continue
-            text = line.block()
+            text = "".join(f"{it}\r\n" for it in line.block()).encode()
             head, _, rest = text.partition(b"\r\n")
             number = int(re.search(rb"\r\nMessage-ID: <(\d+)@soak>\r\n", text)[1])
             if rest != text_of(number) or not head.startswith(b"Path: relay.example!"):
@@ -208,50 +167,47 @@ class Soak:
             seen.add(number)
         known = random.sample(sorted(self.stored), min(TRIED, len(self.stored)))
         for number in known:
-            line.ask(f"CHECK <{number}@soak>")
-            reply = line.reply()
+            line.send(f"CHECK <{number}@soak>\r\n".encode())
+            reply = line.line()
             if reply != f"438 <{number}@soak>":
                 self.wrong(f"{reply}, which was stored")
-        line.ask("QUIT")
+        line.send("QUIT\r\n".encode())
         line.close()
         return live, gone, len(known)
 
     # ---- lives
 
     def report(self):
-        """What the relay says of itself, without the lines of peers."""
-        asked = subprocess.run([PROGRAM, "report", str(self.folder)], capture_output=True, text=True, timeout=600)
-        if asked.returncode:
-            raise Wrong(f"report ended with {asked.returncode}: {asked.stderr}")
-        return [row for row in asked.stdout.splitlines() if not row.startswith(("peer ", "refused ", "from "))]
+        """What the relay says of itself, without the lines of peers and sizes."""
+        return [row for row in report(self.folder, patience=600).splitlines()
+                if not row.startswith(("peer ", "refused ", "from ", "size "))]
 
     def live(self, number, before):
         """A life: started, looked at, let at by peers for a while, and stopped. Its report at the end."""
         begun = time.monotonic()
-        relay = servers.Server("cnrelay", [PROGRAM, "serve", str(self.folder)], self.ports, stdout=subprocess.PIPE, text=True)
+        relay = servers.served(self.folder, self.ports)
         try:
-            report = self.report()
+            seen = self.report()
             self.seconds["start"].append(time.monotonic() - begun)
-            if before is not None and report != before:
-                self.wrong(f"life {number} begins with {report}, not {before}")
-            live, gone, known = self.look(report)
+            if before is not None and seen != before:
+                self.wrong(f"life {number} begins with {seen}, not {before}")
+            live, gone, known = self.look(seen)
             threads = [threading.Thread(target=self.send, args=(peer,)) for peer in range(4)]
             threads.append(threading.Thread(target=self.take_all))
             for thread in threads:
                 thread.start()
             time.sleep(max(1, SECONDS * random.uniform(0.8, 1.2) - (time.monotonic() - begun)))
             begun = time.monotonic()
-            asked = subprocess.run([PROGRAM, "stop", str(self.folder)], capture_output=True, text=True, timeout=300)
+            done = asked("stop", self.folder, patience=300)
             self.seconds["stop"].append(time.monotonic() - begun)
-            told, _ = relay.process.communicate(timeout=60)
+            relay.process.wait(60)
             for thread in threads:
                 thread.join(60)
-            if asked.returncode or relay.process.returncode:
-                relay.told.seek(0)
-                raise Wrong(f"stop ended with {asked.returncode}, serve with {relay.process.returncode}: {relay.told.read()}")
+            if done.returncode or relay.process.returncode:
+                raise Wrong(f"stop ended with {done.returncode}, serve with {relay.process.returncode}: {relay.told()}")
         finally:
             relay.stop()
-        rows = told.splitlines()
+        rows = relay.told(relay.out)
         ids = [int(word) for word in rows[-1].split()[1:]]
         with self.lock:
             answered = len(self.stored)
@@ -274,20 +230,17 @@ class Soak:
         return number
 
 
-def main():
-    signal.signal(signal.SIGTERM, lambda *_: sys.exit(143))
-    folder = Path(tempfile.mkdtemp(prefix="cnrelay-restarts-", dir=FOLDER))
-    try:
+def options(about):
+    servers.ask(about, minutes=MINUTES, work="/var/tmp", seconds=SECONDS)
+
+
+def main(given):
+    global MINUTES, SECONDS
+    MINUTES, SECONDS = given.minutes, given.seconds
+    with room("restarts", given.work) as folder:
         soak = Soak(folder / "relay")
         lives = soak.run()
-    except (Wrong, servers.Trouble, subprocess.TimeoutExpired) as trouble:
-        sys.exit(f"restarts.py: {trouble}")
-    finally:
-        shutil.rmtree(folder)
     for fault in soak.faults[:20]:
         print(f"WRONG: {fault}")
     print(f"{lives} lives, {len(soak.stored):,} articles, each as it has to be" if not soak.faults else f"{len(soak.faults)} faults")
-    sys.exit(1 if soak.faults else 0)
-
-
-main()
+    return 1 if soak.faults else 0

@@ -1,11 +1,13 @@
-#!/usr/bin/env python3
 """Measures how fast a buffer that was not stopped is found again, beside the device's own speed.
 
-scanning.py [MEGABYTES [OCTETS [WORK [PROGRAM]]]], at the top of the repository: a file of 1,024 MB without MEGABYTES in the folder WORK,
-filled by articles of 4,000 octets without OCTETS, and left as a kill leaves it. Then it is found again five times with the file in the
-system's memory, and five times, where root runs this, with that dropped before (cold), in turn with `dd` of the file to nowhere. The
-program that does it (`Buffer::recover` over `FileBlocks`) is PROGRAM, or is proved and built by `rt run` in a copy of the repository,
-which takes some quarter of an hour where no `rt check` has left its work. `scanning.py --source FOLDER` writes its crate there alone.
+    tools/check bench scanning [--finder PATH] [MEGABYTES [OCTETS [WORK]]]    at the top of the repository
+    tools/check bench scanning --source FOLDER                               writes its program's crate there alone
+
+A file of 1,024 MB without MEGABYTES in the folder WORK, filled by articles of 4,000 octets without OCTETS, and left as a kill leaves
+it. Then it is found again five times with the file in the system's memory, and five times, where root runs this, with that dropped
+before (cold), in turn with `dd` of the file to nowhere. The program that does it (`Buffer::recover` over `FileBlocks`) is that of
+--finder, or is proved and built by `rt run` in a copy of the repository, which takes some quarter of an hour where no `rt check` has
+left its work.
 """
 import os
 import re
@@ -18,11 +20,11 @@ import tempfile
 import time
 from pathlib import Path
 
-SOURCE = sys.argv[2] if sys.argv[1:2] == ["--source"] else ""
-GIVEN = [] if SOURCE else sys.argv[1:]
-MEGABYTES = int(GIVEN[0]) if GIVEN else 1_024
-OCTETS = int(GIVEN[1]) if len(GIVEN) > 1 else 4_000
-FOLDER = GIVEN[2] if len(GIVEN) > 2 else "/var/tmp"
+from lib.servers import ask
+
+TAKES_PROGRAM = False
+# main sets what was said.
+MEGABYTES, OCTETS = 1_024, 4_000
 ROUNDS, USES = 5, "scanning: news_terms cyc_block file_blocks cyc_buffer anyhow\n"
 PROGRAM = r"""//! Finds the buffer in the file `blocks` again. Where it has none, one is made there and filled a twentieth more than once.
 #![tactic(auto)]
@@ -150,15 +152,23 @@ def measure(program, folder, is_cold):
     return found
 
 
-def main():
+def options(about):
+    about.add_argument("--finder", type=Path, metavar="PATH", help="the program that finds buffers")
+    about.add_argument("--source", type=Path, metavar="FOLDER", help="a copy of the repository")
+    ask(about, megabytes=MEGABYTES, octets=OCTETS, work="/var/tmp")
+
+
+def main(given):
+    global MEGABYTES, OCTETS
+    MEGABYTES, OCTETS = given.megabytes, given.octets
     blocks = MEGABYTES * 2_048
     articles = blocks // -(-OCTETS // 480) * 21 // 20
-    if SOURCE:
-        write_source(Path(SOURCE), blocks, articles)
+    if given.source:
+        write_source(given.source, blocks, articles)
         return
-    with tempfile.TemporaryDirectory(prefix="cnrelay-scans-", dir=FOLDER) as name:
+    with tempfile.TemporaryDirectory(prefix="cnrelay-scans-", dir=given.work) as name:
         room = Path(name)
-        program = Path(GIVEN[3]).resolve() if len(GIVEN) > 3 else built(room, blocks, articles)
+        program = given.finder.resolve() if given.finder else built(room, blocks, articles)
         print(f"{blocks:,} blocks of 512 octets, articles of {OCTETS:,}; load {os.getloadavg()[0]:.1f}")
         said, took, *_ = timed([program], room)
         print(f"{said.strip()} in {took:.2f} seconds")
@@ -168,6 +178,3 @@ def main():
         print(f"found {sorted(found)}")
         if len(found) != 1 or not blocks // -(-OCTETS // 480) - 2 <= min(found):
             sys.exit("that isn't what was stored")
-
-
-main()

@@ -1,32 +1,27 @@
-#!/usr/bin/env python3
 """Measures `cnrelay serve` beside innd, and prints the tables of RESULTS.md, Serve.
 
-serve.py CNRELAY LOAD [ROUNDS] [WORK]: CNRELAY is the program, `-` for innd alone; LOAD that of bench/load. Both servers
-run all the time; each round does everything once with each of them in turn, the first of the two by turns. WORK is a
-folder for both servers' files, made and taken away again. Ends with status 1 where a server answers what it shouldn't.
+    tools/check bench serve [--alone] [ROUNDS [WORK]]
+
+With --alone it is innd alone. Both servers run all the time; each round does everything once with each of them in turn,
+the first of the two by turns. WORK is a folder for both servers' files, made and taken away again. Runs as root, since
+innd has to be the user news; installs Debian's inn2 where it isn't. Everything goes over 127.0.0.0/8. Each run is told on
+standard error as it ends. Ends with status 1 where a server answers what it shouldn't.
 """
-import shutil
-import signal
-import socket
 import statistics
-import subprocess
 import sys
-import tempfile
 import time
-from pathlib import Path
 
-import servers
-from servers import GROUPS, IDENTITIES, SOURCES
+from lib import ports, servers
+from lib.nntp import called
+from lib.servers import GROUPS, SOURCES
+from lib.trying import Wrong, room
 
-PROGRAM, LOAD = sys.argv[1:3]
-ROUNDS = int(sys.argv[3]) if len(sys.argv) > 3 else 9
-FOLDER = sys.argv[4] if len(sys.argv) > 4 else "/var/tmp"
-RELAY_PORT, INND_PORT, NNRPD_PORT = 21901, 21919, 21920
+# main sets what was said.
+ROUNDS = 9
+RELAY_PORT, INND_PORT, NNRPD_PORT = ports.free(4), ports.free(), ports.free()
 KILOBYTES = 262_144
 # The ids that are known before anything is measured, so many a connection, of four.
 KNOWN = 20_000
-# The ids that innd's history is made for: more than come.
-HISTORY = 200_000 * ROUNDS + 500_000
 
 # What is done, the name of its run, connections, articles each, and the words of the load.
 CASES = [
@@ -81,15 +76,8 @@ class Side:
         server = self.reader if fetches else self.server
         before = sum(server.seconds())
         addresses = self.reader_addresses if fetches else self.addresses
-        command = [
-            LOAD, *words.split(), f"run={run}", f"count={count}",
-            "to=" + ",".join(addresses[:connections]), "from=" + ",".join(self.sources[:connections]),
-            "identity=" + ",".join(IDENTITIES), "group=" + ",".join(GROUPS[:1] if connections == 1 else GROUPS),
-        ]
-        run_load = subprocess.run(command, capture_output=True, text=True, timeout=600)
-        if run_load.returncode:
-            raise servers.Trouble(f"{self.name}: {' '.join(command[1:])}: {run_load.stderr.strip()}")
-        seen = {key: float(value) for key, value in (word.split("=") for word in run_load.stdout.split())}
+        seen = servers.loaded(servers.load_words(words, run, count, addresses[:connections], self.sources[:connections],
+                                                 GROUPS[:1] if connections == 1 else GROUPS))
         if fetches and self.reader is not self.server:
             # What serves readers is a child, whose seconds count once it has ended.
             time.sleep(0.05)
@@ -179,8 +167,9 @@ def print_verdicts(relay, innd):
     print(f"- stalls of more than 30 ms: {stalled}, 0 wanted: {'NOT reached' if stalled else 'reached'}")
 
 
-def run(folder):
-    inn = servers.Inn(folder / "innd", INND_PORT, KILOBYTES, ids=HISTORY)
+def run(folder, is_alone):
+    # Its history is made for more ids than come.
+    inn = servers.Inn(folder / "innd", INND_PORT, KILOBYTES, ids=200_000 * ROUNDS + 500_000)
     started = []
     try:
         innd = inn.innd()
@@ -188,12 +177,11 @@ def run(folder):
         nnrpd = inn.nnrpd(NNRPD_PORT)
         started.append(nnrpd)
         sides = {}
-        if PROGRAM != "-":
+        if not is_alone:
             begun = time.monotonic()
-            relay = servers.relay(PROGRAM, folder / "relay", RELAY_PORT, KILOBYTES)
+            relay = servers.relay(folder / "relay", RELAY_PORT, KILOBYTES)
             started.append(relay)
-            with socket.create_connection(("127.0.0.1", RELAY_PORT), 60) as peer:
-                peer.recv(3)
+            called(RELAY_PORT, 60).closes()
             print(f"cnrelay greeted after {time.monotonic() - begun:.2f} seconds", file=sys.stderr)
             addresses = [f"127.0.0.1:{RELAY_PORT + number}" for number in range(4)]
             sides["cnrelay"] = Side("cnrelay", relay, relay, addresses, ["127.0.0.1"] * 4, addresses)
@@ -217,22 +205,23 @@ def run(folder):
             print_verdicts(sides["cnrelay"], sides["innd"])
         for server in started:
             if not server.is_running():
-                raise servers.Trouble(f"{server.name} ended by itself")
+                raise Wrong(f"{server.name} ended by itself")
     finally:
         for server in started:
             inn.shut(server) if server.name == "innd" else server.stop()
 
 
-def main():
-    signal.signal(signal.SIGTERM, lambda *_: sys.exit(143))
-    folder = Path(tempfile.mkdtemp(prefix="cnrelay-bench-", dir=FOLDER))
-    folder.chmod(0o755)
-    try:
-        run(folder)
-    except servers.Trouble as trouble:
-        sys.exit(f"serve.py: {trouble}")
-    finally:
-        shutil.rmtree(folder)
+def options(about):
+    about.add_argument("--alone", action="store_true", help="innd alone")
+    servers.ask(about, rounds=ROUNDS, work="/var/tmp")
 
 
-main()
+def main(given):
+    global ROUNDS
+    ROUNDS = given.rounds
+    servers.needed("inn2")
+    servers.load()
+    with room("bench", given.work, 0o755) as folder:
+        servers.tell_machine()
+        run(folder, given.alone)
+        print(f"load average at the end: {servers.load_average()}")

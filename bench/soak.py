@@ -1,26 +1,23 @@
-#!/usr/bin/env python3
 """Lets four peers and two readers at `cnrelay serve` for some minutes, and checks what they and the report say.
 
-soak.py CNRELAY LOAD [MINUTES [FOLDER]]: CNRELAY is the program, LOAD that of bench/load, whose soak.rs says what peers and
-readers do. Four buffers of 16 MB go round many times. Ends with status 1 where a text isn't whole and right, an article is
+    tools/check bench soak [MINUTES [WORK]]
+
+Ten minutes without MINUTES; bench/load/soak.rs says what peers and readers do. Four buffers of 16 MB go round many times. Then,
+for as long again, it is stopped and started each half minute under load, as by `tools/check bench restarts`. Ends with status 1 where a text isn't whole and right, an article is
 gone that can't be, the report differs from what was counted, or memory grows by more than what is remembered of an article.
 """
 import re
-import shutil
-import signal
 import statistics
 import subprocess
-import sys
-import tempfile
 import time
-from pathlib import Path
 
-import servers
+from bench import restarts
+from lib import ports, servers
+from lib.trying import Wrong, room
 
-PROGRAM, LOAD = sys.argv[1:3]
-MINUTES = float(sys.argv[3]) if len(sys.argv) > 3 else 10
-FOLDER = sys.argv[4] if len(sys.argv) > 4 else "/var/tmp"
-PORT = 21931
+# main sets what was said.
+MINUTES = 10.0
+PORT = ports.free(6)
 KILOBYTES = 16_384
 BLOCKS = 2 * KILOBYTES
 CONNECTIONS = 4
@@ -90,31 +87,28 @@ def print_memory(lines):
 def soak(folder):
     peers = [f"peer ids ids.example {PORT + 4}", f"peer tokens tokens.example {PORT + 5}",
              f"feed tokens {RING} *", "feed two 100 bench.a.*"]
-    with open(folder / "report", "w+") as report, open(folder / "told", "w+") as told:
-        relay = servers.relay(PROGRAM, folder / "relay", PORT, KILOBYTES, 2, peers, ("--sessions", str(CONNECTIONS)),
-                              stdout=report, stderr=told)
+    relay = servers.relay(folder / "relay", PORT, KILOBYTES, 2, peers, ("--sessions", str(CONNECTIONS)))
+    try:
+        addresses = [f"127.0.0.1:{PORT + number}" for number in range(6)]
+        words = [servers.load(), "soak", f"seconds={60 * MINUTES:.0f}", "to=" + ",".join(addresses[:4]), f"pid={relay.process.pid}",
+                 "readers=" + ",".join(addresses[4:]), f"connections={CONNECTIONS}", f"blocks={BLOCKS}", f"kept={BLOCKS}"]
+        begun = time.monotonic()
+        load = subprocess.Popen(words, stdout=subprocess.PIPE, text=True)
         try:
-            addresses = [f"127.0.0.1:{PORT + number}" for number in range(6)]
-            words = [LOAD, "soak", f"seconds={60 * MINUTES:.0f}", "to=" + ",".join(addresses[:4]), f"pid={relay.process.pid}",
-                     "readers=" + ",".join(addresses[4:]), f"connections={CONNECTIONS}", f"blocks={BLOCKS}", f"kept={BLOCKS}"]
-            begun = time.monotonic()
-            load = subprocess.Popen(words, stdout=subprocess.PIPE, text=True)
-            try:
-                printed, _ = load.communicate(timeout=60 * MINUTES + 300)
-            finally:
-                load.kill()
-            seconds, lines = time.monotonic() - begun, printed.splitlines()
-            print("\n".join(line for line in lines if not line.startswith("memory ")))
-            if load.returncode:
-                raise servers.Trouble(f"the load ended with {load.returncode}; {told_of(told)}")
-            relay.process.wait(60)
+            printed, _ = load.communicate(timeout=60 * MINUTES + 300)
         finally:
-            relay.stop()
-        report.seek(0)
-        text = report.read()
-        print(text, end="")
-        if relay.process.returncode:
-            raise servers.Trouble(f"serve ended with {relay.process.returncode}: {told_of(told)}")
+            load.kill()
+        seconds, lines = time.monotonic() - begun, printed.splitlines()
+        print("\n".join(line for line in lines if not line.startswith("memory ")))
+        if load.returncode:
+            raise Wrong(f"the load ended with {load.returncode}; {relay.told()}")
+        relay.process.wait(60)
+    finally:
+        relay.stop()
+    text = "\n".join(relay.told(relay.out))
+    print(text)
+    if relay.process.returncode:
+        raise Wrong(f"serve ended with {relay.process.returncode}: {relay.told()}")
     each = print_memory(lines)
     faults = faults_of(read_report(text), lines)
     if each > MOST and MINUTES >= 2:
@@ -124,24 +118,20 @@ def soak(folder):
     return faults
 
 
-def told_of(told):
-    told.seek(0)
-    return told.read().strip()
+def options(about):
+    servers.ask(about, minutes=MINUTES, work="/var/tmp")
 
 
-def main():
-    signal.signal(signal.SIGTERM, lambda *_: sys.exit(143))
-    folder = Path(tempfile.mkdtemp(prefix="cnrelay-soak-", dir=FOLDER))
-    try:
+def main(given):
+    global MINUTES
+    MINUTES = given.minutes
+    servers.load()
+    with room("soak", given.work) as folder:
         faults = soak(folder)
-    except (servers.Trouble, subprocess.TimeoutExpired) as trouble:
-        sys.exit(f"soak.py: {trouble}")
-    finally:
-        shutil.rmtree(folder)
     for fault in faults:
         print(f"WRONG: {fault}")
     print("the report agrees with what was counted" if not faults else f"{len(faults)} faults")
-    sys.exit(1 if faults else 0)
-
-
-main()
+    if faults:
+        return 1
+    given.seconds = restarts.SECONDS
+    return restarts.main(given)

@@ -1,7 +1,8 @@
-#!/usr/bin/env python3
-"""Times texts and settings at the program, and prints a table of RESULTS.md: texts.py CNRELAY [WORD ..].
+"""Times texts and settings at the program, and prints a table of RESULTS.md.
 
-CNRELAY is the program; WORDs are cutting, articles, paths, patterns and settings, all without one. A text has so many parts,
+    tools/check bench texts [WORD ..]
+
+WORDs are cutting, articles, paths, patterns and settings, all without one. A text has so many parts,
 and then twice as many, in turn; the least processor's time of RUNS runs counts. An article is sent in a drill, and what reading
 its script takes is left out: it is had by the same script with a bad last line. The files of a configuration are checked, and
 patterns judge a newsgroup that `explain` is asked about; what the program takes with next to no text is left out there.
@@ -12,9 +13,10 @@ import sys
 import tempfile
 from pathlib import Path
 
+from lib.program import PROGRAM
+
 RUNS = 9
 MILLION = 1_000_000
-PROGRAM = sys.argv[1]
 MOMENT = 1609459200
 LINE = b"x" * 58 + b"\r\n"
 HEADER = b"From: a\r\nSubject: t\r\nDate: Fri, 01 Jan 2021 00:00:00 +0000\r\nMessage-ID: <a@x>\r\n"
@@ -79,7 +81,7 @@ def seconds(words, folder):
     _, status, usage = os.wait4(run.pid, 0)
     status = os.waitstatus_to_exitcode(status)
     if status not in STATUSES.get(words[0], STATUSES.get(words[-1], (0,))):
-        sys.exit(f"texts.py: {words[0]} {words[-1][:20]} ended with {status}")
+        sys.exit(f"texts: {words[0]} {words[-1][:20]} ended with {status}")
     return usage.ru_utime + usage.ru_stime
 
 
@@ -131,6 +133,10 @@ def print_table(rows):
         print(f"| {done} | {octets:,} | {once:.4f} | {octets / once / 1e6:.1f} | {twice / once:.2f} |", flush=True)
 
 
-if __name__ == "__main__":
-    for word in sys.argv[2:] or TABLES:
+def options(about):
+    about.add_argument("words", nargs="*", choices=[[], *TABLES], metavar="WORD", help="all without one")
+
+
+def main(given):
+    for word in given.words or TABLES:
         print_table(TABLES[word])

@@ -1,27 +1,26 @@
-#!/usr/bin/env python3
 """Measures two programs of `cnrelay serve` in turn, as before and after a change, and prints a table of both.
 
-turns.py BEFORE AFTER LOAD [ROUNDS [WORK]]: LOAD is that of bench/load, built by needed.sh; nine rounds without ROUNDS; WORK
-is a folder for the buffers' files. Both run all the time, and each round does everything once with each of them, the first of
-the two by turns. Everything goes over 127.0.0.1. What is done beside a program that never sleeps has that, and the server,
-on the last processor alone.
+    tools/check bench turns BEFORE [ROUNDS [WORK]]
+
+BEFORE is another program than that of --program, as it was before the change; nine rounds without ROUNDS; WORK is a folder
+for the buffers' files. Both run all the time, and each round does everything once with each of them, the first of the two by
+turns. Everything goes over 127.0.0.1. What is done beside a program that never sleeps has that, and the server, on the last
+processor alone.
 """
 import contextlib
 import os
-import signal
 import statistics
 import subprocess
 import sys
-import tempfile
 from pathlib import Path
 
-import servers
+from lib import ports, servers
+from lib.program import PROGRAM
+from lib.trying import room
 
-PROGRAMS = dict(zip(("before", "after"), sys.argv[1:3]))
-LOAD = sys.argv[3]
-ROUNDS = int(sys.argv[4]) if len(sys.argv) > 4 else 9
-FOLDER = sys.argv[5] if len(sys.argv) > 5 else "/var/tmp"
-PORTS = {"before": 21941, "after": 21946}
+# main sets what was said.
+ROUNDS = 9
+PORTS = {"before": ports.free(4), "after": ports.free(4)}
 # Articles that are known before anything is measured.
 KNOWN = 20_000
 
@@ -61,14 +60,9 @@ def beside(pid):
 
 def load(name, server, words, connections, run, count):
     """Runs the load: what it did a second, and the microseconds of CPU that the server had for each."""
-    to = ",".join(f"127.0.0.1:{PORTS[name] + number}" for number in range(connections))
-    command = [LOAD, *words.split(), f"run={run}", f"count={count}", f"to={to}", "from=" + ",".join(["127.0.0.1"] * connections),
-               "identity=" + ",".join(servers.IDENTITIES), "group=" + ",".join(servers.GROUPS[:1] if connections == 1 else servers.GROUPS)]
     before = sum(server.seconds())
-    ran = subprocess.run(command, capture_output=True, text=True, timeout=600)
-    if ran.returncode:
-        raise servers.Trouble(f"{name}: {' '.join(command[1:])}: {ran.stderr.strip()}")
-    seen = {key: float(value) for key, value in (word.split("=") for word in ran.stdout.split())}
+    seen = servers.loaded(servers.load_words(words, run, count, range(PORTS[name], PORTS[name] + connections), None,
+                                             servers.GROUPS[:1] if connections == 1 else servers.GROUPS))
     return seen["done"] / seen["seconds"], 1e6 * (sum(server.seconds()) - before) / seen["done"]
 
 
@@ -95,26 +89,28 @@ def print_table(seen):
     print("| Done | Connections | before, a second | after, a second | after by before | before, µs of CPU | after, µs of CPU |")
     print("|---|---:|---:|---:|---:|---:|---:|")
     for done, connections, *_ in CASES:
-        rates, costs = ([[row[at] for row in seen[name][done, connections]] for name in PROGRAMS] for at in (0, 1))
+        rates, costs = ([[row[at] for row in seen[name][done, connections]] for name in PORTS] for at in (0, 1))
         spread = [f"{statistics.median(them):,.0f} ({min(them):,.0f} to {max(them):,.0f})" for them in rates]
         ratio = statistics.median(rates[1]) / statistics.median(rates[0])
         cost = [f"{statistics.median(them):.1f}" for them in costs]
         print(f"| {done} | {connections} | {spread[0]} | {spread[1]} | {ratio:.2f} | {cost[0]} | {cost[1]} |")
 
 
-def main():
-    signal.signal(signal.SIGTERM, lambda *_: sys.exit(143))
+def options(about):
+    about.add_argument("before", type=Path, metavar="BEFORE", help="the program as it was before")
+    servers.ask(about, rounds=ROUNDS, work="/var/tmp")
+
+
+def main(given):
+    global ROUNDS
+    ROUNDS = given.rounds
     running = {}
-    with tempfile.TemporaryDirectory(prefix="cnrelay-turns-", dir=FOLDER) as folder:
+    servers.load()
+    with room("turns", given.work) as folder:
         try:
-            for name, program in PROGRAMS.items():
-                running[name] = servers.relay(program, Path(folder) / name, PORTS[name])
+            for name, program in (("before", given.before.resolve()), ("after", PROGRAM)):
+                running[name] = servers.relay(folder / name, PORTS[name], program=program)
             print_table(measure(running))
-        except servers.Trouble as trouble:
-            sys.exit(f"turns.py: {trouble}")
         finally:
             for server in running.values():
                 server.stop()
-
-
-main()

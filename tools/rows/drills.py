@@ -1,8 +1,6 @@
 """Rows of the program: its words and streams, and what it prints (docs/TESTING.md, Rows of the program)."""
 
 import re
-import shutil
-import subprocess
 from dataclasses import dataclass
 from pathlib import Path
 
@@ -11,47 +9,6 @@ ROWS = Path(__file__).resolve().parent
 DATA = ROWS / "data"
 # What a row begins with: how it is played, and what it shows.
 HEAD = re.compile(r"(?m)^(?==[=1#^] )")
-# A part of a library in front of the C library: where the environment has REFUSE_RANDOM the system
-# gives no random numbers, but as often as GIVE_RANDOM says.
-UNSEEDED = r"""
-#include <errno.h>
-#include <stdlib.h>
-#include <sys/random.h>
-
-int getentropy(void *room, size_t size) {
-    static int given;
-    const char *most = getenv("GIVE_RANDOM");
-    if (getenv("REFUSE_RANDOM") && given++ >= (most ? atoi(most) : 0)) {
-        errno = ENOSYS;
-        return -1;
-    }
-    return getrandom(room, size, 0) == (ssize_t)size ? 0 : -1;
-}
-"""
-# Another: standard output takes as many octets as ROWS_TAKES says, and then fails.
-TAKING = r"""
-#include <errno.h>
-#include <stdlib.h>
-#include <sys/syscall.h>
-#include <unistd.h>
-
-ssize_t write(int file, const void *octets, size_t count) {
-    static size_t taken;
-    const char *takes = file == 1 ? getenv("ROWS_TAKES") : 0;
-    ssize_t written;
-    if (!takes)
-        return syscall(SYS_write, file, octets, count);
-    if (taken + count > strtoul(takes, 0, 10))
-        count = strtoul(takes, 0, 10) - taken;
-    if (count == 0) {
-        errno = ENOSPC;
-        return -1;
-    }
-    written = syscall(SYS_write, file, octets, count);
-    taken += written > 0 ? written : 0;
-    return written;
-}
-"""
 # The marks of the lines above a row's standard input.
 MARKS = ("$ ", "< ", "> ", "! ")
 
@@ -118,16 +75,3 @@ def meant(inside):
 def spelled(text):
     """A text with its short forms written out."""
     return re.sub(r"(?s)\{(.*?)\}", lambda found: meant(found[1]), text)
-
-
-def built(folder, text):
-    """The library of this text in C, compiled in this folder; None where there is no compiler."""
-    library, source = Path(folder) / "fault.so", Path(folder) / "fault.c"
-    source.write_text(text)
-    rt = shutil.which("rt")
-    clang = rt and Path(rt).resolve().parent.parent / "toolchain/bin/clang"
-    for compiler in filter(None, (shutil.which("cc"), clang)):
-        words = [compiler, "-shared", "-fPIC", "-O1", "-o", library, source]
-        if subprocess.run(words, check=False).returncode == 0:
-            return library
-    return None

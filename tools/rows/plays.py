@@ -7,7 +7,8 @@ import threading
 import time
 from concurrent.futures import ThreadPoolExecutor
 
-from peers import BEFORE, GREETING, Client, Wrong, block, cut_to, kept
+from lib.nntp import BEFORE, GREETING, Client, block, cut_to, kept
+from lib.trying import Wrong
 
 IDS = string.ascii_lowercase + string.ascii_uppercase + string.digits
 SIZE = 1200
@@ -27,8 +28,7 @@ def offer_all(row, port, ids, together):
             taken.add(one)
         elif reply != f"439 <{one}@x>\r\n".encode():
             raise Wrong(f"{cut_to(reply)} to TAKETHIS <{one}@x>")
-    client.send(b"QUIT\r\n")
-    client.expect(b"205 Bye\r\n")
+    client.ask(b"QUIT", b"205 Bye")
     client.ended()
     client.closes()
     return taken
@@ -88,7 +88,7 @@ def stop_in_replies(row):
     found = bytearray(client.socket.recv(1))
     row.start("stop", "stop {dir}")
     end = time.monotonic() + row.given.patience
-    while "stopping" not in relay.told(relay.err):
+    while "stopping" not in relay.told():
         if time.monotonic() > end:
             raise Wrong("it hasn't told that it stops")
         found += client.socket.recv(30_000)
@@ -159,16 +159,17 @@ def started(row):
         program = row.programs["(tried)"]
         if not program.has_ended(row.given.patience):
             raise Wrong("it neither serves nor ends") from None
-        return program.told(program.err)[-1]
+        return program.told()[-1]
     row.programs["(tried)"].process.kill()
     row.programs["(tried)"].has_ended(row.given.patience)
     return ""
 
 
 def each_start(row):
-    """Each call that a start of K3 makes of its buffers fails in turn. Nothing else is written than
-    the heads that were opened before: the buffers' own devices are told in their order, first where
-    none is open yet, then where those before it are."""
+    """Each call that a start of K3 makes of its buffers fails in turn, and it is told whose device it
+    was. Nothing else is written than the heads that were opened before. The first three calls look
+    at the heads, in the order of the buffers, and the last three open them in that order; between
+    these the buffers are read side by side, in whatever order that comes."""
     files = {it: it.read_bytes() for it in row.dir.iterdir() if it.suffix in (".buf", ".hist")}
     came, number = [], 0
     while True:
@@ -192,7 +193,7 @@ def each_start(row):
     heads, reads = reads[:3], reads[3:]
     if (came[-3:] != [(it, "ABC"[:place]) for place, it in enumerate(devices)]
             or heads != [(it, "") for it in devices]
-            or reads != sorted(reads) or set(reads) != {(it, "") for it in devices}):
+            or set(reads) != {(it, "") for it in devices}):
         raise Wrong(f"the calls that failed came to {came}")
 
 
@@ -213,9 +214,9 @@ def cut_answers(row):
         path.unlink()
         if not asker.has_ended(row.given.patience):
             raise Wrong(f"{word} doesn't end")
-        came = (asker.process.returncode, asker.told(asker.out), len(asker.told(asker.err)))
+        came = (asker.process.returncode, asker.told(asker.out), len(asker.told()))
         if came != (status, [], 1 if status else 0):
-            raise Wrong(f"{word} came to {came}: {asker.told(asker.err)}")
+            raise Wrong(f"{word} came to {came}: {asker.told()}")
 
 
 PLAYS = {

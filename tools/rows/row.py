@@ -11,10 +11,12 @@ import time
 from collections import Counter, namedtuple
 from pathlib import Path
 
-from peers import (GREETING, NOBODY, TEXTS, Client, Numbers, Started, Taken, Wrong, cut_to,
-                   listening)
-from plays import PLAYS
-from shared import Shared
+from lib import faults, ports
+from lib.nntp import GREETING, TEXTS, Client, cut_to
+from lib.program import PROGRAM
+from lib.relay import NOBODY, Started
+from lib.trying import Late, Wrong, waits_until
+from rows.plays import PLAYS
 
 K1 = {
     "cycbuff.conf": ["cycbuff:A:a.buf:4", "metacycbuff:G:A"],
@@ -55,11 +57,11 @@ Printed = namedtuple("Printed", "out err events most statuses")
 NOTHING = Printed([], [], [], [], [0])
 
 # The lines that tell what happens while a relay is served (docs/OPERATING.md, Lines).
-EVENT = re.compile(r"(serving|recovering|recovered|starting|closed|failed|left|waiting)( \w+=\S*)+|stopping|stopped")
+EVENT = re.compile(r"(serving|recovering|recovered|starting|closed|failed|left|waiting)( \w+=\S*)+|pausing|going|stopping|stopped")
 
 # The lines that say what of a file.
 FILES = ("file", "folder", "pipe", "link", "symlink", "mode", "cut", "poke", "remove", "missing",
-         "holds", "news", "names")
+         "holds", "news", "names", "ages")
 
 # How a line of a news log begins: with a moment.
 MOMENT = re.compile(rb"[A-Z][a-z]{2} [ 123]\d \d\d:\d\d:\d\d\.\d{3} ")
@@ -68,16 +70,67 @@ MOMENT = re.compile(rb"[A-Z][a-z]{2} [ 123]\d \d\d:\d\d:\d\d\.\d{3} ")
 SHARES = ("clock", "later", "pause", "pauses", "stall", "stalled", "release", "fails", "peers",
           "crowded", "refuses", "flushes", "unflushed", "unlogged")
 
-# The users of programs that may have a few threads alone: each program has one of its own, since
-# the system counts a user's.
-USERS = Numbers("users", 61_000, 64_000)
+
+def files_kept_open(pid):
+    """The numbers of the files that a process has open for a second: those that it has for a moment
+    alone, as while it keeps marks, aren't among them."""
+    found = None
+    for _ in range(20):
+        now = {int(it) for it in os.listdir(f"/proc/{pid}/fd")}
+        found = now if found is None else found & now
+        time.sleep(0.05)
+    return found
+
+
+class Taken(Exception):
+    """Another program has a port that was free."""
+
+
+class Played(Started):
+    """A run of the program in a row."""
+
+    def __init__(self, words, user, is_full, **settings):
+        self.full = None
+        if is_full:
+            self.full, settings["stdout"] = full_pipe()
+        if user:
+            settings |= {"user": user, "group": user, "extra_groups": []}
+        super().__init__(words, **settings)
+        if is_full:
+            os.close(settings["stdout"])
+
+    def flows(self):
+        """What it writes to its full pipe is taken from here on; what the pipe was filled with isn't
+        its own."""
+        with open(self.full, "rb") as pipe:
+            self.full = None
+            self.out.write(pipe.read().lstrip(b"\0"))
+
+    def stop(self):
+        super().stop()
+        if self.full is not None:
+            os.close(self.full)
+        self.out.close()
+        self.err.close()
+
+
+def full_pipe():
+    """The two ends of a pipe into which no further octet goes."""
+    reading, writing = os.pipe()
+    os.set_blocking(writing, False)
+    try:
+        while os.write(writing, bytes(4_096)):
+            pass
+    except BlockingIOError:
+        os.set_blocking(writing, True)
+    return reading, writing
 
 
 class Row:
     """A row that is played once."""
 
-    def __init__(self, steps, given, ports, folder):
-        self.steps, self.given, self.ports, self.folder = steps, given, ports, folder
+    def __init__(self, steps, given, folder):
+        self.steps, self.given, self.folder = steps, given, folder
         self.dir = folder / "site"
         self.dir.mkdir()
         self.conf = {name: list(lines) for name, lines in K1.items()}
@@ -95,7 +148,7 @@ class Row:
         # What is set for the library that makes faults, and what the program shares with it.
         self.faults, self.shared = {}, None
         if any(line.partition(" ")[0] in SHARES for _, line, _ in steps):
-            self.shared = Shared(folder / "shared")
+            self.shared = faults.Shared(folder / "shared")
             self.make_fault(ROWS_SHARED=str(self.shared.path))
         # How many lines that clients were sent had which code.
         self.codes = Counter()
@@ -112,7 +165,7 @@ class Row:
                 self.held.append(socket.create_server(("0.0.0.0", 0)))
                 self.numbers[name] = self.held[-1].getsockname()[1]
             else:
-                self.numbers[name] = self.ports.free()
+                self.numbers[name] = ports.free()
         return self.numbers[name]
 
     def text(self, text):
@@ -201,12 +254,7 @@ class Row:
         elif word == "remove":
             path.unlink()
         elif word == "missing":
-            end = time.monotonic() + self.given.patience
-            while os.path.lexists(path):
-                relay = self.programs.get("")
-                if not relay or relay.process.poll() is not None or time.monotonic() > end:
-                    raise Wrong(f"{name} is there")
-                time.sleep(0.01)
+            self.see_soon(lambda: not os.path.lexists(path), lambda: f"{name} is there")
         elif word == "poke":
             at, _, octets = more.partition(" ")
             with open(path, "r+b") as file:
@@ -214,38 +262,52 @@ class Row:
                 file.write(self.octets(octets))
         elif word == "news":
             self.read_news(path, more)
-        elif word == "names":
-            self.compare_names(rest)
+        elif word in ("names", "ages"):
+            self.compare_lines(f"relay.{word}", rest)
         else:
             self.compare(path, more)
 
     def read_news(self, path, wanted):
         """The next line of a news log has to be this behind its moment, or there may be none."""
         at = self.news.get(path.name, 0)
-        end = time.monotonic() + (self.given.patience if wanted else 0.5)
-        while True:
-            lines = path.read_bytes().split(b"\n") if path.exists() else [b""]
-            if len(lines) > at + 1 or time.monotonic() > end:
-                break
-            time.sleep(0.01)
-        if len(lines) <= at + 1:
+
+        def more():
+            lines = path.read_bytes().split(b"\n") if path.exists() else []
+            return lines if len(lines) > at + 1 else None
+
+        try:
+            lines = waits_until(more, f"{path.name} has no line {at + 1}",
+                                self.given.patience if wanted else 0.5)
+        except Late:
             if wanted:
-                raise Wrong(f"{path.name} has no line {at + 1}")
+                raise
             return
         began = MOMENT.match(lines[at])
         if not began or lines[at][began.end() :] != self.octets(wanted):
             raise Wrong(f"{path.name} has {cut_to(lines[at])}, not {wanted}")
         self.news[path.name] = at + 1
 
-    def compare_names(self, lines):
-        """relay.names has to hold these lines and nothing else, soon where the relay goes on."""
-        path, end = self.dir / "relay.names", time.monotonic() + self.given.patience
+    def compare_lines(self, name, lines):
+        """The file has to hold these lines and nothing else, soon where the relay goes on."""
+        path = self.dir / name
         wanted = "".join(f"{it}\n" for it in self.text(lines).split(", ")).encode("latin-1")
-        while (held := path.read_bytes() if path.is_file() else None) != wanted:
+
+        def held():
+            return path.read_bytes() if path.is_file() else b""
+
+        self.see_soon(lambda: held() == wanted, lambda: f"{name} has {cut_to(held(), 600)}")
+
+    def see_soon(self, is_so, what):
+        """This has to be so, soon where the relay goes on."""
+
+        def is_now():
             relay = self.programs.get("")
-            if not relay or relay.process.poll() is not None or time.monotonic() > end:
-                raise Wrong(f"relay.names has {cut_to(held, 600)}")
-            time.sleep(0.01)
+            goes_on = relay and relay.is_running()
+            if (found := is_so()) or goes_on:
+                return found
+            raise Wrong(what())
+
+        waits_until(is_now, what, self.given.patience)
 
     def compare(self, path, more):
         """A file has to hold these octets at this place, or as many, or to be so open to others."""
@@ -273,12 +335,12 @@ class Row:
     def program(self):
         """The program, where nobody can run it."""
         if self.user is None:
-            return self.given.program
+            return PROGRAM
         copy = self.folder / "cnrelay"
         if not copy.exists():
             # By a process of its own: a file that is still open to be written in a child of another
             # thread's can't be run.
-            subprocess.run(["cp", "-p", self.given.program, copy], check=True)
+            subprocess.run(["cp", "-p", PROGRAM, copy], check=True)
             copy.chmod(0o755)
         self.folder.chmod(0o711)
         for it in (self.dir, *self.dir.rglob("*")):
@@ -287,7 +349,7 @@ class Row:
 
     def make_fault(self, **how):
         """Programs meet this fault from here on."""
-        self.faults = {**self.faults, **how, "LD_PRELOAD": str(self.given.library)}
+        self.faults |= faults.meeting(self.given.library, **how)
 
     def share(self, name, rest):
         """Sets something of the program."""
@@ -319,11 +381,8 @@ class Row:
 
     def see_come(self, name):
         """A call that has to wait has come, or a thread that has to pause."""
-        end = time.monotonic() + self.given.patience
-        while not self.shared.get(name):
-            if time.monotonic() > end:
-                raise Wrong(f"nothing waits after {self.given.patience} seconds")
-            time.sleep(0.001)
+        waits_until(lambda: self.shared.get(name),
+                    f"nothing waits after {self.given.patience} seconds", self.given.patience, 0.001)
 
     def see_flushed(self, files):
         """These are the next files to be flushed, in this order, soon."""
@@ -345,11 +404,8 @@ class Row:
     def see_tasks(self, count):
         """The relay has so many threads."""
         tasks = Path(f"/proc/{self.programs[''].process.pid}/task")
-        end = time.monotonic() + self.given.patience
-        while (found := len(os.listdir(tasks))) != count:
-            if time.monotonic() > end:
-                raise Wrong(f"it has {found} threads")
-            time.sleep(0.01)
+        waits_until(lambda: len(os.listdir(tasks)) == count,
+                    lambda: f"it has {len(os.listdir(tasks))} threads", self.given.patience)
 
     def start(self, name, words):
         """Starts the program under this name."""
@@ -369,24 +425,28 @@ class Row:
             words = ["/bin/sh", "-c", f'exec "$0" "$@" {closes}', *words]
         passed = [self.pipe[0]] if self.pipe else []
         is_full = self.is_full and not name
-        self.started.append(Started(words, self.folder, self.user, passed, is_full, self.faults))
+        self.started.append(Played(words, self.user, is_full, cwd=self.folder, pass_fds=passed,
+                                   faults=self.faults))
         self.programs[name] = self.started[-1]
         return self.started[-1]
 
     def serves(self, words):
-        ports = self.write_conf()
+        own = self.write_conf()
         most = re.search(r"--sessions (\d+)", words)
-        self.most, self.calls = int(most[1]) if most else None, dict.fromkeys(ports, 0)
+        self.most, self.calls = int(most[1]) if most else None, dict.fromkeys(own, 0)
         relay = self.start("", f"serve {{dir}} {words}")
-        end = time.monotonic() + self.given.patience
-        while not (set(ports) <= listening()
-                   and ("serving" in " ".join(relay.told(relay.err)) or "2" in self.closed)):
-            if relay.process.poll() is not None:
+
+        def is_served():
+            if ports.listening().issuperset(own) and ("serving" in " ".join(relay.told())
+                                                      or "2" in self.closed):
+                return True
+            if not relay.is_running():
                 self.see_taken(relay)
-                raise Wrong(f"it ended with {relay.process.returncode}: {relay.told(relay.err)}")
-            if time.monotonic() > end:
-                raise Wrong(f"it doesn't listen after {self.given.patience} seconds")
-            time.sleep(0.01)
+                raise Wrong(f"it ended with {relay.process.returncode}: {relay.told()}")
+            return False
+
+        waits_until(is_served, f"it doesn't listen after {self.given.patience} seconds",
+                    self.given.patience)
 
     def may_have(self, word, count):
         """The relay may open so many files more, or write no file beyond so many octets."""
@@ -394,18 +454,18 @@ class Row:
         kind = resource.RLIMIT_NOFILE if word == "files" else resource.RLIMIT_FSIZE
         most = resource.prlimit(pid, kind)[1]
         if count and word == "files":
-            used = {int(it) for it in os.listdir(f"/proc/{pid}/fd")}
+            used = files_kept_open(pid)
             count = [it for it in range(len(used) + int(count) + 1) if it not in used][int(count)]
         resource.prlimit(pid, kind, (int(count) if count else most, most))
 
     def see_told(self, count, line):
         """The relay has told so many such lines of what happens, soon."""
-        end = time.monotonic() + self.given.patience
         relay, line = self.programs[""], self.text(line)
-        while (found := sum(is_line(it, line) for it in relay.told(relay.err))) < int(count):
-            if time.monotonic() > end:
-                raise Wrong(f"told {found} times")
-            time.sleep(0.01)
+
+        def found():
+            return sum(is_line(it, line) for it in relay.told())
+
+        waits_until(lambda: found() >= int(count), lambda: f"told {found()} times", self.given.patience)
 
     def see_rest(self, seconds):
         """In so many seconds the relay takes a fifth of one processor's time at most."""
@@ -435,7 +495,7 @@ class Row:
     def see_taken(self, program):
         """Where the program says that a port of the row's own is taken, the row isn't wrong."""
         own = [it for name, it in self.numbers.items() if name != "taken"]
-        for line in program.told(program.err):
+        for line in program.told():
             port = re.fullmatch(r"serve: (\d+): unusable", line)
             if port and int(port[1]) in own:
                 raise Taken
@@ -446,8 +506,7 @@ class Row:
             for _ in range(count, self.most or 0):
                 client = Client(self.connected(port), self.given.patience)
                 client.expect(GREETING)
-                client.send(b"QUIT\r\n")
-                client.expect(b"205 Bye\r\n")
+                client.ask(b"QUIT", b"205 Bye")
                 client.closes()
 
     def ends(self, name, wanted):
@@ -462,7 +521,7 @@ class Row:
         out, err, events = ([self.text(it) for it in lines] if lines is not None else None
                             for lines in wanted[:3])
         most = [(int(count), self.text(line)) for count, line in wanted.most]
-        told = program.told(program.err)
+        told = program.told()
         happened = [it for it in told if EVENT.fullmatch(it)]
         came = Printed(program.told(program.out), [it for it in told if it not in happened],
                        happened, most, program.process.returncode)
@@ -481,7 +540,7 @@ class Row:
         program = self.start("(runs)", "check {dir}")
         if not program.has_ended(self.given.patience):
             raise Wrong(f"it hasn't ended after {self.given.patience} seconds")
-        out, err = program.told(program.out), program.told(program.err)
+        out, err = program.told(program.out), program.told()
         status = program.process.returncode
         is_told = re.fullmatch(r"\w+\.conf:\d+: \d+ \w+", "\n".join(err))
         is_unbegun = out[1:] == ["relay: nothing kept yet: a start begins"]
@@ -630,7 +689,7 @@ class Row:
         elif line == "nobody":
             self.user = NOBODY if os.geteuid() == 0 else None
         elif name == "threads" and os.geteuid() == 0:
-            self.user, self.threads = USERS.row()[0], int(rest)
+            self.user, self.threads = ports.USERS.row()[0], int(rest)
         elif name == "limit":
             self.limit = int(rest)
         elif name == "closed":

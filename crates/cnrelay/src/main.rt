@@ -1,8 +1,8 @@
 //! cnrelay, the incoming side of a Netnews transit server: it serves peers on ports, over files; it
 //! runs a drill, a script of events, over memory, and prints what the relay answers; it says how
 //! much a configuration has and how its relay stands, or its first fault, and what a token stands
-//! for; it adds buffers to a relay that was stopped, and asks one that is served to end, or for its
-//! report.
+//! for; it adds buffers to a relay that was stopped, and asks one that is served to end, to take no
+//! new articles for now, or for its report.
 //!
 //! What it does with its words is a promise of `relay_command`, what serves of `relay_serve`, and
 //! what adds and looks of `relay_startup`. Here the calls of the first are handed the words, the
@@ -11,12 +11,12 @@
 #![tactic(auto)]
 
 use news_log::Opening;
+use relay_check::{add_on, stand_on};
 use relay_command::{
     Failure, Request, exit_code, gathering, hint, print_failure, program_words, run,
 };
-use relay_folder::{Word, ask};
+use relay_folder::{Filing, Word, ask};
 use relay_serve::serve_on;
-use relay_startup::{add_on, stand_on};
 use std::alloc::Global;
 use std::env::Env;
 use std::fs::{File, Files};
@@ -43,6 +43,7 @@ where
     R: AllocGlobal
         + Env
         + Files<File = File>
+        + Filing
         + Opening
         + Input
         + Print
@@ -85,6 +86,8 @@ fn ask_there<N: Net>(
     let word = match request {
         Request::Stop => Word::Stop,
         Request::Report => Word::Report,
+        Request::Pause => Word::Pause,
+        Request::Go => Word::Go,
     };
     ask(net, alloc, folder, word)
 }

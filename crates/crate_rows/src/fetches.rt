@@ -1,6 +1,8 @@
 //! Rows for fetches out of what the threads of a relay share, and for what is said to the journal
 //! (relay_live), by one thread.
 ghost use Rattle.std.specs.Prelude.{◌≡◌, ◌∷◌, [], true, All, length, map, IfOk};
+ghost use Rattle.feed_queue.specs.Feeds.{ring_size};
+ghost use Rattle.post_history.specs.Opening.{book_in};
 ghost use Rattle.relay_conf.specs.K1.{IsK1};
 ghost use Rattle.relay_live.specs.Holding.{has_buffer};
 
@@ -19,6 +21,7 @@ use live_jobs::{Store, StoreResult};
 use live_journal::PendingJournal;
 use live_session::{Clock, Shares};
 use live_store::{ArticleLog, Fetched, StorePremises};
+use post_history::{Naming, Opened};
 use relay_conf::Config;
 use relay_live::{Keeper, Shared};
 use std::alloc::{AllocError, Global};
@@ -92,7 +95,10 @@ fn put_over<R: RandomSource + Wait>(
     match ArticleLog::new(sheet.alloc) {
         Ok(register) => {
             let blank = Blank::new(1);
-            put_of::<Brand, Brand, R>(rt, config, &register, devices, blank, asked, cells, sheet);
+            let opened = Opened::new();
+            put_of::<Brand, Brand, R>(
+                rt, config, &register, devices, blank, opened, asked, cells, sheet,
+            );
             drop(register);
         }
         Err(_) => sheet.lack(),
@@ -113,12 +119,13 @@ fn devices_of(failing: u64, alloc: Global) -> Result<Vec<Device>, AllocError>
 }
 
 /// Writes what is asked, over these devices, which are trusted.
-fn put_of<J: StorePremises, L: Ledger, R: RandomSource + Wait>(
+fn put_of<J: StorePremises + Naming, L: Ledger, R: RandomSource + Wait>(
     rt: &R,
     config: &Config,
     register: &ArticleLog,
     devices: Vec<Device>,
     blank: Blank,
+    opened: Opened,
     asked: Asked,
     cells: &Cells,
     sheet: &Sheet,
@@ -129,6 +136,8 @@ fn put_of<J: StorePremises, L: Ledger, R: RandomSource + Wait>(
     requires honest { All ⟦<Device as BlockStore>⟧.honest devices.items }
     requires premises { (register.now ≡ J.register) × (J.trusted ≡ true)
         × (J.holds ≡ has_buffer config.now.buffers) }
+    requires posts { (book_in opened ≡ J.book) × (J.began ≡ [])
+        × (J.rings ≡ map ring_size config.now.relay.feeds.items) }
     requires ledger { (blank.name ≡ L.name) × (blank.parts ≡ L.parts) × (L.parts ≡ 1) }
 {
     let (book, share) = blank.open::<L>();
@@ -138,6 +147,7 @@ fn put_of<J: StorePremises, L: Ledger, R: RandomSource + Wait>(
         config,
         devices,
         book,
+        opened,
         0,
     );
     match made {
@@ -156,7 +166,7 @@ fn put_of<J: StorePremises, L: Ledger, R: RandomSource + Wait>(
 }
 
 /// Writes what is fetched out of what is shared, once it has the articles.
-fn put_shared<J: StorePremises, L: Ledger, R: Wait>(
+fn put_shared<J: StorePremises + Naming, L: Ledger, R: Wait>(
     rt: &R,
     config: &Config,
     register: &ArticleLog,
@@ -186,7 +196,7 @@ fn put_shared<J: StorePremises, L: Ledger, R: Wait>(
 }
 
 /// Stores articles, and says whether all are kept.
-fn are_kept<J: StorePremises, L: Ledger, R: Wait>(
+fn are_kept<J: StorePremises + Naming, L: Ledger, R: Wait>(
     rt: &R,
     shared: &Shared<Device, J, L>,
     keeper: &Keeper<'_, Device, J, L, Standing, ArticleLog>,
@@ -209,7 +219,7 @@ fn are_kept<J: StorePremises, L: Ledger, R: Wait>(
 
 /// Stores the article of a job, where its session is to have it stored, and says whether it is
 /// kept.
-fn is_kept<J: StorePremises, L: Ledger, R: Wait>(
+fn is_kept<J: StorePremises + Naming, L: Ledger, R: Wait>(
     rt: &R,
     shared: &Shared<Device, J, L>,
     keeper: &Keeper<'_, Device, J, L, Standing, ArticleLog>,
@@ -231,7 +241,7 @@ fn is_kept<J: StorePremises, L: Ledger, R: Wait>(
 }
 
 /// Writes what is fetched under each of these tokens.
-fn put_fetches<J: StorePremises, L: Ledger, R: Wait>(
+fn put_fetches<J: StorePremises + Naming, L: Ledger, R: Wait>(
     rt: &R,
     shared: &Shared<Device, J, L>,
     register: &ArticleLog,

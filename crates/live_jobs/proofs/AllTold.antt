@@ -3,7 +3,7 @@ use Rattle.std.proofs.Common.{◌≡◌, ◌+◌, ◌<◌, ◌++◌, ◌∷◌, 
 use Rattle.std.proofs.Common.{length, map, sym, take}
 use Rattle.std.proofs.lemmas.Grind.{flat_map-append}
 use Rattle.std.proofs.lemmas.List.{map-append, take_more}
-use Rattle.live_jobs.specs.StoredAgain.{all_told}
+use Rattle.live_jobs.specs.Gathered.{all_told}
 use Rattle.live_jobs.specs.declared.outcome.FinishedJob.{FinishedJob}
 
 pub told_on : {W O : Type 0} (f : W → List (FinishedJob O)) (ws : List W) (k : ℕ) (w : W)

@@ -9,7 +9,7 @@ use Rattle.std.specs.Prelude.{IsSomeAnd, slice_get, Option, None, Some}
 use Rattle.boxcar.specs.Table.{Shelves, Where}
 use Prim.Native.Nat.{zero, suc}
 use Rattle.job_queue.specs.declared.parcel.Handed.{Handed}
-use Rattle.live_jobs.specs.StoredAgain.{all_told}
+use Rattle.live_jobs.specs.Gathered.{all_told}
 use Rattle.live_jobs.specs.StoreResults.{FitsJob}
 use Rattle.live_jobs.specs.Mismatches.{BearsOut}
 use Rattle.live_jobs.specs.Texts.{IsGivenOf, Run, ToldJob, IsHandedIn}

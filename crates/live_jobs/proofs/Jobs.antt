@@ -11,10 +11,12 @@ use Rattle.std.specs.Ordering.{is_eq, nat_cmp, ordering_then}
 use Rattle.std.specs.declared.cmp.Ordering.{Ordering}
 use Rattle.std.specs.declared.cmp.Ordering.TheVariants.{Less, Equal, Greater}
 use Rattle.live_jobs.specs.Mismatches.{is_kept_as, is_conflict, is_receipt_of, conflicts_in}
+use Rattle.live_jobs.specs.FinishedLists.{told_of_job}
 use Rattle.live_jobs.specs.Sets.{has_job}
 use Rattle.live_jobs.specs.Mismatches.{mismatched_of, mismatched_from}
 use Rattle.live_jobs.specs.Sets.{unlisted_of, unlisted_from}
 use Rattle.live_jobs.specs.declared.desk.both.Posted.{Posted}
+use Rattle.live_jobs.specs.declared.finished.ToldJob.{ToldJob}
 use Rattle.live_store.specs.declared.record.StorePremises.{Ghosts}
 use Rattle.live_jobs.specs.declared.outcome.FinishedJob.{FinishedJob}
 use Rattle.live_jobs.specs.declared.store_result.StoreResult.{StoreResult}
@@ -106,18 +108,32 @@ conflicts_next {J} {g} d left rest outcome from is =
     ∙ sum_by-cons (λ (x : FinishedJob (StoreResult J g)). cond (is_conflict x.outcome) 1 0) d rest
     ∙ ap (λ (f : StoreResult J g). cond (is_conflict f) 1 0 + conflicts_in rest) is
 
--- where none is left all were added
-pub none_left : {J : Type 0} {g : Ghosts J} (left : List (FinishedJob (StoreResult J g)))
-    (test : FinishedJob (StoreResult J g) → Bool) (new all : Bool) → left ≡ []
-    → (new || list_any test left) ≡ all
-    → new ≡ all
-none_left {J} {g} left test new all none is =
-    or_none new ∙ ap (λ (ds : List (FinishedJob (StoreResult J g))). new || list_any test ds)
-    (sym none) ∙ is
-  where
-    or_none : (b : Bool) → b ≡ (b || false)
-    or_none true = refl
-    or_none false = refl
+-- the jobs from one on, of which this is kept
+pub told_next : {O : Type 0} (items : List (FinishedJob O)) (told : List (ToldJob O)) (i : ℕ)
+    (one : ToldJob O) → told ≡ map told_of_job items → i < length told → one ≡ get_or told i one
+    → (id : List ℕ) × (drop i items
+    ≡ record { end = one.end; number = one.number; id = id; outcome = one.outcome }
+    ∷ drop (i + 1) items)
+told_next {O} items told i one kept below at =
+    let any : FinishedJob O =
+    record { end = one.end; number = one.number; id = []; outcome = one.outcome } in
+    let d : FinishedJob O = get_or items i any in
+    let few : i < length items =
+    omega (
+      arith,
+      below,
+      ap (λ (l : List (ToldJob O)). length l) kept,
+      length-map items (λ (x : FinishedJob O). told_of_job x),
+    ) in
+    let same : told_of_job d ≡ one =
+    sym (at ∙ ap (λ (l : List (ToldJob O)). get_or l i one) kept
+    ∙ get_or-map (λ (x : FinishedJob O). told_of_job x) items i any one few) in (
+      d.id,
+      at_drop_more (λ (l : List (FinishedJob O)). l) items i any few
+          ∙ ap (λ (t : ToldJob O).
+          record { end = t.end; number = t.number; id = d.id; outcome = t.outcome }
+          ∷ drop (i + 1) items) same,
+    )
 
 -- an answer whose job is one of the set, or none of it
 answer_next : {J : Type 0} {g : Ghosts J} (jobs : BTreeSet (ℕ × ℕ × ℕ)) (end : ℕ)

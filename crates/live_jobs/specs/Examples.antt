@@ -49,13 +49,3 @@ three_mismatched_receipts posted one fault forgotten =
     ∷ (tells 1 0 (codes "<b@x>") (store_results.Failed fault forgotten)
     ∷ tells 1 1 (codes "<d@x>") (store_results.Conflict forgotten) ∷ [])
     ∷ []
-
--- one message-id was kept by both writers; of another job with it the one failed
-abbrev pub kept_twice : {J : Type 0} {g : Ghosts J} → Posted → (one two : Receipt J g) → Fault
-    → Forgotten → List (List (FinishedJob (StoreResult J g)))
-kept_twice posted one two fault forgotten =
-    (tells 0 0 (codes "<a@x>") (store_results.Kept one posted)
-    ∷ tells 0 1 (codes "<b@x>") (store_results.Kept two posted) ∷ [])
-    ∷ (tells 1 0 (codes "<a@x>") (store_results.Kept two posted)
-    ∷ tells 1 1 (codes "<a@x>") (store_results.Failed fault forgotten) ∷ [])
-    ∷ []

@@ -1,6 +1,6 @@
 -- What is so once all seats have come back (docs/PROTOCOL.md, Threads).
 use Rattle.std.specs.Prelude.{◌≡◌, ℕ, ◌+◌, ◌<◌, ◌≤◌, ◌==◌, Bool, true, false, List, [], ◌∷◌, length}
-use Rattle.std.specs.Prelude.{map, Some, slice_get, cond}
+use Rattle.std.specs.Prelude.{map, flat_map, Some, slice_get, cond}
 use Rattle.crossbeam_queue.specs.Passes.{view, IsPassOf}
 use Rattle.job_queue.specs.Delivery.{end_limit, knows}
 use Rattle.job_queue.specs.Passes.{QueuePass}
@@ -20,6 +20,10 @@ OfChannel channels g pass = (channel : JobChannel) → slice_get channels g ≡ 
 -- the closing mark of each of n ends was taken
 abbrev pub AllClosed : (n : ℕ) → List Bool → Type 0
 AllClosed n closed = (length closed ≡ n) × ((e : ℕ) → e < n → slice_get closed e ≡ Some true)
+
+-- all jobs that the writers tell of
+abbrev pub all_told : {O : Type 0} → List (List (FinishedJob O)) → List (FinishedJob O)
+all_told finished_lists = flat_map (λ finished. finished) finished_lists
 
 -- the jobs of one end, of those that a writer told of, in order
 abbrev pub told_of : {O : Type 0} → (e : ℕ) → List (FinishedJob O) → List (FinishedJob O)

@@ -1,7 +1,6 @@
 pub mod Desks
 pub mod FinishedLists
 pub mod Forgotten
-pub mod StoredAgain
 pub mod Examples
 pub mod StoreResults
 pub mod Gathered
@@ -9,8 +8,6 @@ pub mod JobChannels
 pub mod Names
 pub mod Posted
 pub mod Posting
-pub mod Read
-pub mod Reads
 pub mod Rows
 pub mod Seats
 pub mod Sets

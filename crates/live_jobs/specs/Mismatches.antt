@@ -2,7 +2,7 @@
 use Rattle.std.specs.Prelude.{◌≡◌, ℕ, ◌+◌, ◌==◌, ◌&&◌, Bool, true, false, not, List, [], ◌∷◌}
 use Rattle.std.specs.Prelude.{count_by, slice_get, Some}
 use Rattle.std.specs.List.{list_any}
-use Rattle.live_jobs.specs.StoredAgain.{all_told}
+use Rattle.live_jobs.specs.Gathered.{all_told}
 use Rattle.live_jobs.specs.declared.store_result.StoreResult.{StoreResult}
 use Rattle.live_jobs.specs.declared.store_result.StoreResult.TheVariants as store_results
 use Rattle.live_jobs.specs.declared.store_result.KeptJob.{KeptJob}

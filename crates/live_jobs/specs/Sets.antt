@@ -1,15 +1,9 @@
 -- What is in the sets with which is counted.
 use Rattle.std.specs.Prelude.{ℕ, ◌+◌, Bool, not, List, [], ◌∷◌, count_by}
 use Rattle.std.specs.BTreeSet.{BTreeSet, contains_by}
-use Rattle.std.specs.Cmp.Lexicographic.{slice_cmp}
 use Rattle.std.specs.Ordering.{nat_cmp, ordering_then}
 use Rattle.live_jobs.specs.declared.store_result.KeptJob.{KeptJob}
 use Rattle.live_store.specs.declared.record.StorePremises.{Ghosts}
-use denote.Ref.{Bor}
-
--- the text is one of the set
-abbrev pub has_text : BTreeSet (Bor (List ℕ)) → List ℕ → Bool
-has_text texts text = contains_by (λ one. slice_cmp nat_cmp text one.now) texts
 
 -- the kept job is one of the set: its end, its number and its register number
 abbrev pub has_job : BTreeSet (ℕ × ℕ × ℕ) → (end number register : ℕ) → Bool

@@ -1,7 +1,7 @@
 //! Kept answers whose writers have no such receipt (docs/PROTOCOL.md, Threads).
 ghost use Rattle.std.specs.Prelude.{◌≡◌, ◌<◌, ◌^◌, ◌||◌, ℕ, map, IfOk, OnOk};
 ghost use Rattle.std.specs.List.{list_any};
-ghost use Rattle.live_jobs.specs.StoredAgain.{all_told};
+ghost use Rattle.live_jobs.specs.Gathered.{all_told};
 ghost use Rattle.live_jobs.specs.Sets.{has_job, unlisted_of, unlisted_from};
 ghost use Rattle.live_jobs.specs.Mismatches.{mismatched_receipts_in, conflicts_in, is_receipt_of};
 ghost use Rattle.live_jobs.specs.Mismatches.{AllBorneOut};
@@ -52,12 +52,12 @@ fn add_jobs<J: StorePremises>(
         ≡ (has_job jobs.old end number register
         || list_any (is_receipt_of end number register) finished.now.items)) }
     ensures conflict { IfOk result (λ n. n ≡ conflicts_in finished.now.items) }
-    ensures few { IfOk result (λ n. n < 2 ^ 62) }
+    ensures few { IfOk result (λ n. n < 2 ^ 63) }
 {
     let mut conflict = 0;
-    let mut left = finished.all();
-    while let Some(one) = left.next() {
-        match one.outcome {
+    let told = finished.all();
+    for one in told {
+        match &one.outcome {
             StoreResult::Kept(receipt, _) => {
                 jobs.insert((one.end, one.number, receipt.number()))?;
                 continue;

@@ -1,7 +1,7 @@
 //! The posts are counted, once all seats have come back.
 ghost use Rattle.std.specs.Prelude.{◌≡◌, ◌+◌, ◌<◌, ◌≤◌, ℕ, false, Some};
 ghost use Rattle.std.specs.Prelude.{slice_get, length, map};
-ghost use Rattle.live_jobs.specs.Desks.{posts_in};
+ghost use Rattle.live_jobs.specs.Desks.{desk_of, posts_in, posts_of};
 ghost use Rattle.live_jobs.specs.Gathered.{kept_by_all};
 
 use crate::desk::CountedDesk;
@@ -51,6 +51,9 @@ pub(crate) fn count_all<L: Ledger, O: Outcome>(
     ensures accepted { result.accepted
         ≡ kept_by_all O.kept (map (λ w. w.finished.items) writers.old.items) }
     ensures posted { posts_in result.posted ≡ result.accepted }
+    ensures made { posts_in result.posted ≡ posts_of desk.old }
+    ensures same { posts_of desk.new ≡ posts_of desk.old }
+    ensures rings { desk_of desk.new ≡ desk_of desk.old }
     ensures finished { map (λ w. w.finished.items) writers.new.items
         ≡ map (λ w. w.finished.items) writers.old.items }
     ensures pass { map (λ w. w.pass) writers.new.items ≡ map (λ w. w.pass) writers.old.items }

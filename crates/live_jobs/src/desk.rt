@@ -218,6 +218,7 @@ impl<L: Ledger> CountedDesk<L> {
         ensures amount { posts_in result ≡ all.old.amount }
         ensures share { (all.new.parts ≡ all.old.parts) × (all.new.amount ≡ all.old.amount) }
         ensures desk { desk_of self.new ≡ desk_of self.old }
+        ensures same { posts_of self.new ≡ posts_of self.old }
     {
         let CountedDesk {
             desk: _desk,

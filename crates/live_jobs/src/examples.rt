@@ -1,6 +1,5 @@
 //! Worked counts, computed.
 ghost use Rattle.std.specs.Prelude.{◌≡◌};
-ghost use Rattle.live_jobs.specs.StoredAgain.{ids_stored_again_in};
 ghost use Rattle.live_jobs.specs.Examples as examples;
 ghost use Rattle.live_jobs.specs.Mismatches.{mismatched_receipts_in};
 
@@ -26,18 +25,4 @@ pub fn worked_mismatched_receipts<J: StorePremises>(
     ensures three { mismatched_receipts_in (examples.answers one.now two.now)
         (examples.three_mismatched_receipts posted.now one.now fault.now forgotten.now)
         ≡ 3 }
-{}
-
-/// Message-ids of one length are stored again only where their octets are the same, and only of
-/// jobs that were kept.
-pub fn worked_ids_stored_again<J: StorePremises>(
-    one: &Receipt<J>,
-    two: &Receipt<J>,
-    posted: &Posted,
-    fault: &Fault,
-    forgotten: &Forgotten,
-)
-    ensures none { ids_stored_again_in (examples.all_stand posted.now one.now two.now) ≡ 0 }
-    ensures one { ids_stored_again_in (examples.kept_twice posted.now one.now two.now fault.now
-        forgotten.now) ≡ 1 }
 {}

@@ -9,7 +9,7 @@ ghost use Rattle.live_jobs.specs.Gathered.{OfChannel, AllClosed, LeftsFit, Rests
 ghost use Rattle.live_jobs.specs.Gathered.{IsRest, hands_of, told_of, Told, ToldBelow, AllTold};
 ghost use Rattle.live_jobs.specs.Gathered.{NoneElse, kept_by_all};
 ghost use Rattle.live_jobs.specs.Started.{AllEnded, AllLeft};
-ghost use Rattle.live_jobs.specs.Desks.{posts_in};
+ghost use Rattle.live_jobs.specs.Desks.{desk_of, posts_in, posts_of};
 
 use crate::channel::JobChannel;
 use crate::count::count_all;
@@ -19,7 +19,6 @@ use crate::session::LeftSeat;
 use crate::writer::WriterSeat;
 use job_queue::QueuePass;
 use std::sync::ledger::Ledger;
-use std::sync::{Mutex, Wait};
 
 impl LeftSeat {
     /// Compares what the writer of one group told with what the end handed over to it.
@@ -137,11 +136,10 @@ pub struct Seats<L: Ledger, O: Outcome, V> {
 /// Compares all seats (docs/PROTOCOL.md, Threads 9). What each writer told of each end is what this
 /// end handed over to its group, each job once, in order, with what became of it; of no other end
 /// anything was told; and as many jobs were kept as the desk made posts. The writers' shares are
-/// used up; else nothing changes.
-pub fn close<L: Ledger, O: Outcome, V, R: Wait>(
-    rt: &R,
+/// used up; else nothing changes. The caller holds the desk.
+pub fn close<L: Ledger, O: Outcome, V>(
     channels: &[JobChannel],
-    desk: &Mutex<CountedDesk<L>>,
+    desk: &mut CountedDesk<L>,
     rests: &mut Vec<QueuePass>,
     seats: &mut Seats<L, O, V>,
 ) -> Totals
@@ -158,15 +156,15 @@ pub fn close<L: Ledger, O: Outcome, V, R: Wait>(
     ensures accepted { result.accepted
         ≡ kept_by_all O.kept (map (λ w. w.finished.items) seats.old.writers.items) }
     ensures posted { posts_in result.posted ≡ result.accepted }
+    ensures made { posts_in result.posted ≡ posts_of desk.old }
+    ensures same { posts_of desk.new ≡ posts_of desk.old }
+    ensures rings { desk_of desk.new ≡ desk_of desk.old }
     ensures finished { map (λ w. w.finished.items) seats.new.writers.items
         ≡ map (λ w. w.finished.items) seats.old.writers.items }
     ensures handed { hands_of seats.new.lefts.items ≡ hands_of seats.old.lefts.items }
     ensures services { seats.new.services.items ≡ seats.old.services.items }
 {
-    let totals = {
-        let mut desk = desk.lock(rt);
-        count_all(&mut *desk, &mut seats.writers)
-    };
+    let totals = count_all(desk, &mut seats.writers);
     compare_all(channels, &mut seats.lefts, &mut seats.writers, rests);
     totals
 }

@@ -1,7 +1,7 @@
 //! What is so of a text that is fetched under the number of a kept answer.
 ghost use Rattle.std.specs.Prelude.{◌≡◌, ◌<◌, ℕ, true, IsSomeAnd, List, length, Some, slice_get};
 ghost use Rattle.job_queue.specs.declared.parcel.Handed.{Handed};
-ghost use Rattle.live_jobs.specs.StoredAgain.{all_told};
+ghost use Rattle.live_jobs.specs.Gathered.{all_told};
 ghost use Rattle.live_jobs.specs.StoreResults.{FitsJob};
 ghost use Rattle.live_jobs.specs.Mismatches.{BearsOut};
 ghost use Rattle.live_jobs.specs.Texts.{RunJob, ToldJob, IsHandedIn, number_in, octets_in};

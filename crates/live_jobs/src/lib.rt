@@ -10,8 +10,6 @@
 //! against the posts that the desk made. An article that can't be stored is given up, under the
 //! shard's lock alone.
 //!
-//! Names of jobs in few octets: a list that grows at its end and is read from its start.
-//!
 //! A job is named by its end, its number among those of the end, and its message-id.
 //!
 //! The seats of the relay's threads (docs/PROTOCOL.md, Threads): ends hand jobs over, writers take
@@ -34,10 +32,7 @@ mod finished;
 mod forgetting;
 mod gather;
 mod held;
-mod ids;
 pub mod laws;
-mod left;
-mod names;
 mod open;
 mod outcome;
 mod own_thread;
@@ -47,28 +42,22 @@ mod run_premises;
 mod seated;
 mod serve;
 mod session;
-mod settling;
 mod start;
 mod store_result;
-mod varints;
 mod writer;
 mod writer_turns;
 
 pub use answers::mismatched_receipts;
 pub use channel::{JobChannel, LOOKS};
 pub use desk::{CountedDesk, Posted, Posts, Unsettled, settle_both};
-pub use finished::{FinishedJobRef, FinishedLeft, FinishedList};
+pub use finished::{FinishedList, ToldJob};
 pub use forgetting::{Forgotten, forget};
 pub use gather::{Seats, Totals, close};
-pub use ids::ids_stored_again;
-pub use left::{JobName, NamesLeft};
-pub use names::JobNames;
 pub use open::{Opened, open_all};
 pub use outcome::{FinishedJob, Outcome};
 pub use run_premises::RunPremises;
 pub use serve::{SeatsError, serve_seats};
 pub use session::{LeftSeat, SessionSeat, hang_up};
-pub use settling::settle;
 pub use start::{Accounts, Leaver, Plan, Service};
 pub use store_result::{JobAnswer, KeptJob, StoreResult, answer_of};
 pub use writer::{Store, WriterSeat};

@@ -10,7 +10,7 @@ use Rattle.relay_command.specs.Ask.{Asking}
 use Rattle.clap.specs.Words.{Text}
 use Rattle.clap.specs.declared.error.Error.{Error}
 use Rattle.relay_command.specs.CommandLine.{Adds, Asked, Checks, Drills, Explains, Reports, Serves}
-use Rattle.relay_command.specs.CommandLine.{Clashes, IsAskedBy, Stops, Tells}
+use Rattle.relay_command.specs.CommandLine.{Clashes, Goes, IsAskedBy, Pauses, Stops, Tells}
 use Rattle.relay_command.specs.Help.{HelpGives}
 use Rattle.relay_command.specs.Run.{Performs, RunGives}
 use Rattle.relay_command.specs.Serving.{Handed, Serving}
@@ -41,6 +41,8 @@ module _ {W : Type 0} (contents : W → Option (List ℕ))
   never_words (Serves folder sessions fresh) error input before after does = does
   never_words (Stops folder) error input before after does = does
   never_words (Reports folder form) error input before after does = does
+  never_words (Pauses folder) error input before after does = does
+  never_words (Goes folder) error input before after does = does
   never_words Clashes error input before after does = does
   never_words (Adds folder) error input before after does = does
 
@@ -54,6 +56,8 @@ module _ {W : Type 0} (contents : W → Option (List ℕ))
   never_unwritten (Serves folder sessions fresh) input before after does = does
   never_unwritten (Stops folder) input before after does = does
   never_unwritten (Reports folder form) input before after does = does
+  never_unwritten (Pauses folder) input before after does = does
+  never_unwritten (Goes folder) input before after does = does
   never_unwritten Clashes input before after does = does
   never_unwritten (Adds folder) input before after does = does
 

@@ -1,5 +1,5 @@
 -- What a relay that is served is asked for, and how it answers (docs/PROTOCOL.md, `stop` and
--- `report`).
+-- `report`, `pause` and `go`).
 use Rattle.std.specs.Prelude.{◌≡◌, ℕ, Bool, true, false, List, ◌++◌, codes, string_bytes, Option}
 use Rattle.std.specs.Prelude.{Result, Ok, Err}
 use denote.Ref.{Bor}

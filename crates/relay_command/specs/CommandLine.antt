@@ -39,6 +39,10 @@ pub data Asked : Type 0 where
   Stops : (folder : List ℕ) → Asked
   -- to print the report of the relay that is served in a folder, in this form
   Reports : (folder : List ℕ) (form : Form) → Asked
+  -- to have the relay that is served in a folder take no new articles for now
+  Pauses : (folder : List ℕ) → Asked
+  -- to have it take them again
+  Goes : (folder : List ℕ) → Asked
   -- to print a report in two forms, which isn't done
   Clashes : Asked
   -- to make the files of the buffers that the configuration in a folder has behind those of the
@@ -55,6 +59,8 @@ asked (jobs.Token text) = Tells (string_bytes text)
 asked (jobs.Serve folder sessions fresh) = Serves (string_bytes folder) sessions fresh
 asked (jobs.Stop folder) = Stops (string_bytes folder)
 asked (jobs.Report folder form) = Reports (string_bytes folder) form
+asked (jobs.Pause folder) = Pauses (string_bytes folder)
+asked (jobs.Go folder) = Goes (string_bytes folder)
 asked jobs.Clash = Clashes
 asked (jobs.Add folder) = Adds (string_bytes folder)
 
@@ -83,6 +89,14 @@ drill_words =
 -- `explain DIR [NEWSGROUPS] [SIZE]`
 abbrev pub explain_words : App
 explain_words = questions.explain_words (needed (codes "DIR"))
+
+-- `go DIR`
+abbrev pub go_words : App
+go_words = with_rule (new_app (codes "go")) (needed (codes "DIR"))
+
+-- `pause DIR`
+abbrev pub pause_words : App
+pause_words = with_rule (new_app (codes "pause")) (needed (codes "DIR"))
 
 -- `report DIR [--openmetrics] [--html]`
 abbrev pub report_words : App
@@ -128,10 +142,15 @@ unserved_words =
     with_subcommand (with_subcommand (with_subcommand (with_subcommand version_words
     add_words.top) check_words.top) drill_words.top) explain_words.top
 
+-- these, and the words by which a relay that is served is told to pause, and to go on
+abbrev pub pausing_words : App
+pausing_words =
+    with_subcommand (with_subcommand unserved_words go_words.top) pause_words.top
+
 -- the words that there are
 abbrev pub program_words : App
 program_words =
-    with_subcommand (with_subcommand (with_subcommand (with_subcommand unserved_words
+    with_subcommand (with_subcommand (with_subcommand (with_subcommand pausing_words
     report_words.top) serve_words.top) stop_words.top) token_words.top
 
 -- the command reads these words, and has no argument that counts below it too
@@ -210,6 +229,8 @@ asked_by (Some met) =
     else if bytes_eq met.0 (codes "stop") then Stops (word_given (codes "DIR") met.1)
     else if bytes_eq met.0 (codes "report") then reports_by met.1
     else if bytes_eq met.0 (codes "add-buffer") then Adds (word_given (codes "DIR") met.1)
+    else if bytes_eq met.0 (codes "pause") then Pauses (word_given (codes "DIR") met.1)
+    else if bytes_eq met.0 (codes "go") then Goes (word_given (codes "DIR") met.1)
     else drills_by met.1
 
 -- the words have a fault of this kind, by clap's reading of them; to ask for help or the version is

@@ -9,7 +9,7 @@ use Rattle.relay_command.specs.Adding.{Adding, Standing}
 use Rattle.relay_command.specs.Ask.{Asking, AsksIn}
 use Rattle.relay_command.specs.Check.{HasError, IsIn, IsUnchecked, counted}
 use Rattle.relay_command.specs.CommandLine.{Asked, Drills, Checks, Explains, Tells, Serves}
-use Rattle.relay_command.specs.CommandLine.{Adds, Stops, Reports, Clashes}
+use Rattle.relay_command.specs.CommandLine.{Adds, Stops, Reports, Pauses, Goes, Clashes}
 use Rattle.relay_command.specs.CommandLine.{IsAskedBy}
 use Rattle.relay_command.specs.Explain.{ExplainsFolder}
 use Rattle.relay_command.specs.Files.{CannotBeRead}
@@ -19,7 +19,7 @@ use Rattle.relay_command.specs.Tell.{TellGives}
 use Rattle.relay_command.specs.declared.ask.Form.{Form}
 use Rattle.relay_command.specs.declared.ask.Form.TheVariants.{Told}
 use Rattle.relay_command.specs.declared.ask.Request.{Request}
-use Rattle.relay_command.specs.declared.ask.Request.TheVariants.{Stop, Report}
+use Rattle.relay_command.specs.declared.ask.Request.TheVariants.{Stop, Report, Pause, Go}
 use Rattle.relay_command.specs.declared.failure.Failure.{Failure}
 use Rattle.relay_command.specs.declared.failure.Failure.TheVariants.{Words, Check, Drill, Serve}
 use Rattle.relay_command.specs.declared.failure.Failure.TheVariants.{Token, Ask, Clash, Unwritten}
@@ -174,6 +174,10 @@ Performs serving adding standing asking (Stops folder) result input before after
     AsksFolder asking folder Stop Told result before after
 Performs serving adding standing asking (Reports folder form) result input before after =
     AsksFolder asking folder Report form result before after
+Performs serving adding standing asking (Pauses folder) result input before after =
+    AsksFolder asking folder Pause Told result before after
+Performs serving adding standing asking (Goes folder) result input before after =
+    AsksFolder asking folder Go Told result before after
 Performs serving adding standing asking Clashes result input before after =
     RefusesClash result before after
 Performs serving adding standing asking (Adds folder) result input before after =

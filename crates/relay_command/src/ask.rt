@@ -1,4 +1,5 @@
-//! Asking the relay that is served in a folder (docs/PROTOCOL.md, `stop` and `report`).
+//! Asking the relay that is served in a folder (docs/PROTOCOL.md, `stop` and `report`, `pause` and
+//! `go`).
 ghost use Rattle.std.specs.Prelude.{◌≡◌, IfErr, IfOk, Some, true};
 ghost use Rattle.relay_command.specs.Ask.{Answered, IsUnheard, IsUnserved, ask_text};
 ghost use Rattle.relay_command.specs.Ask.{formed, is_made};
@@ -21,6 +22,10 @@ pub enum Request {
     Stop,
     /// The report of what it has then.
     Report,
+    /// To take no new articles for now.
+    Pause,
+    /// To take them again.
+    Go,
 }
 
 /// In which form it is printed what a relay tells.

@@ -51,6 +51,10 @@ pub enum Job {
         folder: String,
         form: Form,
     },
+    /// To have the relay that is served in this folder take no new articles for now.
+    Pause(String),
+    /// To have it take them again.
+    Go(String),
     /// To print a report in two forms, which isn't done.
     Clash,
     /// To make the files of the buffers that the configuration in this folder, or the built-in one,
@@ -120,6 +124,12 @@ fn job_named(alloc: Global, name: &str, given: &ArgMatches<'_>) -> Result<Job, A
     }
     if is(name, "add-buffer") {
         return Ok(Job::Add(folder));
+    }
+    if is(name, "pause") {
+        return Ok(Job::Pause(folder));
+    }
+    if is(name, "go") {
+        return Ok(Job::Go(folder));
     }
     drilling(alloc, given, folder)
 }

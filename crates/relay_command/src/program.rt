@@ -194,6 +194,8 @@ where
         Job::Report { folder, form } => {
             ask_in(alloc, folder, Request::Report, *form, writer, ask)
         }
+        Job::Pause(folder) => ask_in(alloc, folder, Request::Pause, Form::Told, writer, ask),
+        Job::Go(folder) => ask_in(alloc, folder, Request::Go, Form::Told, writer, ask),
         Job::Clash => Err(Failure::Clash),
         Job::Add(folder) => add_in(rt, alloc, folder, writer, add),
     }

@@ -146,6 +146,16 @@ const COMMANDS: &[Words] = &[
         words: &[CONFIGURED, NEWSGROUPS, SIZE],
     },
     Words {
+        name: "go",
+        does: "Has a relay that was paused take new articles again",
+        words: &[SERVED],
+    },
+    Words {
+        name: "pause",
+        does: "Has a relay that is served take no new articles for now",
+        words: &[SERVED],
+    },
+    Words {
         name: "report",
         does: "Prints the report of a relay that is served",
         words: &[SERVED, OPENMETRICS, HTML],

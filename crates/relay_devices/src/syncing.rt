@@ -3,7 +3,7 @@
 ghost use Rattle.std.specs.Prelude.{◌≡◌, ◌++◌, ◌∷◌, [], List, Bool, IfErr, IfOk, is_err};
 ghost use Rattle.std.specs.Prelude.{◌<◌, Some, length, map, slice_get};
 ghost use Rattle.file_blocks.specs.Host.{held_identity};
-ghost use Rattle.relay_startup.specs.Files.{IsFileFault};
+ghost use Rattle.buffer_files.specs.Files.{IsFileFault};
 ghost use Rattle.relay_devices.specs.Syncing.{FlushesOne, IsRound, SyncsAs};
 ghost use Rattle.relay_devices.specs.Syncing.{identity_in, name_in};
 ghost use Rattle.relay_devices.specs.Syncing as terms;
@@ -11,13 +11,13 @@ ghost use Rattle.relay_devices.specs.declared.syncing.Deed.{Deed};
 ghost use Rattle.relay_devices.specs.declared.syncing.Deed.TheVariants as deeds;
 
 use crate::watched::print_failed;
+use buffer_files::flusher_of;
 use cyc_block::DeviceFailed;
 use file_blocks::{Flusher, HeldFile};
 use http_server::Log;
 use relay_conf::{Buffers, Config};
 use relay_journal::second_of;
 use relay_report::ServeError;
-use relay_startup::flusher_of;
 use std::alloc::Global;
 use std::fs::{File, Files};
 use std::sync::Wait;

@@ -3,10 +3,10 @@ ghost use Rattle.std.specs.Prelude.{◌≡◌, ◌<◌, IfOk, Some, length, map,
 ghost use Rattle.relay_conf.specs.declared.cycbuff.BufferConf.{BufferConf};
 ghost use Rattle.relay_devices.specs.Watched.{name_in, store_in};
 
+use buffer_files::{Beginning, Looked, Synced};
 use cyc_block::{BLOCK_OCTETS, BlockStore, DeviceFailed, HeadState, read_head_image};
 use file_blocks::FileBlocks;
 use relay_conf::Buffers;
-use relay_startup::{Beginning, Looked, Synced};
 use std::alloc::AllocError;
 use std::str;
 use std::time::Clock;

@@ -11,11 +11,18 @@ use Rattle.std.specs.declared.io.ErrorKind.{ErrorKind}
 use Rattle.std.specs.declared.io.ErrorKind.TheVariants.{OutOfMemory}
 use Rattle.article_verdict.specs.Config.{terms_of}
 use Rattle.block_shelf.specs.Killing.{NoneFailed}
-use Rattle.block_shelf.specs.Leaving.{is_whole}
+use Rattle.block_shelf.specs.Leaving.{AreLeftOf, is_whole, saved_in}
+use Rattle.block_shelf.specs.Openings.{Opening}
+use Rattle.cyc_buffer.specs.Crash.{IsLeftOf}
+use Rattle.news_terms.specs.Courses.{Course}
+use Rattle.news_terms.specs.Token.{Token}
+use Rattle.relay_core.specs.Openings.{openings}
+use Rattle.relay_model.specs.State.{Kept}
+use Rattle.std.proofs.Common.{zero, suc, drop, slice_get, ap}
+use Rattle.std.proofs.lemmas.Option.{none-some}
 use Rattle.block_shelf.specs.declared.starting.StopFault.{StopFault}
 use Rattle.block_shelf.specs.declared.starting.StopFault.TheVariants as stops
-use Rattle.cyc_block.specs.declared.failing.FailAt.{FailAt}
-use Rattle.cyc_block.specs.declared.memory.MemoryBlocks.{MemoryBlocks}
+use Rattle.relay_drill.specs.declared.powered.Powered.{Powered}
 use Rattle.cyc_block.specs.declared.store.BlockStore.{Ghosts}
 use Rattle.news_terms.specs.Places.{Buffer}
 use Rattle.news_terms.proofs.ListPlaces.{holds_at}
@@ -33,15 +40,15 @@ use Rattle.relay_model.specs.Terms.{Terms}
 use Rattle.relay_model.specs.World.{World}
 use Rattle.relay_repair.specs.Repairing.{RepairsLeft}
 use Rattle.relay_repair.specs.Telling.{last_stop}
-use Rattle.relay_drill.specs.Crashing.{AreSized, RevivesTo, StartsOf}
+use Rattle.relay_drill.specs.Crashing.{AreSized, HoldSame, RevivesTo, StartsOf}
 use Rattle.relay_drill.specs.Fault.{FailGives, PlayGives, unrepaired_as, unseeded_as}
 use Rattle.relay_drill.specs.Fault.{unstarted_as}
 use Rattle.relay_drill.proofs.Stores.{seen}
 use Rattle.relay_drill.specs.Progress.{Breaks, Follows, Goes, Halts, Kills, Leads, Under}
 use Rattle.relay_drill.specs.Todo.{Todo}
 use Rattle.relay_drill.specs.declared.fault.DrillError.TheVariants as faults
-use Rattle.relay_drill.specs.declared.play.Life.{Life}
-use Rattle.relay_drill.proofs.Courses.{halts_there}
+use Rattle.relay_drill.specs.declared.life.Life.{Life}
+use Rattle.relay_drill.proofs.Courses.{goes_none, halts_there, leads_on}
 use Rattle.relay_drill.specs.Reviving.{Revives, IsFound, IsUnsaid, none_failed}
 
 -- where the test says so no device has failed
@@ -100,6 +107,59 @@ module _ {S : Type 0} {g : Ghosts S} where
       (subst (λ (it : Config). StartsOf g it stores moment new) is starts) x under
       (none_failed (terms_of other) x) refl
 
+-- what is there, or else this
+abbrev from_some : {A : Type 0} → A → Option A → A
+from_some other None = other
+from_some other (Some one) = one
+
+-- what stands at a place of a list stands at that of one that a function can't tell from it
+same_at : {A B : Type 0} (f : A → B) (old new : List A) → map f new ≡ map f old → (b : ℕ)
+    (one : A) → slice_get old b ≡ Some one
+    → (other : A) × (slice_get new b ≡ Some other) × (f other ≡ f one)
+same_at f [] new same b one there = absurd (none-some one there)
+same_at f (o ∷ old) [] same b one there = absurd (cc same)
+same_at f (o ∷ old) (n ∷ new) same zero one there =
+    (n, refl, ap (λ (them : List _). get_or them 0 (f n)) same ∙ ap f (ap (from_some o) there))
+same_at f (o ∷ old) (n ∷ new) same (suc b) one there =
+    same_at f old new (ap (λ (them : List _). drop 1 them) same) b one there
+
+module _ {S : Type 0} {g : Ghosts S} where
+  -- What a crash may have left it may have left with other head blocks.
+  left_same : (w : Terms) (begun : ℕ → Course) (kept : List Kept) (openings : ℕ → Option Opening)
+      (saved : Token → Bool) (stores back : List S) → HoldSame g stores back
+      → AreLeftOf g stores w begun kept openings saved
+      → AreLeftOf g back w begun kept openings saved
+  left_same w begun kept openings saved stores back same left =
+      record {
+        fit = left.fit;
+        laid = left.laid;
+        buffers = λ b buffer there.
+            let one = left.buffers b buffer there in
+            let found = same_at (λ (store : S). g.blocks store) stores back same b one.store
+            one.there in
+            record {
+              store = found.0;
+              there = found.1;
+              history = one.history;
+              is_of_buffer = one.is_of_buffer;
+              is_said = one.is_said;
+              left = subst (λ (blocks : List (List ℕ)).
+                  IsLeftOf one.history (saved_in saved buffer) blocks) (sym found.2) one.left;
+            };
+      }
+
+  -- So a kill leaves it.
+  pub leaves_same : (old : System S g) (stores back : List S) → HoldSame g stores back
+      → LeavesKilled old stores → LeavesKilled old back
+  leaves_same old stores back same leaves x agrees none =
+      let one = leaves x agrees none in
+      record {
+        well = one.well;
+        left = left_same (terms_of old.config) x.state.begun x.state.kept
+            (openings x.work.writer) (is_whole (terms_of old.config) x.state) stores back same
+            one.left;
+      }
+
 -- One more store is of the size of one more buffer.
 pub one_more_sized : {S : Type 0} (g : Ghosts S) (buffers : List BufferConf) (stores : List S)
     (at : ℕ) (buffer : BufferConf) (store : S) → at < length buffers → at < length stores
@@ -134,6 +194,12 @@ unrepaired_fails (nots.Refused refused) error is =
     let P : DrillError → Type 0 = λ it. FailGives it ⊤ ⊥ ⊤ in
     subst P (sym is) (unstarted_fails refused.error)
 
+-- Want of memory ends the drill so.
+pub memory_fails : (error : DrillError) → error ≡ faults.Memory → FailGives error ⊤ ⊥ ⊤
+memory_fails error is =
+    let P : DrillError → Type 0 = λ it. FailGives it ⊤ ⊥ ⊤ in
+    subst P (sym is) tt
+
 -- What was done of a life was done of it with its history noted, unless memory ran out.
 pub noted_leads : {reasons : Bool} (result : Result Life DrillError) (a b : Todo) (old mid : Life)
     (before after : Option (List ℕ)) → IfOk result (λ noted. noted.relay ≡ mid.relay)
@@ -146,8 +212,16 @@ noted_leads {reasons = reasons} (Err error) a b old mid before after same memory
     (Breaks reasons a old.relay before after) (Kills reasons a old.relay before after) in
     subst P (sym memory) (halts_there a b old.relay mid.relay before after goes)
 
+-- What was done of a life whose history was noted was done of it.
+pub noted_again : (reasons : Bool) (result : Result Life DrillError) (a b : Todo) (old mid : Life)
+    (before after : Option (List ℕ)) → mid.relay ≡ old.relay
+    → Leads reasons result a b mid before after → Leads reasons result a b old before after
+noted_again reasons result a b old mid before after same leads =
+    leads_on reasons result a a b old mid before before after (rw same (goes_none a old.relay
+    before)) leads
+
 -- What is started of the stores that a life left is that life, revived.
-pub revived : (config : Config) (moment : ℕ) (old : Life) (stores : List (FailAt MemoryBlocks))
+pub revived : (config : Config) (moment : ℕ) (old : Life) (stores : List Powered)
     (result : Result Life DrillError) → config ≡ old.relay.config → LeavesKilled old.relay stores
     → PlayGives result (λ new. StartsOf seen config stores moment new.relay) ⊤ ⊥ ⊤
     → PlayGives result (λ new. RevivesTo moment old.relay new.relay) ⊤ ⊥ ⊤

@@ -33,7 +33,7 @@ use Rattle.relay_drill.specs.declared.fault.DrillError.TheVariants.{Memory, Unre
 use Rattle.relay_drill.specs.declared.fault.DrillError.TheVariants.{Unseeded, Device, Unrepaired}
 use Rattle.relay_drill.specs.declared.fault.DrillError.TheVariants as faults
 use Rattle.relay_drill.specs.declared.line.Line as code
-use Rattle.relay_drill.specs.declared.play.Life.{Life}
+use Rattle.relay_drill.specs.declared.life.Life.{Life}
 use Rattle.relay_drill.proofs.Courses.{fail_map}
 use Rattle.relay_report.proofs.Writes.{appends_none, keeps_same}
 

@@ -20,14 +20,20 @@ use Rattle.relay_report.specs.Report.{ReportsOn}
 use Rattle.relay_drill.specs.Reporting.{Reports}
 use Rattle.relay_drill.specs.Play.{Plays, Rests, HasDone, HasTurned, IsClosed, HasOpened}
 use Rattle.relay_drill.specs.Play.{HasCrashed, HasNotOpened, HasRestarted, HasReported, IsOpen}
+use Rattle.relay_drill.specs.Play.{HasCrashedAgain, IsArmed, IsCut, IsCutRestarting}
 use Rattle.relay_drill.specs.Play.{is_refused}
 use Rattle.relay_drill.specs.Crashing.{RevivesTo}
-use Rattle.relay_drill.specs.Print.{Told, Answered, Restarted, Repaired, Reported, printed_all}
-use Rattle.relay_drill.specs.Print.{told_text}
-use Rattle.relay_drill.specs.Progress.{Breaks, Follows, Goes, Under}
-use Rattle.relay_drill.specs.Todo.{Todo, Next, TurnOf, Restarting, Crashing, Report, Opening}
+use Rattle.relay_drill.specs.Print.{Told, Answered, Restarted, Lost, Repaired, Reported}
+use Rattle.relay_drill.specs.Print.{printed_all, told_text}
+use Rattle.relay_drill.specs.Progress.{Breaks, Follows, Goes, Leads, Loses, Under}
+use Rattle.relay_drill.specs.Todo.{Todo, Next, TurnOf, Restarting, Crashing, Arming, Report}
+use Rattle.relay_drill.specs.Todo.{Opening, Stand, behind_cut, behind_line, deserted}
 use Rattle.relay_report.specs.Written.{GainsFront}
-use Rattle.relay_drill.proofs.Courses.{goes_past}
+use Rattle.relay_drill.proofs.Courses.{goes_past, leads_on}
+use Rattle.relay_drill.specs.declared.fault.DrillError.{DrillError}
+use Rattle.relay_drill.specs.declared.life.Life.{Life}
+use Rattle.std.proofs.Common.{Result, refl}
+use Rattle.std.proofs.lemmas.Bool.{false≢true, true≢false}
 use Rattle.relay_report.proofs.Writes.{appends_none}
 
 -- the text of one thing
@@ -67,6 +73,23 @@ pub does_restart : (more : Todo) (output : Output)
     → Does run.Restart output (Restarted output) (Restarting more) more
 does_restart more output config x mid step =
     HasRestarted more x mid output [] [] (Some mid) more step (Rests more (Some mid))
+
+-- the event is what stands between this and where a cut before that leads, and nothing is told
+abbrev pub Cuts : run.Event → Output → (a more : Todo) → Type 0
+Cuts event output a more =
+    (cut : Todo) → behind_cut more ≡ Some cut → Does event output (Lost output) a cut
+
+-- The power goes in the next event.
+pub cuts_next : (event : run.Event) (more : Todo) (output : Output)
+    → Cuts event output (Next event more) more
+cuts_next event more output cut ahead config x mid step =
+    IsCut event more cut x mid output [] [] (Some mid) cut ahead step (Rests cut (Some mid))
+
+-- It goes while the relay is closed and started again.
+pub cuts_restart : (more : Todo) (output : Output)
+    → Cuts run.Restart output (Restarting more) more
+cuts_restart more output cut ahead config x mid step =
+    IsCutRestarting more cut x mid output [] [] (Some mid) cut ahead step (Rests cut (Some mid))
 
 module _ {S : Type 0} {g : Ghosts S} where
   -- From this world what stands between this and that was done, and one thing is told of it.
@@ -159,6 +182,50 @@ module _ {S : Type 0} {g : Ghosts S} {reasons : Bool} where
         gained = one_gained reasons one before after gained;
       }
 
+  -- The power went in an event, and nothing of that is told.
+  pub loses_told : (armed : Bool) (event : run.Event) (a more : Todo) (old : System S g)
+      (output : code.Output) (new : System S g) (held : Option (List ℕ)) → armed ≡ true
+      → Cuts event (output_view output) a more → StepsLeft event old output new
+      → KeepsFrame old new → Loses reasons armed a more old new held held
+  loses_told armed event a more old output new held is cuts steps frame = (
+    is,
+    λ cut ahead. goes_told a cut old (Lost (output_view output)) new held held
+        (tells_event event a cut old output (Lost (output_view output)) new (cuts cut ahead) steps
+        frame) (appends_none held),
+  )
+
+  -- A repair, or the start behind it, was cut: nothing is told.
+  pub goes_again : (moment : ℕ) (more cut : Todo) (old new : System S g)
+      (held : Option (List ℕ)) → behind_cut more ≡ Some cut → RevivesTo moment old new
+      → Goes reasons (Crashing moment more) cut old new held held
+  goes_again moment more cut old new held ahead revives config None follows =
+      record {
+        events = [];
+        told = [];
+        world = None;
+        plays = IsOpen (Crashing moment more) [] [] cut;
+        follows = tt;
+        gained = appends_none held;
+      }
+  goes_again moment more cut old new held ahead revives config (Some x) under =
+      let found = revives config x under in
+      record {
+        events = [];
+        told = [];
+        world = found.0;
+        plays = HasCrashedAgain moment more cut x found.0 [] [] found.0 cut ahead found.1
+            (Rests cut found.0);
+        follows = found.2;
+        gained = appends_none held;
+      }
+
+  -- A crash is ahead from here on.
+  pub goes_armed : (more : Todo) (relay : System S g) (held : Option (List ℕ))
+      → Goes reasons (Arming more) more relay relay held held
+  goes_armed more relay held =
+      goes_past (Arming more) more relay relay held
+      (λ config x under. (under, IsArmed more x [] [] (Some x) more (Rests more (Some x))))
+
   -- Writing what is told failed.
   pub breaks_told : (a b : Todo) (old : System S g) (one : Told) (new : System S g)
       (before after : Option (List ℕ)) → Telling a b old one new
@@ -213,3 +280,25 @@ module _ {S : Type 0} {g : Ghosts S} {reasons : Bool} where
       (if b then refused else opened) old output (Answered (output_view output)) new
       (does_open session peer opened refused (output_view output) b said) steps frame)
       gained
+
+-- A crash where one was ahead, that came in the repair.
+pub crashes_again : (reasons : Bool) (result : Result Life DrillError) (armed later : Bool)
+    (next : Bool → Stand → Todo) (stand there : Stand) (old mid : Life)
+    (before after : Option (List ℕ)) → armed ≡ true → later ≡ false
+    → RevivesTo stand.moment old.relay mid.relay
+    → Leads reasons result (Crashing stand.moment (next false (deserted stand)))
+    (next false there) mid before after
+    → Leads reasons result
+    (Crashing stand.moment (behind_line armed next (deserted stand))) (next later there) old
+    before after
+crashes_again reasons result false later next stand there old mid before after is ends revives
+    leads = absurd (false≢true is)
+crashes_again reasons result true true next stand there old mid before after is ends revives
+    leads = absurd (true≢false ends)
+crashes_again reasons result true false next stand there old mid before after is ends revives
+    leads =
+    let cut = Crashing stand.moment (next false (deserted stand)) in
+    let more = behind_line true next (deserted stand) in
+    leads_on reasons result (Crashing stand.moment more) cut (next false there) old mid before
+    before after
+    (goes_again stand.moment more cut old.relay mid.relay before refl revives) leads

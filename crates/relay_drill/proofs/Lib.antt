@@ -1,3 +1,4 @@
+pub mod Behind
 pub mod Courses
 pub mod Crashes
 pub mod Drills
@@ -7,6 +8,7 @@ pub mod Lives
 pub mod OneLife
 pub mod Pieces
 pub mod Plays
+pub mod Powers
 pub mod Prints
 pub mod Scripts
 pub mod Stores

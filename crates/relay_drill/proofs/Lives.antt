@@ -21,6 +21,7 @@ use Rattle.relay_model.specs.World.{World, Output}
 use Rattle.relay_drill.specs.Laws.{LivesOn}
 use Rattle.relay_drill.specs.Play.{Plays, Rests, HasDone, HasTurned, IsClosed, HasOpened}
 use Rattle.relay_drill.specs.Play.{HasCrashed, HasNotOpened, HasRestarted, HasReported, IsOpen}
+use Rattle.relay_drill.specs.Play.{HasCrashedAgain, IsArmed, HasSurvived, IsCut, IsCutRestarting}
 use Rattle.relay_drill.specs.Print.{Told, answers_of}
 use Rattle.relay_drill.specs.Reviving.{Revives, IsUnsaid}
 use Rattle.relay_drill.specs.Reviving as reviving
@@ -148,6 +149,20 @@ plays_lives {config = config} (HasRestarted more x mid output events told x' lef
 plays_lives {config = config} (HasCrashed moment more x mid events told x' left revives rest) =
     before_crash (terms_of config) moment x mid events (answers_of told) x' (are_sound config)
     revives (stays_open rest) (plays_lives rest)
+plays_lives {config = config}
+    (HasCrashedAgain moment more cut x mid events told x' left ahead revives rest) =
+    before_crash (terms_of config) moment x mid events (answers_of told) x' (are_sound config)
+    revives (stays_open rest) (plays_lives rest)
+plays_lives (IsArmed more x events told x' left rest) = plays_lives rest
+plays_lives (HasSurvived moment cut more x events told x' left rest) = plays_lives rest
+plays_lives {config = config}
+    (IsCut event more cut x mid output events told x' left ahead step rest) =
+    before_step (terms_of config) x mid event output events (answers_of told) x' step
+    (plays_lives rest)
+plays_lives {config = config}
+    (IsCutRestarting more cut x mid output events told x' left ahead step rest) =
+    before_step (terms_of config) x mid run.Restart output events (answers_of told) x' step
+    (plays_lives rest)
 plays_lives (HasReported more x text events told x' left reports rest) = plays_lives rest
 plays_lives (HasOpened s p opened refused x events output told x' left said rest) =
     plays_lives rest

@@ -5,7 +5,8 @@ use Rattle.std.specs.List.{list_any}
 use Rattle.relay_drill.specs.Laws.{is_crash, is_one_life}
 use Rattle.relay_drill.specs.Script as script
 use Rattle.relay_drill.specs.Script.{Line}
-use Rattle.relay_drill.specs.Todo.{Stand, Todo, at_moment, bring_each, line_asks, lines_ask}
+use Rattle.relay_drill.specs.Todo.{Stand, Todo, at_moment, bring_each, is_armed, line_asks}
+use Rattle.relay_drill.specs.Todo.{lines_ask}
 use Rattle.relay_drill.specs.Todo.{pieces_of, round_each, turn_each, with_session, write_each}
 
 -- pieces that come are no crash
@@ -52,7 +53,24 @@ line_one groups (script.Expires shard moment) stand next calm one = one _
 line_one groups (script.Fails buffer call) stand next calm one = one _
 line_one groups script.Restarts stand next calm one = one _
 line_one groups script.Crashes stand next calm one = absurd (true≢false calm)
+line_one groups (script.CrashesAt buffer call) stand next calm one = absurd (true≢false calm)
 line_one groups script.Reports stand next calm one = one _
+
+-- behind a line that is no crash none is ahead
+none_armed : (line : Line) → is_crash line ≡ false → is_armed false line ≡ false
+none_armed (script.Opens session peer) calm = refl
+none_armed (script.Brings session octets) calm = refl
+none_armed (script.Splits size) calm = refl
+none_armed (script.Turns session moment) calm = refl
+none_armed (script.Writes group moment) calm = refl
+none_armed (script.Rounds count moment) calm = refl
+none_armed (script.Breaks session) calm = refl
+none_armed (script.Expires shard moment) calm = refl
+none_armed (script.Fails buffer call) calm = refl
+none_armed script.Restarts calm = refl
+none_armed script.Crashes calm = refl
+none_armed (script.CrashesAt buffer call) calm = calm
+none_armed script.Reports calm = refl
 
 -- Lines of which none is a crash ask for none.
 pub lines_one : (groups : ℕ) (lines : List Line) (stand : Stand)
@@ -60,5 +78,5 @@ pub lines_one : (groups : ℕ) (lines : List Line) (stand : Stand)
 lines_one groups [] stand none = refl
 lines_one groups (line ∷ lines) stand none =
     let both = or_parts (is_crash line) (list_any is_crash lines) none in
-    line_one groups line stand (lines_ask groups lines) both.0
-    (λ other. lines_one groups lines other both.1)
+    line_one groups line stand _ both.0
+    (λ other. rw (none_armed line both.0) (lines_one groups lines other both.1))

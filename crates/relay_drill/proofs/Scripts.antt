@@ -8,18 +8,28 @@ use Rattle.std.specs.declared.alloc.AllocError.{AllocError}
 use Rattle.std.specs.Str.{bytes_eq}
 use Rattle.line_words.specs.Comments.{is_skipped}
 use Rattle.relay_conf.proofs.FirstFaults.{drop_one}
-use Rattle.std.specs.Option.{option_map}
+use Rattle.std.specs.Option.{option_and_then, option_map}
+use Rattle.line_words.specs.Parts.{two_of}
 use Rattle.relay_drill.specs.Fault.{LineGives, keyword_view, line_view}
 use Rattle.relay_drill.specs.declared.line.Line as code
 use Rattle.relay_drill.specs.declared.script.Keyword as keys
 use Rattle.relay_drill.specs.Script.{Line, Names, keyword_of, line_before, line_of}
-use Rattle.relay_drill.specs.Script.{line_with, script_from}
+use Rattle.relay_drill.specs.Script.{crash_at_line, crash_line, line_with, script_from}
 use Rattle.line_words.specs.Parts.{parts}
 
 -- what is read of a script whose first lines are these
 abbrev pub after_lines : List Line → Result (List Line) ℕ → Result (List Line) ℕ
 after_lines lines (Ok more) = Ok (lines ++ more)
 after_lines lines (Err bad) = Err bad
+
+-- Where words follow `crash` it is behind a call.
+pub crash_of_words : (buffers parts : List (List ℕ)) (word : List ℕ) (more : List (List ℕ))
+    → parts ≡ word ∷ more
+    → crash_line buffers parts ≡ option_and_then (crash_at_line buffers) (two_of parts)
+crash_of_words buffers parts word more is =
+    let P : List (List ℕ) → Type 0 = λ it.
+    crash_line buffers it ≡ option_and_then (crash_at_line buffers) (two_of it) in
+    subst P (sym is) refl
 
 -- What the words say is what the line gives.
 pub line_gives : (result : Option code.Line) (says : Option Line)

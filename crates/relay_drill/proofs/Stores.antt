@@ -1,26 +1,36 @@
 -- The stores of a drill, one after the other.
 use Rattle.std.proofs.Common.{◌≡◌, ◌+◌, ◌<◌, ◌∙◌, ℕ, List, [], ◌∷◌, ◌++◌, All, ap₂, get_or, length}
-use Rattle.std.proofs.Common.{map}
-use Rattle.std.proofs.Common.{sym, take}
-use Rattle.std.proofs.lemmas.List.{map_push, take_more}
+use Rattle.std.proofs.Common.{ap, map, sym, take}
+use Rattle.std.proofs.Math.Seq.{take-append_seam}
+use Rattle.std.proofs.lemmas.List.{length-map, map_push, take_more}
 use Rattle.std.proofs.lemmas.List.Elements.{All-push}
 use Rattle.block_shelf.specs.Leaving.{IsFresh}
-use Rattle.cyc_block.specs.contracts.failing.FailAtBlockStore.TheImpl as failing
-use Rattle.cyc_block.specs.contracts.memory.MemoryBlocks.{the_row}
-use Rattle.cyc_block.specs.contracts.memory.MemoryBlocksBlockStore.TheImpl as memory
-use Rattle.cyc_block.specs.declared.failing.FailAt.{FailAt}
-use Rattle.cyc_block.specs.declared.memory.MemoryBlocks.{MemoryBlocks}
+use Rattle.relay_drill.specs.contracts.powered.PoweredBlockStore.TheImpl as powered
+use Rattle.relay_drill.specs.declared.powered.Powered.{Powered}
 use Rattle.cyc_block.specs.declared.store.BlockStore.{Ghosts}
 use Rattle.relay_conf.specs.declared.cycbuff.BufferConf.{BufferConf}
+use Rattle.relay_drill.specs.Crashing.{HoldSame}
 use Rattle.relay_drill.specs.Stores.{AreStoresOf}
 
 -- what is seen of a store
-abbrev pub seen : Ghosts (FailAt MemoryBlocks)
-seen = failing.ghosts the_row memory.ghosts memory.dict
+abbrev pub seen : Ghosts Powered
+seen = powered.ghosts
 
 -- Blocks in memory are honest, whatever was done with them.
-pub are_honest : (stores : List (FailAt MemoryBlocks)) → All seen.honest stores
+pub are_honest : (stores : List Powered) → All seen.honest stores
 are_honest stores k d within = tt
+
+-- Stores that were lent as a slice, and given back, hold what they held.
+pub given_back : {S : Type 0} (g : Ghosts S) (old lent new rest : List S) (len : ℕ)
+    → len ≡ length old → lent ≡ old → HoldSame g lent new
+    → HoldSame g old (take len (new ++ rest))
+given_back {S} g old lent new rest len counted same holds =
+    let f : S → List (List ℕ) = λ store. g.blocks store in
+    let all : len ≡ length new =
+    counted ∙ ap length (sym same)
+    ∙ sym (sym (length-map new f) ∙ ap length holds ∙ length-map lent f) in
+    ap (map f) (ap (λ n. take n (new ++ rest)) all ∙ take-append_seam new rest) ∙ holds
+    ∙ ap (map f) same
 
 -- One more store is that of one more buffer.
 pub one_more_store : {S : Type 0} (g : Ghosts S) (buffers : List BufferConf) (at : ℕ)

@@ -16,6 +16,11 @@ abbrev pub AreSized : {S : Type 0} (g : Ghosts S) → (stores : List S) → List
 AreSized {S} g stores buffers =
     map (λ (store : S). length (g.blocks store)) stores ≡ map (λ buffer. buffer.blocks) buffers
 
+-- the blocks of each store are what they were
+abbrev pub HoldSame : {S : Type 0} (g : Ghosts S) → (old new : List S) → Type 0
+HoldSame {S} g old new =
+    map (λ (store : S). g.blocks store) new ≡ map (λ (store : S). g.blocks store) old
+
 -- The relay was repaired at this moment from what was left on these stores, and started: it agrees
 -- with the world that a crash leads to from each that they may have been left by.
 abbrev pub StartsOf : {S : Type 0} (g : Ghosts S) → Config → (stores : List S) → (moment : ℕ)

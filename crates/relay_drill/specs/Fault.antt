@@ -18,7 +18,9 @@ use Rattle.relay_drill.specs.declared.script.Keyword.TheVariants as keywords
 use Rattle.relay_drill.specs.declared.line.Line.{Line}
 use Rattle.relay_drill.specs.declared.line.Line.TheVariants.{Open, Bring, Split, Turn, Write}
 use Rattle.relay_drill.specs.declared.line.Line.TheVariants.{Rounds, Break, Expire, Fail, Restart}
-use Rattle.relay_drill.specs.declared.line.Line.TheVariants.{Crash, Report}
+use Rattle.relay_drill.specs.declared.line.Line.TheVariants.{Crash, CrashAt, Report}
+use Rattle.relay_drill.specs.declared.fault.Ended.{Ended}
+use Rattle.relay_drill.specs.declared.fault.Ended.TheVariants as ends
 use Rattle.relay_drill.specs.Script as script
 
 -- a keyword as the format has it
@@ -56,6 +58,7 @@ line_view (Expire shard moment) = script.Expires shard moment
 line_view (Fail buffer call) = script.Fails buffer call
 line_view Restart = script.Restarts
 line_view Crash = script.Crashes
+line_view (CrashAt buffer call) = script.CrashesAt buffer call
 line_view Report = script.Reports
 
 -- the answer is the line that the words say, or None where they are bad, unless memory ran out
@@ -87,6 +90,17 @@ FailGives faults.Unreadable halted broken killed = ⊥
 FailGives faults.Unseeded halted broken killed = ⊥
 FailGives faults.Device halted broken killed = ⊥
 FailGives faults.Unrepaired halted broken killed = killed
+
+-- a line ended by an error, or since the power went in one of its events
+abbrev pub EndGives : Ended → (halted broken killed lost : Type 0) → Type 0
+EndGives (ends.Faulty error) halted broken killed lost = FailGives error halted broken killed
+EndGives ends.Cut halted broken killed lost = lost
+
+-- the answer says that the line is done, or how it ended before
+abbrev pub DoGives : {A : Type 0} → Result A Ended → (done : A → Type 0)
+    → (halted broken killed lost : Type 0) → Type 0
+DoGives (Ok value) done halted broken killed lost = done value
+DoGives (Err ended) done halted broken killed lost = EndGives ended halted broken killed lost
 
 -- the answer says that all is done, or why it isn't
 abbrev pub PlayGives : {A : Type 0} → Result A DrillError → (done : A → Type 0)

@@ -7,15 +7,18 @@ use Rattle.relay_model.specs.Terms.{Terms}
 use Rattle.relay_model.specs.World.{World, Output}
 use Rattle.relay_drill.specs.Script as script
 use Rattle.relay_drill.specs.Script.{Line}
-use Rattle.relay_drill.specs.Todo.{Todo, Done, Next, TurnOf, Restarting, Crashing, Report, Opening}
+use Rattle.relay_drill.specs.Todo.{Todo, Done, Next, TurnOf, Restarting, Crashing, Arming}
+use Rattle.relay_drill.specs.Todo.{Survived, Report, Opening}
 
--- nothing of what is to be done is a crash
+-- nothing of what is to be done is a crash, and none is ahead
 abbrev pub is_one_life : Todo → Bool
 is_one_life Done = true
 is_one_life (Next event more) = is_one_life more
 is_one_life (TurnOf session moment more) = is_one_life more
 is_one_life (Restarting more) = is_one_life more
 is_one_life (Crashing moment more) = false
+is_one_life (Arming more) = false
+is_one_life (Survived moment cut more) = false
 is_one_life (Report more) = is_one_life more
 is_one_life (Opening session peer opened refused) = is_one_life opened && is_one_life refused
 
@@ -32,6 +35,7 @@ is_crash (script.Expires shard moment) = false
 is_crash (script.Fails buffer call) = false
 is_crash script.Restarts = false
 is_crash script.Crashes = true
+is_crash (script.CrashesAt buffer call) = true
 is_crash script.Reports = false
 
 -- the events are a run from this world to that; nothing is said where there is no world

@@ -3,6 +3,7 @@ pub mod Drill
 pub mod Fault
 pub mod Laws
 pub mod Play
+pub mod Power
 pub mod Print
 pub mod Progress
 pub mod Reporting

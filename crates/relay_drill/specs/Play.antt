@@ -7,9 +7,10 @@ use Rattle.relay_model.specs.Run.{Step, is_running, is_there}
 use Rattle.relay_model.specs.World as world
 use Rattle.relay_model.specs.World.{World, Output}
 use Rattle.relay_report.specs.Report.{ReportsOn}
-use Rattle.relay_drill.specs.Print.{Told, Answered, Restarted, Repaired, Reported}
+use Rattle.relay_drill.specs.Print.{Told, Answered, Restarted, Lost, Repaired, Reported}
 use Rattle.relay_drill.specs.Reviving.{Revives}
-use Rattle.relay_drill.specs.Todo.{Todo, Next, TurnOf, Restarting, Crashing, Report, Opening}
+use Rattle.relay_drill.specs.Todo.{Todo, Next, TurnOf, Restarting, Crashing, Arming, Survived}
+use Rattle.relay_drill.specs.Todo.{Report, Opening, behind_cut}
 
 -- the event was refused
 abbrev pub is_refused : Output → Bool
@@ -56,6 +57,34 @@ pub data Plays (config : Config)
       (events : List run.Event) (told : List Told) (x' : Option World) (left : Todo)
       → Revives (terms_of config) moment x mid → Plays config more mid events told x' left
       → Plays config (Crashing moment more) (Some x) events (Repaired ∷ told) x' left
+  -- the repair or the start behind it is cut: what that leaves is repaired in its turn
+  HasCrashedAgain : (moment : ℕ) (more cut : Todo) (x : World) (mid : Option World)
+      (events : List run.Event) (told : List Told) (x' : Option World) (left : Todo)
+      → behind_cut more ≡ Some cut → Revives (terms_of config) moment x mid
+      → Plays config cut mid events told x' left
+      → Plays config (Crashing moment more) (Some x) events told x' left
+  -- from here on the power may go in an event
+  IsArmed : (more : Todo) (x : World) (events : List run.Event) (told : List Told)
+      (x' : Option World) (left : Todo) → Plays config more (Some x) events told x' left
+      → Plays config (Arming more) (Some x) events told x' left
+  -- it didn't in this line
+  HasSurvived : (moment : ℕ) (cut more : Todo) (x : World) (events : List run.Event)
+      (told : List Told) (x' : Option World) (left : Todo)
+      → Plays config more (Some x) events told x' left
+      → Plays config (Survived moment cut more) (Some x) events told x' left
+  -- it goes in the next event: that is done in the world, in which the call lies behind which it
+  -- went, and nothing of it is told
+  IsCut : (event : run.Event) (more cut : Todo) (x mid : World) (output : Output)
+      (events : List run.Event) (told : List Told) (x' : Option World) (left : Todo)
+      → behind_cut more ≡ Some cut → Step (terms_of config) x event output mid
+      → Plays config cut (Some mid) events told x' left
+      → Plays config (Next event more) (Some x) (event ∷ events) (Lost output ∷ told) x' left
+  -- it goes while the relay is closed and started again
+  IsCutRestarting : (more cut : Todo) (x mid : World) (output : Output)
+      (events : List run.Event) (told : List Told) (x' : Option World) (left : Todo)
+      → behind_cut more ≡ Some cut → Step (terms_of config) x run.Restart output mid
+      → Plays config cut (Some mid) events told x' left
+      → Plays config (Restarting more) (Some x) (run.Restart ∷ events) (Lost output ∷ told) x' left
   -- nothing is said any more
   IsOpen : (todo : Todo) (events : List run.Event) (told : List Told) (left : Todo)
       → Plays config todo None events told None left

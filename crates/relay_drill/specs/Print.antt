@@ -73,10 +73,12 @@ abbrev pub repaired_text : List ℕ
 repaired_text = printed_line (codes "repaired")
 
 -- what a drill tells: what an event is answered, what a Restart is, that the relay was repaired
--- behind a crash, or the report of the relay as it is
+-- behind a crash, or the report of the relay as it is; and what it doesn't, since the power went
+-- before the event was answered
 pub data Told : Type 0 where
   Answered : (output : Output) → Told
   Restarted : (output : Output) → Told
+  Lost : (output : Output) → Told
   Repaired : Told
   Reported : (text : List ℕ) → Told
 
@@ -84,6 +86,7 @@ pub data Told : Type 0 where
 abbrev pub told_text : (reasons : Bool) → Told → List ℕ
 told_text reasons (Answered output) = printed reasons output
 told_text reasons (Restarted output) = restart_text reasons output
+told_text reasons (Lost output) = []
 told_text reasons Repaired = repaired_text
 told_text reasons (Reported text) = text
 
@@ -91,11 +94,12 @@ told_text reasons (Reported text) = text
 abbrev pub printed_all : (reasons : Bool) → List Told → List ℕ
 printed_all reasons told = flat_map (told_text reasons) told
 
--- what events are answered
+-- what events are answered, or would have been
 abbrev pub answers_of : List Told → List Output
 answers_of [] = []
 answers_of (Answered output ∷ told) = output ∷ answers_of told
 answers_of (Restarted output ∷ told) = output ∷ answers_of told
+answers_of (Lost output ∷ told) = output ∷ answers_of told
 answers_of (Repaired ∷ told) = answers_of told
 answers_of (Reported text ∷ told) = answers_of told
 

@@ -1,5 +1,6 @@
 -- How far the code has come with a script: what contracts of private functions say.
-use Rattle.std.specs.Prelude.{◌≡◌, ℕ, Bool, List, [], ◌∷◌, ◌++◌, Option, None, Some, option_map}
+use Rattle.std.specs.Prelude.{◌≡◌, ℕ, Bool, true, List, [], ◌∷◌, ◌++◌, Option, None, Some}
+use Rattle.std.specs.Prelude.{option_map}
 use Rattle.std.specs.Prelude.{Result}
 use Rattle.std.specs.Io.KnownBytes.{Appends}
 use Rattle.cyc_block.specs.declared.store.BlockStore.{Ghosts}
@@ -9,14 +10,15 @@ use Rattle.relay_core.specs.declared.system.System.{System}
 use Rattle.relay_model.specs.Run.{Event}
 use Rattle.relay_model.specs.World.{World}
 use Rattle.relay_drill.specs.declared.fault.DrillError.{DrillError}
+use Rattle.relay_drill.specs.declared.fault.Ended.{Ended}
 use Rattle.relay_drill.specs.declared.line.PieceSize.{PieceSize}
-use Rattle.relay_drill.specs.declared.play.Life.{Life}
-use Rattle.relay_drill.specs.declared.play.Stand.{Stand}
-use Rattle.relay_drill.specs.Fault.{PlayGives}
+use Rattle.relay_drill.specs.declared.life.Life.{Life}
+use Rattle.relay_drill.specs.declared.manner.Stand.{Stand}
+use Rattle.relay_drill.specs.Fault.{DoGives, PlayGives}
 use Rattle.relay_drill.specs.Play.{Plays}
 use Rattle.relay_drill.specs.Print.{Told, printed_all, told_text}
 use Rattle.relay_drill.specs.Todo as todo
-use Rattle.relay_drill.specs.Todo.{Todo, Crashing}
+use Rattle.relay_drill.specs.Todo.{Todo, Crashing, behind_cut}
 use Rattle.relay_report.specs.Written.{GainsFront}
 
 -- the relay has this configuration, and agrees with this world; a crash may leave its stores
@@ -106,14 +108,23 @@ Kills reasons from old before after =
     (config : Config) (x : Option World) → Follows config old x
     → Killed reasons config from x before after
 
--- the answer says that all was done that stands before this, or that it was broken off
-abbrev pub Performs : {S : Type 0} {g : Ghosts S} → (reasons : Bool)
-    → Result (Unit {0}) DrillError → (from to : Todo) → (old new : System S g)
+-- a crash was ahead, and the power went before this was reached: from whatever world the relay
+-- agreed with all was done up to where that is repaired
+abbrev pub Loses : {S : Type 0} {g : Ghosts S} → (reasons armed : Bool) → (from to : Todo)
+    → (old new : System S g) → (before after : Option (List ℕ)) → Type 0
+Loses reasons armed from to old new before after =
+    (armed ≡ true)
+    × ((cut : Todo) → behind_cut to ≡ Some cut → Goes reasons from cut old new before after)
+
+-- the answer says that all was done that stands before this, that it was broken off, or that the
+-- power went
+abbrev pub Performs : {S : Type 0} {g : Ghosts S} → (reasons armed : Bool)
+    → Result (Unit {0}) Ended → (from to : Todo) → (old new : System S g)
     → (before after : Option (List ℕ)) → Type 0
-Performs reasons result from to old new before after =
-    PlayGives result (λ fine. Goes reasons from to old new before after)
+Performs reasons armed result from to old new before after =
+    DoGives result (λ fine. Goes reasons from to old new before after)
     (Halts reasons from old before after) (Breaks reasons from old before after)
-    (Kills reasons from old before after)
+    (Kills reasons from old before after) (Loses reasons armed from to old new before after)
 
 -- so it does of a relay that is handed on
 abbrev pub Leads : (reasons : Bool) → Result Life DrillError → (from to : Todo) → (old : Life)

@@ -32,6 +32,8 @@ pub data Line : Type 0 where
   Restarts : Line
   -- the relay is killed, repaired and started
   Crashes : Line
+  -- it is so once this call of a buffer's device is done, counted from here
+  CrashesAt : (buffer call : ℕ) → Line
   -- the report is printed
   Reports : Line
 
@@ -122,7 +124,18 @@ expire_line two = both Expires (number two.0) (number two.1)
 abbrev pub fail_line : List (List ℕ) → List ℕ × List ℕ → Option Line
 fail_line buffers two = both Fails (place_of buffers two.0) (number_within 1 1000000 two.1)
 
--- `restart`, `crash` and `report`: the line of a keyword that no word follows
+-- `crash BUFFER K`
+abbrev pub crash_at_line : List (List ℕ) → List ℕ × List ℕ → Option Line
+crash_at_line buffers two =
+    both CrashesAt (place_of buffers two.0) (number_within 1 1000000 two.1)
+
+-- `crash`, alone or with what it crashes behind
+abbrev pub crash_line : (buffers after : List (List ℕ)) → Option Line
+crash_line buffers [] = Some Crashes
+crash_line buffers (word ∷ more) =
+    option_and_then (crash_at_line buffers) (two_of (word ∷ more))
+
+-- `restart` and `report`: the line of a keyword that no word follows
 abbrev pub line_alone : Line → List (List ℕ) → Option Line
 line_alone line [] = Some line
 line_alone line (word ∷ more) = None
@@ -140,7 +153,7 @@ line_with names after BREAK = option_and_then break_line (one_of after)
 line_with names after EXPIRE = option_and_then expire_line (two_of after)
 line_with names after FAIL = option_and_then (fail_line names.buffers) (two_of after)
 line_with names after RESTART = line_alone Restarts after
-line_with names after CRASH = line_alone Crashes after
+line_with names after CRASH = crash_line names.buffers after
 line_with names after REPORT = line_alone Reports after
 
 -- what these words say; None is a bad line

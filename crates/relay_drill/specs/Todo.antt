@@ -1,10 +1,10 @@
 -- What a script asks for, in order (docs/FORMATS.md, Drill scripts). What is to be done is known
 -- step by step: which sessions a round serves hangs on which were opened, and which are closed.
-use Rattle.std.specs.Prelude.{ℕ, zero, suc, ◌+◌, ◌++◌, List, [], ◌∷◌, length, take, drop, Option}
-use Rattle.std.specs.Prelude.{None, Some}
+use Rattle.std.specs.Prelude.{ℕ, zero, suc, ◌+◌, ◌++◌, Bool, true, false, List, [], ◌∷◌, length}
+use Rattle.std.specs.Prelude.{take, drop, Option, None, Some}
 use Rattle.relay_model.specs.Run.{Event, Bytes, Turn, Write, Break, Expire}
 use Rattle.relay_drill.specs.Script.{Line, Opens, Brings, Splits, Turns, Writes, Rounds, Breaks}
-use Rattle.relay_drill.specs.Script.{Expires, Fails, Restarts, Crashes, Reports}
+use Rattle.relay_drill.specs.Script.{Expires, Fails, Restarts, Crashes, CrashesAt, Reports}
 
 -- what is still to be done
 pub data Todo : Type 0 where
@@ -18,6 +18,11 @@ pub data Todo : Type 0 where
   Restarting : (more : Todo) → Todo
   -- the relay is killed, and repaired at this moment, and then more
   Crashing : (moment : ℕ) (more : Todo) → Todo
+  -- from here on a crash is ahead: the power goes behind a call that a device is asked for
+  Arming : (more : Todo) → Todo
+  -- a line is over, and a crash is still ahead; where the power went in it the rest of the line
+  -- isn't done, the relay is repaired at this moment, and what follows is another
+  Survived : (moment : ℕ) (cut more : Todo) → Todo
   -- the report of the relay as it is, and then more
   Report : (more : Todo) → Todo
   -- a session opens; what follows hangs on whether that is refused
@@ -104,9 +109,52 @@ line_asks groups (Expires shard moment) stand next =
 line_asks groups (Fails buffer call) stand next = next stand
 line_asks groups Restarts stand next = Restarting (next stand)
 line_asks groups Crashes stand next = Crashing stand.moment (next (deserted stand))
+line_asks groups (CrashesAt buffer call) stand next = Arming (next stand)
 line_asks groups Reports stand next = Report (next stand)
+
+-- whether a crash is ahead behind a line, where it was or wasn't before it
+abbrev pub is_armed : Bool → Line → Bool
+is_armed armed (Opens session peer) = armed
+is_armed armed (Brings session octets) = armed
+is_armed armed (Splits size) = armed
+is_armed armed (Turns session moment) = armed
+is_armed armed (Writes group moment) = armed
+is_armed armed (Rounds count moment) = armed
+is_armed armed (Breaks session) = armed
+is_armed armed (Expires shard moment) = armed
+is_armed armed (Fails buffer call) = armed
+is_armed armed Restarts = armed
+is_armed armed Crashes = armed
+is_armed armed (CrashesAt buffer call) = true
+is_armed armed Reports = armed
+
+-- what follows a line: where a crash is ahead it hangs on whether that came in the line, and then
+-- none is ahead any more, and nobody is here
+abbrev pub behind_line : (armed : Bool) → (Bool → Stand → Todo) → Stand → Todo
+behind_line false next stand = next false stand
+behind_line true next stand =
+    Survived stand.moment (next false (deserted stand)) (next true stand)
+
+-- what these lines ask for, one after the other, where a crash is ahead or isn't
+abbrev pub lines_left : (groups : ℕ) → (armed : Bool) → List Line → Stand → Todo
+lines_left groups armed [] stand = Done
+lines_left groups armed (line ∷ lines) stand =
+    line_asks groups line stand
+    (behind_line (is_armed armed line) (λ later. lines_left groups later lines))
 
 -- what the lines of a script ask for, one after the other
 abbrev pub lines_ask : (groups : ℕ) → List Line → Stand → Todo
-lines_ask groups [] stand = Done
-lines_ask groups (line ∷ lines) stand = line_asks groups line stand (lines_ask groups lines)
+lines_ask groups lines stand = lines_left groups false lines stand
+
+-- what is done where the power goes in the event before this: the rest of its line isn't, and the
+-- relay is repaired. There is none where no crash is ahead.
+abbrev pub behind_cut : Todo → Option Todo
+behind_cut Done = None
+behind_cut (Next event more) = behind_cut more
+behind_cut (TurnOf session moment more) = behind_cut more
+behind_cut (Restarting more) = behind_cut more
+behind_cut (Crashing moment more) = None
+behind_cut (Arming more) = None
+behind_cut (Survived moment cut more) = Some (Crashing moment cut)
+behind_cut (Report more) = behind_cut more
+behind_cut (Opening session peer opened refused) = None

@@ -2,6 +2,7 @@
 ghost use Rattle.std.specs.Prelude.{◌≡◌, Some};
 ghost use Rattle.relay_drill.specs.Text.{text_of};
 ghost use Rattle.relay_drill.specs.declared.fault.DrillError.TheVariants as faults;
+ghost use Rattle.relay_drill.specs.declared.fault.Ended.TheVariants as ends;
 
 use relay_report::Unwritten;
 use std::alloc::{AllocError, AllocFailed};
@@ -68,6 +69,39 @@ impl From<AllocError> for DrillError {
 
     fn from(_error: AllocError) -> DrillError {
         DrillError::Memory
+    }
+}
+
+/// Why a line of a script ended before all of it was done.
+#[derive(Drop)]
+pub enum Ended {
+    /// The drill ends.
+    Faulty(DrillError),
+    /// The power went in an event of it: what that was answered isn't told.
+    Cut,
+}
+
+impl From<Unwritten> for Ended {
+    ghost from_gives = { λ _ e. e ≡ ends.Faulty faults.Unwritten };
+
+    fn from(_error: Unwritten) -> Ended {
+        Ended::Faulty(DrillError::Unwritten)
+    }
+}
+
+impl From<AllocError> for Ended {
+    ghost from_gives = { λ _ e. e ≡ ends.Faulty faults.Memory };
+
+    fn from(_error: AllocError) -> Ended {
+        Ended::Faulty(DrillError::Memory)
+    }
+}
+
+impl<T: Drop> From<AllocFailed<T>> for Ended {
+    ghost from_gives = { λ _ e. e ≡ ends.Faulty faults.Memory };
+
+    fn from(_error: AllocFailed<T>) -> Ended {
+        Ended::Faulty(DrillError::Memory)
     }
 }
 

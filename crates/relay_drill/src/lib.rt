@@ -5,11 +5,15 @@
 //! Which configuration and which script there are is the caller's.
 #![tactic(auto)]
 
+mod crashing;
 mod fault;
 pub mod laws;
+mod life;
 mod line;
 mod manner;
 mod play;
+pub mod power;
+mod powered;
 mod print;
 mod report;
 mod reviving;

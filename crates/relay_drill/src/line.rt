@@ -34,6 +34,9 @@ pub enum Line {
     Restart,
     /// `crash`: the relay is killed, repaired and started.
     Crash,
+    /// `crash BUFFER K`: once this call of this buffer's device is done, counted from here, the
+    /// relay is killed, repaired and started.
+    CrashAt(usize, u64),
     /// `report`: the report is printed.
     Report,
 }

@@ -1,11 +1,11 @@
-//! A crash between two events: the relay is killed, repaired and started (docs/PROTOCOL.md,
-//! Crashes).
+//! A crash: the relay is killed, repaired and started (docs/PROTOCOL.md, Crashes).
 ghost use Rattle.std.specs.Prelude.{◌≡◌, ⊤, true};
-ghost use Rattle.relay_drill.specs.Crashing.{AreSized, RevivesTo, StartsOf};
+ghost use Rattle.relay_drill.specs.Crashing.{AreSized, HoldSame, RevivesTo, StartsOf};
 ghost use Rattle.relay_drill.specs.Fault.{PlayGives, unrepaired_as};
 
 use crate::fault::DrillError;
-use crate::play::{Life, Store};
+use crate::life::{Life, Store};
+use crate::power::Supply;
 use block_shelf::StopFault;
 use cyc_block::BlockStore;
 use relay_conf::{BufferConf, Config};
@@ -15,28 +15,77 @@ use std::alloc::Global;
 use std::io::ErrorKind;
 use std::random::RandomSource;
 
-/// The relay is killed between two events, and repaired and started at this moment.
+/// The relay is killed, and repaired and started at this moment: from what the devices had when the
+/// power went, where it is gone. From then on there is power again.
 pub fn revive(
     rt: &impl RandomSource,
     alloc: Global,
     life: Life,
+    supply: &Supply,
     now: u64,
 ) -> Result<Life, DrillError>
     ensures { PlayGives result (λ new. RevivesTo now life.relay new.relay) ⊤ ⊥ ⊤ }
 {
-    let Life { relay, history } = life;
+    let Life {
+        relay,
+        history,
+        earlier,
+    } = life;
+    let stop = relay.stop();
     match relay.kill() {
-        Ok(LeftBehind { config, stores }) => {
-            let revived = revive_stores(rt, alloc, config, stores, history.as_deref(), now);
-            drop(history);
-            revived
+        Ok(LeftBehind { config, mut stores }) => {
+            let last = last_history(&mut stores, stop, history, earlier);
+            supply.renew();
+            revive_stores(rt, alloc, config, stores, last, now)
         }
         Err(relay) => {
             relay.let_go();
             drop(history);
+            drop(earlier);
             Err(DrillError::Memory)
         }
     }
+}
+
+/// The head blocks of each store are as they were when the power went.
+fn take_back(stores: &mut [Store])
+    ensures { HoldSame ⟦<Store as BlockStore>⟧ stores.old stores.new }
+{
+    for place in 0..stores.len() {
+        stores[place].take_back();
+    }
+}
+
+/// The history of the last stop that each head tells of, of this stop and the one before it: of the
+/// heads as they were when the power went.
+fn last_history(
+    stores: &mut [Store],
+    stop: u64,
+    history: Option<Vec<u8>>,
+    earlier: Option<Vec<u8>>,
+) -> Option<Vec<u8>>
+    ensures { HoldSame ⟦<Store as BlockStore>⟧ stores.old stores.new }
+{
+    take_back(stores);
+    if is_any_before(stores, stop) {
+        drop(history);
+        return earlier;
+    }
+    drop(earlier);
+    history
+}
+
+/// Whether the head of a store is of an earlier stop than this.
+fn is_any_before(stores: &mut [Store], stop: u64) -> bool
+    ensures { HoldSame ⟦<Store as BlockStore>⟧ stores.old stores.new }
+{
+    let mut is_any = false;
+    for place in 0..stores.len() {
+        if stores[place].is_before(stop) {
+            is_any = true;
+        }
+    }
+    is_any
 }
 
 /// The relay that was left on these stores, repaired and started.
@@ -45,7 +94,7 @@ fn revive_stores(
     alloc: Global,
     config: Config,
     stores: Vec<Store>,
-    text: Option<&[u8]>,
+    last: Option<Vec<u8>>,
     now: u64,
 ) -> Result<Life, DrillError>
     ensures { PlayGives result (λ new.
@@ -54,12 +103,14 @@ fn revive_stores(
     if !are_sized(&stores, &config.buffers.buffers) {
         drop(config);
         drop(stores);
+        drop(last);
         return Err(DrillError::Unrepaired);
     }
-    let stopped = match repair(rt, alloc, &config, stores, text, now) {
+    let stopped = match repair(rt, alloc, &config, stores, last.as_deref(), now) {
         Ok(stopped) => stopped,
         Err(why) => {
             drop(config);
+            drop(last);
             return Err(unrepaired(why));
         }
     };
@@ -68,9 +119,11 @@ fn revive_stores(
         Ok(relay) => Ok(Life {
             relay,
             history: Some(history),
+            earlier: last,
         }),
         Err(why) => {
             drop(history);
+            drop(last);
             Err(unrepaired(why))
         }
     }

@@ -5,7 +5,8 @@ ghost use Rattle.std.specs.Option.{option_and_then};
 ghost use Rattle.news_terms.specs.Lines.{crlf};
 ghost use Rattle.line_words.specs.Parts.{one_of, parts_after, two_of};
 ghost use Rattle.relay_drill.specs.Drill.{names_of};
-ghost use Rattle.relay_drill.specs.Script.{break_line, expire_line, fail_line, line_alone, line_of};
+ghost use Rattle.relay_drill.specs.Script.{break_line, crash_at_line, crash_line, expire_line};
+ghost use Rattle.relay_drill.specs.Script.{fail_line, line_alone, line_of};
 ghost use Rattle.relay_drill.specs.Script.{both, open_line, raw_line};
 ghost use Rattle.relay_drill.specs.Script.{rounds_line, script_of, send_line, split_line};
 ghost use Rattle.relay_drill.specs.Script.{turn_line, write_line};
@@ -94,7 +95,7 @@ fn read_line(alloc: Global, config: &Config, line: &[u8]) -> Result<Option<Line>
         Some(Keyword::Expire) => Ok(expire(rest)),
         Some(Keyword::Fail) => Ok(fail(&config.buffers.buffers, rest)),
         Some(Keyword::Restart) => Ok(alone(Line::Restart, rest)),
-        Some(Keyword::Crash) => Ok(alone(Line::Crash, rest)),
+        Some(Keyword::Crash) => Ok(crash(&config.buffers.buffers, rest)),
         Some(Keyword::Report) => Ok(alone(Line::Report, rest)),
         None => Ok(None),
     }
@@ -254,7 +255,29 @@ fn fail(buffers: &[BufferConf], rest: Option<&[u8]>) -> Option<Line>
     Some(Line::Fail(buffer, call))
 }
 
-/// `restart`, `crash` and `report`, by what follows the keyword: nothing.
+/// `crash` and `crash BUFFER K`, by what follows the keyword.
+fn crash(buffers: &[BufferConf], rest: Option<&[u8]>) -> Option<Line>
+    ensures { option_map line_view result ≡ crash_line (map (λ buffer. buffer.name) buffers.now)
+        (parts_after 32 rest.entry) }
+{
+    match rest {
+        None => Some(Line::Crash),
+        Some(_) => crash_at(buffers, rest),
+    }
+}
+
+/// `crash BUFFER K`, by what follows the keyword.
+fn crash_at(buffers: &[BufferConf], rest: Option<&[u8]>) -> Option<Line>
+    ensures { option_map line_view result ≡ option_and_then
+        (crash_at_line (map (λ buffer. buffer.name) buffers.now))
+        (two_of (parts_after 32 rest.entry)) }
+{
+    let (buffer, call) = two_parts(rest, b' ')?;
+    let (buffer, call) = buffer_of(buffers, buffer).zip(number_within(1, 1_000_000, call))?;
+    Some(Line::CrashAt(buffer, call))
+}
+
+/// `restart` and `report`, by what follows the keyword: nothing.
 fn alone(line: Line, rest: Option<&[u8]>) -> Option<Line>
     ensures { option_map line_view result
         ≡ line_alone (line_view line) (parts_after 32 rest.entry) }

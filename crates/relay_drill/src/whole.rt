@@ -1,18 +1,20 @@
 //! Reading a script whole, and running it over memory (docs/PROTOCOL.md, The call `drill`).
-ghost use Rattle.std.specs.Prelude.{◌≡◌, ◌≢◌, All, vec_items, IfErr, IfOk, IfSome};
+ghost use Rattle.std.specs.Prelude.{◌≡◌, ◌≢◌, vec_items, IfErr, IfOk, IfSome};
 ghost use Rattle.std.specs.declared.io.ErrorKind.TheVariants as kinds;
-ghost use Rattle.cyc_block.specs.Failing.{calls_left};
 ghost use Rattle.relay_drill.specs.Drill.{DrillGives};
 ghost use Rattle.relay_drill.specs.Fault.{ReadGives, told_as, unbegun_as};
 ghost use Rattle.relay_drill.specs.Stores.{AreStoresOf};
 ghost use Rattle.relay_drill.specs.declared.whole.Unread.TheVariants as reasons;
 
 use crate::fault::DrillError;
+use crate::life::{Life, Store};
 use crate::manner::Manner;
-use crate::play::{Life, Store, play};
+use crate::play::play;
+use crate::power::Supply;
+use crate::powered::Powered;
 use crate::script::read_script;
 use block_shelf::BeginError;
-use cyc_block::{BlockStore, FailAt, MemoryBlocks};
+use cyc_block::BlockStore;
 use relay_conf::{BufferConf, Config};
 use relay_core::System;
 use std::alloc::{AllocError, Global};
@@ -54,19 +56,27 @@ pub fn drill<R: Read, W: Write>(
             return Err(error);
         }
     };
-    let Ok(stores) = new_stores(alloc, &config.buffers.buffers) else {
+    let Ok(supply) = Supply::new(alloc, config.buffers.buffers.len()) else {
         drop(config);
         return Err(DrillError::Memory);
     };
-    let groups = config.buffers.groups.len();
-    let manner = Manner { groups, reasons };
+    let Ok(stores) = new_stores(alloc, &supply, &config.buffers.buffers) else {
+        drop(config);
+        return Err(DrillError::Memory);
+    };
+    let manner = Manner {
+        groups: config.buffers.groups.len(),
+        reasons,
+        armed: false,
+    };
     match System::new(rt, alloc, config, stores) {
         Ok(relay) => {
             let life = Life {
                 relay,
                 history: None,
+                earlier: None,
             };
-            match play(rt, alloc, life, manner, &lines, writer) {
+            match play(rt, alloc, life, manner, &supply, &lines, writer) {
                 Ok(life) => {
                     life.let_go();
                     Ok(())
@@ -98,16 +108,19 @@ fn unbegun(kind: ErrorKind) -> DrillError
     }
 }
 
-/// A store in memory for each of the buffers, of its blocks, of which no call fails yet.
-fn new_stores(alloc: Global, buffers: &[BufferConf]) -> Result<Vec<Store>, AllocError>
-    ensures stores { IfOk result (λ stores.
-        AreStoresOf ⟦<FailAt<MemoryBlocks> as BlockStore>⟧ buffers.now stores.items) }
-    ensures unarmed { IfOk result (λ stores. All (λ store. calls_left store ≡ 0) stores.items) }
+/// A store in memory for each of the buffers, of its blocks, with power from this supply.
+fn new_stores(
+    alloc: Global,
+    supply: &Supply,
+    buffers: &[BufferConf],
+) -> Result<Vec<Store>, AllocError>
+    ensures { IfOk result (λ stores.
+        AreStoresOf ⟦<Store as BlockStore>⟧ buffers.now stores.items) }
 {
     let mut stores = Vec::with_capacity(alloc, buffers.len())?;
     for buffer in buffers {
-        let blocks = MemoryBlocks::new(alloc, buffer.blocks)?;
-        stores.push_reserved(FailAt::new(blocks, 0));
+        let store = Powered::new(alloc, supply, stores.len(), buffer.blocks)?;
+        stores.push_reserved(store);
     }
     Ok(stores)
 }

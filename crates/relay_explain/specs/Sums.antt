@@ -64,7 +64,7 @@ unfoldable pub wants_text : Config → List ℕ
 wants_text config =
     codes "disk: " ++ decimal (disk_of config.buffers.buffers.items)
     ++ codes " octets in the files of buffers\nmemory: " ++ decimal (memory_of config)
-    ++ codes " octets from the start, at most 700000 more for each of "
+    ++ codes " octets from the start, at most 770000 more for each of "
     ++ decimal (connections_of config.relay.peers.items)
     ++ codes " connections, and what ids and articles take\ndescriptors: "
     ++ decimal (descriptors_of config) ++ codes "\n"

@@ -16,7 +16,7 @@ pub(crate) fn put_wants(text: Text, config: &Config) -> Text
         .add_number(disk_of(&config.buffers.buffers))
         .add(b" octets in the files of buffers\nmemory: ")
         .add_number(memory_of(config))
-        .add(b" octets from the start, at most 700000 more for each of ")
+        .add(b" octets from the start, at most 770000 more for each of ")
         .add_number(connections_of(&config.relay.peers))
         .add(b" connections, and what ids and articles take\ndescriptors: ")
         .add_number(descriptors_of(config))

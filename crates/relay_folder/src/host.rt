@@ -5,13 +5,14 @@ ghost use Rattle.std.specs.declared.io.ErrorKind.TheVariants as kinds;
 ghost use Rattle.relay_folder.specs.Files.{HasNoFlush};
 ghost use Rattle.relay_folder.specs.Place.{Nothing};
 
+use crate::filing::Filing;
 use crate::history_place::HistoryPlace;
 use crate::socket_place::path_in;
 use std::alloc::{AllocError, Global};
-use std::fs::{File, Files};
+use std::fs::File;
+use std::io;
 use std::io::{ErrorKind, Write};
 use std::path::PathBuf;
-use std::{fs, io};
 
 /// The name of the file in the relay's folder.
 const NAME: &str = "relay.hist";
@@ -24,6 +25,12 @@ const NAMES: &str = "relay.names";
 
 /// The name of the file that is written before it takes that name.
 const NAMES_BESIDE: &str = "relay.names.new";
+
+/// The name of the file of marks in the relay's folder.
+const AGES: &str = "relay.ages";
+
+/// The name of the file that is written before it takes that name.
+const AGES_BESIDE: &str = "relay.ages.new";
 
 /// The file `relay.hist` in a folder, or another that is kept as it is.
 pub struct HostHistory<'a, R> {
@@ -67,6 +74,15 @@ impl<'a, R> HostHistory<'a, R> {
         HostHistory::named(rt, alloc, folder, NAMES, NAMES_BESIDE)
     }
 
+    /// The file `relay.ages` in this folder, which is neither opened nor made.
+    pub fn of_ages(
+        rt: &'a R,
+        alloc: Global,
+        folder: &'a str,
+    ) -> Result<HostHistory<'a, R>, AllocError> {
+        HostHistory::named(rt, alloc, folder, AGES, AGES_BESIDE)
+    }
+
     /// The file of this name in this folder, with room beside it under the other name.
     pub(crate) fn named(
         rt: &'a R,
@@ -87,7 +103,7 @@ impl<'a, R> HostHistory<'a, R> {
     }
 }
 
-impl<R: Files<File = File>> HistoryPlace for HostHistory<'_, R> {
+impl<R: Filing> HistoryPlace for HostHistory<'_, R> {
     // Of a file of the machine nothing is promised, so contracts see no octet of it, and nothing
     // says that it is honest.
     ghost kept = { λ history. None };
@@ -112,7 +128,7 @@ impl<R: Files<File = File>> HistoryPlace for HostHistory<'_, R> {
     }
 
     fn write_beside(&mut self, text: &[u8]) -> io::Result<()> {
-        let mut file = File::create_new(self.rt, self.beside.as_str())?;
+        let mut file = self.rt.create_at(self.beside.as_str())?;
         file.write_all(text)?;
         self.written = Some(file);
         Ok(())
@@ -127,7 +143,7 @@ impl<R: Files<File = File>> HistoryPlace for HostHistory<'_, R> {
 
     fn put_in_place(&mut self) -> io::Result<()> {
         self.written = None;
-        self.rt.rename(self.beside.as_str(), self.path.as_str())
+        self.rt.rename_at(self.beside.as_str(), self.path.as_str())
     }
 
     fn flush_names(&mut self) -> io::Result<()> {
@@ -136,14 +152,10 @@ impl<R: Files<File = File>> HistoryPlace for HostHistory<'_, R> {
 }
 
 /// The text of the file at a path, none where nothing is there.
-fn text_at<R: Files<File = File>>(
-    rt: &R,
-    alloc: Global,
-    path: &str,
-) -> io::Result<Option<Vec<u8>>> {
+fn text_at<R: Filing>(rt: &R, alloc: Global, path: &str) -> io::Result<Option<Vec<u8>>> {
     // The opening of a pipe would wait for whoever writes it.
     match is_file_at(rt, path) {
-        Ok(true) => match fs::read(&(rt, alloc), path) {
+        Ok(true) => match rt.read_at(alloc, path) {
             Ok(text) => Ok(Some(text)),
             Err(error) => Err(error),
         },
@@ -153,8 +165,8 @@ fn text_at<R: Files<File = File>>(
 }
 
 /// Whether a file stands at a path, or nothing does. Anything else is the error.
-pub(crate) fn is_file_at<R: Files>(rt: &R, path: &str) -> io::Result<bool> {
-    match rt.metadata(path) {
+pub(crate) fn is_file_at<R: Filing>(rt: &R, path: &str) -> io::Result<bool> {
+    match rt.metadata_at(path) {
         Ok(found) => {
             if found.is_file() {
                 Ok(true)
@@ -179,8 +191,8 @@ fn unseen(error: io::Error) -> io::Result<bool>
 }
 
 /// Takes away the file at a path, where one is there.
-fn take_away<R: Files>(rt: &R, path: &str) -> io::Result<()> {
-    match rt.remove_file(path) {
+fn take_away<R: Filing>(rt: &R, path: &str) -> io::Result<()> {
+    match rt.remove_at(path) {
         Ok(()) => Ok(()),
         Err(error) => unremoved(error),
     }
@@ -198,8 +210,8 @@ fn unremoved(error: io::Error) -> io::Result<()>
 }
 
 /// Has the device take the names of a folder.
-fn flush_folder<R: Files<File = File>>(rt: &R, folder: &str) -> io::Result<()> {
-    let flushed = match File::open(rt, folder) {
+fn flush_folder<R: Filing>(rt: &R, folder: &str) -> io::Result<()> {
+    let flushed = match rt.open_at(folder) {
         Ok(opened) => opened.sync_all(),
         Err(error) => Err(error),
     };

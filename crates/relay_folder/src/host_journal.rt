@@ -2,6 +2,7 @@
 ghost use Rattle.std.specs.Prelude.{None, []};
 ghost use Rattle.relay_folder.specs.Place.{Nothing};
 
+use crate::filing::Filing;
 use crate::history_place::HistoryPlace;
 use crate::host::{HostHistory, is_file_at};
 use crate::journal_file::JournalFile;
@@ -51,7 +52,7 @@ impl<'a, R> HostJournal<'a, R> {
     }
 }
 
-impl<R: Files<File = File>> HistoryPlace for HostJournal<'_, R> {
+impl<R: Filing> HistoryPlace for HostJournal<'_, R> {
     // As of a history's file: nothing is promised, so contracts see no octet of it.
     ghost kept = { λ journal. None };
 
@@ -90,7 +91,7 @@ impl<R: Files<File = File>> HistoryPlace for HostJournal<'_, R> {
     }
 }
 
-impl<R: Files<File = File>> JournalPlace for HostJournal<'_, R> {
+impl<R: Files<File = File> + Filing> JournalPlace for HostJournal<'_, R> {
     type Open = HostJournalFile;
 
     fn open(&mut self) -> io::Result<HostJournalFile> {
@@ -100,7 +101,7 @@ impl<R: Files<File = File>> JournalPlace for HostJournal<'_, R> {
 }
 
 /// The file at a path, which is there, opened so that each write goes behind its end.
-fn end_of<R: Files<File = File>>(rt: &R, path: &str) -> io::Result<File> {
+fn end_of<R: Files<File = File> + Filing>(rt: &R, path: &str) -> io::Result<File> {
     // The opening of a pipe would wait for whoever reads it.
     match is_file_at(rt, path) {
         Ok(true) => OpenOptions::new().append(true).open(rt, path),

@@ -10,13 +10,15 @@
 //! too, whose file is opened to put octets behind its end: `JournalPlace`, and `HostJournal` of the
 //! machine.
 //!
-//! The socket in a relay's folder by which whoever may write to it tells the relay to stop, or asks
-//! what it holds (docs/PROTOCOL.md, `stop` and `report`).
+//! The socket in a relay's folder by which whoever may write to it tells the relay to stop, or to
+//! take no new articles for now, or asks what it holds (docs/PROTOCOL.md, `stop` and `report`,
+//! `pause` and `go`).
 #![tactic(auto)]
 
 mod askers;
 mod asking;
 mod control;
+mod filing;
 mod history_place;
 mod host;
 mod host_journal;
@@ -32,6 +34,7 @@ mod words;
 pub use askers::{Askers, WAITED_FOR};
 pub use asking::{ask, is_served};
 pub use control::Control;
+pub use filing::Filing;
 pub use history_place::HistoryPlace;
 pub use host::HostHistory;
 pub use host_journal::{HostJournal, HostJournalFile};

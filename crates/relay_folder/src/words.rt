@@ -10,6 +10,10 @@ pub enum Word {
     Stop,
     /// What it holds.
     Report,
+    /// To take no new articles for now.
+    Pause,
+    /// To take them again.
+    Go,
 }
 
 /// The most octets of a line that is a word, with its end.
@@ -23,6 +27,8 @@ impl Word {
         match self {
             Word::Stop => b"stop\n",
             Word::Report => b"report\n",
+            Word::Pause => b"pause\n",
+            Word::Go => b"go\n",
         }
     }
 }
@@ -37,6 +43,12 @@ pub(crate) fn word_of(line: &[u8]) -> Option<Word>
     }
     if line == b"report\n".as_slice() {
         return Some(Word::Report);
+    }
+    if line == b"pause\n".as_slice() {
+        return Some(Word::Pause);
+    }
+    if line == b"go\n".as_slice() {
+        return Some(Word::Go);
     }
     None
 }

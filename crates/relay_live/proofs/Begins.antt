@@ -42,6 +42,8 @@ use Rattle.relay_live.specs.Beginning.{IsNewOver}
 use Rattle.relay_live.specs.declared.alone.Alone.{Alone}
 use Rattle.relay_model.specs.Claims.{Unknown}
 use Rattle.relay_model.specs.State.{empty_state}
+use Rattle.post_history.specs.Shards.{shards_in}
+use Rattle.post_history.specs.declared.book.Naming as naming
 
 -- there are as many buffers as the settings have
 buffers_count : (settings : Buffers)
@@ -122,13 +124,14 @@ new_placed_groups config placed_groups count are = record {
 }
 
 -- so the parts keep the empty state
-pub keeps_nothing : {S J L : Type 0} {s : blocks.Ghosts S} {j : store_premises.Ghosts J}
+pub keeps_nothing : {S J L : Type 0} {s : blocks.Ghosts S}
+    {j : store_premises.Ghosts J} {n : naming.Ghosts J}
     (config : Config)
-    (stores : List S) (alone : Alone S J L s j)
+    (stores : List S) (alone : Alone S J L s j n)
     → map (λ store. length (s.blocks store)) stores
     ≡ map (λ (conf : BufferConf). conf.blocks) config.buffers.buffers.items
     → AreEach IsNewOver stores alone.buffers.items
-    → EachKeeps alone.shards.items (λ id. Unknown)
+    → EachKeeps (shards_in alone.shards.items) (λ id. Unknown)
     → KeepsFeeds (desk_of alone.desk) (map ring_size config.relay.feeds.items) (λ f. no_feed)
     → AreNewPlacedGroups (places_of_groups config.buffers) alone.placed_groups.items
     → length alone.placed_groups.items ≡ length config.buffers.groups.items → newest_in alone ≡ 0

@@ -43,7 +43,7 @@ behind_offer lasting s now (Stored token moment) = refl
 behind_offer lasting s now (Refused moment) = refl
 
 -- what is put behind what was put of the same id
-put_again : (claims : List ℕ → Claim) (id : List ℕ) (a b : Claim) (other : List ℕ)
+pub put_again : (claims : List ℕ → Claim) (id : List ℕ) (a b : Claim) (other : List ℕ)
     → put_id (put_id claims id a) id b other ≡ put_id claims id b other
 put_again claims id a b other = by (bytes_eq other id)
   where

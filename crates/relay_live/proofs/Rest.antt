@@ -4,6 +4,7 @@ use Rattle.std.proofs.Common.{ap, cond, length, map, refl, Some, slice_get, slic
 use Rattle.std.proofs.Common.{sym, true≢false}
 use Rattle.std.proofs.Math.Nat.{mod-lt}
 use Rattle.std.proofs.lemmas.Bool.{eqb-false, eqb-true}
+use Rattle.std.proofs.lemmas.List.{length-map}
 use Rattle.std.proofs.lemmas.Option.{same_Some}
 use Rattle.std.specs.Prelude.{sum}
 use Rattle.cyc_block.specs.declared.store.BlockStore.{Ghosts}
@@ -24,6 +25,9 @@ use Rattle.relay_live.specs.declared.alone.Alone.{Alone}
 use Rattle.relay_model.specs.Claims.{Claim, Unknown, is_storing}
 use Rattle.relay_model.specs.Run.{shard_of}
 use Rattle.relay_model.specs.Terms.{shard_count}
+use Rattle.post_history.specs.Shards.{shards_in}
+use Rattle.post_history.specs.declared.book.Naming as naming
+use Rattle.post_history.specs.declared.remembering.RememberingShard.{RememberingShard}
 
 -- each message-id has one of the sixteen shards
 pub shard_within : (id : List ℕ) → shard_of id < shard_count
@@ -111,9 +115,10 @@ idle_more {S} {s} codes place code is idle before b one less there = by (b == pl
     by false e = before b one (omega (arith, less, eqb-false b place e)) there
 
 -- where none is stored and none is written, as these shards and buffers say, all is at rest
-pub at_rest : {S J L : Type 0} {s : Ghosts S} {j : store_premises.Ghosts J}
-    (alone : Alone S J L s j)
-    (shards : List Shard) (buffers : List (NumberedBuffer S J s j)) → shards ≡ alone.shards.items
+pub at_rest : {S J L : Type 0} {s : Ghosts S} {j : store_premises.Ghosts J} {n : naming.Ghosts J}
+    (alone : Alone S J L s j n)
+    (shards : List Shard) (buffers : List (NumberedBuffer S J s j))
+    → shards ≡ shards_in alone.shards.items
     → buffers ≡ alone.buffers.items → IsRestTo shards (length shards)
     → ((b : ℕ) (code : Buffer S s) → slice_get (map buffer_of buffers) b ≡ Some code
     → is_busy code ≡ false)
@@ -121,9 +126,16 @@ pub at_rest : {S J L : Type 0} {s : Ghosts S} {j : store_premises.Ghosts J}
 at_rest {S} {J} {L} {s} {j} alone shards buffers same same_buffers none unwritten = record {
   claims = λ claims keeps id.
       none claims (subst (λ items. EachKeeps items claims) (sym same) keeps) id
-      (below_as _ _ _ (shard_within id) (sym (ap length same ∙ alone.sixteen)));
+      (below_as _ _ _ (shard_within id) (sym (ap length same
+      ∙ length-map alone.shards.items (λ one. one.shard) ∙ alone.sixteen)));
   buffers = λ b code there.
       unwritten b code
       (subst (λ (items : List (NumberedBuffer S J s j)).
       slice_get (map buffer_of items) b ≡ Some code) (sym same_buffers) there);
 }
+
+-- as the shards that remember their posts say
+pub rest_of : {J : Type 0} {g : naming.Ghosts J} (all : List (RememberingShard J g))
+    → IsRestTo (shards_in all) (length all) → IsRestTo (shards_in all) (length (shards_in all))
+rest_of all rest =
+    subst (IsRestTo (shards_in all)) (sym (length-map all (λ one. one.shard))) rest

@@ -25,6 +25,7 @@ use Rattle.relay_live.specs.Stopping.{IsShutPartly, Shuts, TellsHistory}
 use Rattle.relay_live.specs.declared.alone.Alone.{Alone}
 use Rattle.relay_model.specs.State.{Kept}
 use Rattle.relay_model.specs.Terms.{Terms}
+use Rattle.post_history.specs.declared.book.Naming as naming
 
 some_none : {X : Type 0} (x : X) → Some x ≡ None → ⊥
 some_none x e = none-some x (sym e)
@@ -101,8 +102,8 @@ idle_here through left all one more is next idle =
 
 -- WHAT CLOSING GIVES
 
-module _ {S J L : Type 0} {s : blocks.Ghosts S} {j : store_premises.Ghosts J}
-    (old : Alone S J L s j)
+module _ {S J L : Type 0} {s : blocks.Ghosts S} {j : store_premises.Ghosts J} {n : naming.Ghosts J}
+    (old : Alone S J L s j n)
     (rest : IsAtRest old) where
   -- it is closed
   pub shuts : (stop : ℕ) (stores : List S) (text : List ℕ) → stop ≡ next_stop (stop_in old)

@@ -1,18 +1,18 @@
 -- The buffers of a relay are started, one after the other.
-use Rattle.std.proofs.Common.{◌≡◌, ◌∙◌, ℕ, append-nil, append_assoc, arith, refl, sym, ap, subst}
+use Rattle.std.proofs.Common.{◌≡◌, ◌∙◌, ℕ, ◌+◌, append-nil, append_assoc, arith, refl, sym, ap, subst}
 use Rattle.std.proofs.Common.{List, [], ◌∷◌, ◌++◌, length, map, Option, None, Some, slice_get}
 use Rattle.std.proofs.Common.{option_map}
-use Rattle.std.proofs.lemmas.List.{length-map, map_push}
+use Rattle.std.proofs.lemmas.List.{length-append, length-map, map_push}
 use Rattle.std.proofs.lemmas.Simd.{map-map}
-use Rattle.std.proofs.lemmas.Option.{none-some, slice_get-map, slice_get_within}
+use Rattle.std.proofs.lemmas.Option.{none-some, same_Some, slice_get-map, slice_get_within}
 use Rattle.news_terms.specs.Courses.{Course}
 use Rattle.news_terms.specs.HeadBlocks.{Closed}
-use Rattle.block_shelf.proofs.EachLemmas.{comes_from, each_mapped, none_each, none_left}
+use Rattle.block_shelf.proofs.EachLemmas.{comes_from, each_mapped, each_so, none_each, none_left}
 use Rattle.block_shelf.proofs.EachLemmas.{one_more_each}
-use Rattle.block_shelf.proofs.EachLemmas.{one_through}
+use Rattle.block_shelf.proofs.EachLemmas.{count_through, here_through, one_through}
 use Rattle.block_shelf.proofs.NewBufferSet.{pushed_before, pushed_last}
 use Rattle.block_shelf.proofs.Starts.{blamed_here, blamed_nowhere, buffer_is, failed_there}
-use Rattle.block_shelf.proofs.Starts.{other_more, still_earlier, untouched_store}
+use Rattle.block_shelf.proofs.Starts.{other_more, still_earlier, untouched_stores}
 use Rattle.block_shelf.specs.Each.{AreEach}
 use Rattle.block_shelf.specs.Filled.{IsFilledAs, filled_in}
 use Rattle.block_shelf.specs.Starting.{BuffersKeep, CanStart, EarlierStart, IsFirstOther, IsHeldBy}
@@ -24,20 +24,24 @@ use Rattle.cyc_block.specs.declared.store.BlockStore as blocks
 use Rattle.cyc_buffer.specs.Agreement.{store_of}
 use Rattle.cyc_buffer.specs.Head.{inside, said_of, stop_of}
 use Rattle.cyc_buffer.specs.History.{History}
-use Rattle.cyc_buffer.specs.Reads.{IsBlamed, StaysHeld}
+use Rattle.cyc_buffer.specs.Reads.{StaysHeld}
 use Rattle.cyc_buffer.specs.Stopped.{HoldsStopped}
 use Rattle.cyc_buffer.specs.declared.answers.StartError.{StartError}
 use Rattle.cyc_buffer.specs.declared.answers.StartError.TheVariants as errors
+use Rattle.cyc_buffer.specs.declared.starting.Refused.{Refused}
 use Rattle.cyc_buffer.specs.declared.unopened.Unopened.{Unopened}
-use Rattle.live_store.specs.Started.{AreArticles, IsRefusedFor, IsUnentered}
 use Rattle.live_store.specs.Started.{unopened_in}
 use Rattle.live_store.specs.declared.record.StorePremises as store_premises
 use Rattle.live_store.specs.declared.unopened.UnopenedNumbered.{UnopenedNumbered}
 use Rattle.relay_conf.specs.declared.cycbuff.BufferConf.{BufferConf}
 use Rattle.relay_conf.specs.declared.settings.Buffers.{Buffers}
 use Rattle.relay_live.specs.Starting.{AllStart, AreStarted, IsRefusedAt, IsStartedOver}
-use Rattle.relay_live.specs.Starting.{IsTriedRefusal, IsUnstartedBy}
+use Rattle.relay_live.specs.Starting.{IsBack, IsTriedRefusal, IsUnstartedBy}
 use Rattle.relay_live.specs.Starting.{stores_of}
+use Rattle.relay_live.specs.Trials.{IsRefusedOver, IsStartedAt, IsTried, IsTriedIn, store_in}
+use Rattle.relay_live.specs.Trials.{stores_in}
+use Rattle.relay_live.specs.declared.side_by_side.Trial.{Trial}
+use Rattle.relay_live.specs.declared.side_by_side.Trial.TheVariants as trials
 use Rattle.relay_model.specs.State.{Kept}
 use Rattle.relay_model.specs.Terms.{Terms}
 
@@ -113,12 +117,21 @@ module _ {S J : Type 0} {s : blocks.Ghosts S} {j : store_premises.Ghosts J} wher
       (other_more stop (map unopened_in buffers) (unopened_in one) mixed found number had is
       (at ∙ sym (length-map buffers unopened_in)))
 
+-- what is unwritten comes back
+pub back_of : {S : Type 0} (s : blocks.Ghosts S) (failed : Option ℕ) (place b : ℕ) (old new : S)
+    → IsUnwritten s failed b old new → IsBack s failed place b old new
+back_of s failed place b old new is = record {
+  held = is.held;
+  failed_here = is.failed_here;
+  no_failure = λ within. is.no_failure;
+}
+
 module _ {S : Type 0} (s : blocks.Ghosts S) (before : List S) (store : S) where
   -- a store behind one whose buffer was refused
-  abbrev pub refused_before : (error : StartError) (back : List S)
+  abbrev pub refused_before : (error : StartError) (back : List S) (new : S) → StaysHeld s store new
       → IsRefusedAt s before error back
-      → IsRefusedAt s (before ++ store ∷ []) error (back ++ store ∷ [])
-  refused_before error back had =
+      → IsRefusedAt s (before ++ store ∷ []) error (back ++ new ∷ [])
+  refused_before error back new held had =
       let within = slice_get_within before had.place had.store had.there in
       record {
         place = had.place;
@@ -127,70 +140,149 @@ module _ {S : Type 0} (s : blocks.Ghosts S) (before : List S) (store : S) where
         reason = had.reason;
         outside = had.outside;
         earlier = still_earlier s before store had.place (omega (arith, within)) had.earlier;
-        back_each = one_more_each (IsUnwritten s (failed_at error had.place)) before back store
-            store had.back_each
-            (untouched_store s (failed_at error had.place) (length before) store
-            (λ e. omega (arith, within, failed_there error had.place (length before) e)));
+        back_each = one_more_each (IsBack s (failed_at error had.place) had.place) before back store
+            new had.back_each
+            (record {
+              held = held;
+              failed_here = λ e.
+                  absurd (omega (arith, within, failed_there error had.place (length before) e));
+              no_failure = λ behind apart. absurd (omega (arith, within, behind));
+            });
       }
 
   -- the first whose buffer is refused
   abbrev pub first_refused : {J : Type 0} {j : store_premises.Ghosts J}
-      (buffers : List (UnopenedNumbered S J s j)) (error : StartError) (refused : S)
-      → AreEach IsStartedOver before buffers → StaysHeld s store refused
-      → IsBlamed s store refused error
-      → (s.honest store → IsRefusedFor (s.heads store) (s.blocks store)
-      (buffer_over s (length before) store) error)
-      → (s.honest store → (stop : ℕ) (h : History)
-      → HoldsStopped (s.heads store) (s.blocks store) stop h
-      → h.buffer ≡ buffer_over s (length before) store → IsUnentered (AreArticles h) error)
-      → IsRefusedAt s (before ++ store ∷ []) error (stores_of buffers ++ refused ∷ [])
-  first_refused {J} {j} buffers error refused are held blamed reason outside = record {
+      (buffers : List (UnopenedNumbered S J s j)) (refused : Refused S)
+      → AreEach IsStartedOver before buffers → IsRefusedOver s (length before) store refused
+      → IsRefusedAt s (before ++ store ∷ []) refused.error
+      (stores_of buffers ++ refused.store ∷ [])
+  first_refused {J} {j} buffers refused are is = record {
     place = length before;
     store = store;
     there = pushed_last before store;
-    reason = reason;
-    outside = outside;
+    reason = is.reason;
+    outside = is.outside;
     earlier = still_earlier s before store (length before) (omega arith)
         (earlier_start before buffers are);
-    back_each = one_more_each (IsUnwritten s (failed_at error (length before))) before
-        (stores_of buffers) store refused
-        (each_mapped IsStartedOver (IsUnwritten s (failed_at error (length before)))
+    back_each = one_more_each (IsBack s (failed_at refused.error (length before)) (length before))
+        before (stores_of buffers) store refused.store
+        (each_mapped IsStartedOver
+        (IsBack s (failed_at refused.error (length before)) (length before))
         (λ (one : UnopenedNumbered S J s j). store_of (inside (unopened_in one))) before buffers are
-        (λ b one unopened there is.
-        started_store (failed_at error (length before)) b one unopened
+        (λ b one unopened there started.
+        back_of s (failed_at refused.error (length before)) (length before) b one
+        (store_of (inside (unopened_in unopened)))
+        (started_store (failed_at refused.error (length before)) b one unopened
         (λ e. omega (
           arith,
           slice_get_within before b one there,
-          failed_there error (length before) b e,
+          failed_there refused.error (length before) b e,
         ))
-        is))
+        started)))
         (record {
-          held = held;
-          failed_here = blamed_here s store refused error (length before) blamed;
-          no_failure = blamed_nowhere s store refused error (length before) blamed;
+          held = is.held;
+          failed_here = blamed_here s store refused.store refused.error (length before) is.failed;
+          no_failure = λ within.
+              blamed_nowhere s store refused.store refused.error (length before) is.failed;
         });
   }
 
--- so it stands with the stores behind that one
-pub rest_refused : {S : Type 0} (s : blocks.Ghosts S) (fault : StopFault) (number : Option ℕ)
-    (rest before back : List S) → IsTriedRefusal s before fault number back
-    → IsTriedRefusal s (before ++ rest) fault number (back ++ rest)
-rest_refused s fault number [] before back had =
-    subst (IsTriedRefusal s (before ++ []) fault number) (sym (append-nil back))
-    (subst (λ stores. IsTriedRefusal s stores fault number back) (sym (append-nil before)) had)
-rest_refused s fault number (store ∷ rest) before back had =
-    subst (IsTriedRefusal s (before ++ store ∷ rest) fault number)
-    (append_assoc back (store ∷ []) rest)
-    (subst (λ stores. IsTriedRefusal s stores fault number ((back ++ store ∷ []) ++ rest))
-    (append_assoc before (store ∷ []) rest)
-    (rest_refused s fault number rest (before ++ store ∷ []) (back ++ store ∷ [])
-    (had.0, had.1, (refused_before s before store had.0 back had.2.0, had.2.1))))
+-- whatever came of a buffer, its store is unwritten
+tried_held : {S J : Type 0} {s : blocks.Ghosts S} {j : store_premises.Ghosts J} (number : ℕ)
+    (store : S) (trial : Trial S J s j) → IsTried number store trial
+    → StaysHeld s store (store_in trial)
+tried_held {s = s} number store (trials.Untried back) is =
+    subst (StaysHeld s store) (sym is)
+    (record { honest = λ sure. sure; blocks = λ sure. refl; heads = λ sure. refl; count = refl })
+tried_held number store (trials.Started one found) is = is.0.held
+tried_held number store (trials.Refused refused) is = is.held
+
+-- what came of the buffers of all stores, where this was gone through
+module _ {S J : Type 0} {s : blocks.Ghosts S} {j : store_premises.Ghosts J} (all : List S)
+    (slots : List (Option (Trial S J s j))) (tried : AreEach IsTriedIn all slots) where
+  -- as much is left as stores are
+  as_many_left : (before rest : List S) (through left : List (Option (Trial S J s j)))
+      → before ++ rest ≡ all → through ++ left ≡ slots → length through ≡ length before
+      → length left ≡ length rest
+  as_many_left before rest through left all_is slots_is along =
+      omega (
+        arith,
+        ap length all_is,
+        ap length slots_is,
+        along,
+        tried.count,
+        length-append before rest,
+        length-append through left,
+      )
+
+  -- what comes next is of the next store
+  next_of : (before : List S) (store : S) (rest : List S)
+      (through : List (Option (Trial S J s j))) (slot : Option (Trial S J s j))
+      (left : List (Option (Trial S J s j))) → before ++ store ∷ rest ≡ all
+      → through ++ slot ∷ left ≡ slots → length through ≡ length before
+      → IsTriedIn (length before) store slot
+  next_of before store rest through slot left all_is slots_is along =
+      let from = comes_from IsTriedIn all slots tried (length through) slot
+      (here_through through (slot ∷ left) slots slot left slots_is refl) in
+      let here = here_through before (store ∷ rest) all store rest all_is refl in
+      subst (λ n. IsTriedIn n store slot) along
+      (subst (λ one. IsTriedIn (length through) one slot)
+      (same_Some from.item store
+      (sym from.there ∙ ap (slice_get all) along ∙ here)) from.belongs)
+
+  -- the start is refused, whatever came of the buffers behind that one
+  pub rest_refused : (fault : StopFault) (number : Option ℕ) (rest before back : List S)
+      (through left : List (Option (Trial S J s j))) → before ++ rest ≡ all
+      → through ++ left ≡ slots → length through ≡ length before
+      → IsTriedRefusal s before fault number back
+      → IsTriedRefusal s all fault number (back ++ stores_in left)
+  rest_refused fault number [] before back through [] all_is slots_is along had =
+      subst (IsTriedRefusal s all fault number) (sym (append-nil back))
+      (subst (λ stores. IsTriedRefusal s stores fault number back)
+      (sym (append-nil before) ∙ all_is) had)
+  rest_refused fault number [] before back through (slot ∷ left) all_is slots_is along had =
+      absurd (omega (
+        arith,
+        as_many_left before [] through (slot ∷ left) all_is slots_is along,
+      ))
+  rest_refused fault number (store ∷ rest) before back through [] all_is slots_is along had =
+      absurd (omega (
+        arith,
+        as_many_left before (store ∷ rest) through [] all_is slots_is along,
+      ))
+  rest_refused fault number (store ∷ rest) before back through (None ∷ left) all_is slots_is along
+      had =
+      absurd (next_of before store rest through None left all_is slots_is along)
+  rest_refused fault number (store ∷ rest) before back through (Some trial ∷ left) all_is slots_is
+      along had =
+      subst (IsTriedRefusal s all fault number)
+      (append_assoc back (store_in trial ∷ []) (stores_in left))
+      (rest_refused fault number rest (before ++ store ∷ []) (back ++ store_in trial ∷ [])
+      (through ++ Some trial ∷ []) left
+      (one_through before (store ∷ rest) all store rest all_is refl)
+      (one_through through (Some trial ∷ left) slots (Some trial) left slots_is refl)
+      (omega (
+        arith,
+        along,
+        length-append before (store ∷ []),
+        length-append through (Some trial ∷ []),
+      )) (
+        had.0,
+        had.1,
+        (
+          refused_before s before store had.0 back (store_in trial)
+              (tried_held (length before) store trial
+              (next_of before store rest through (Some trial) left all_is slots_is along))
+              had.2.0,
+          had.2.1,
+        ),
+      ))
 
 -- a fault of a buffer, as that of the relay
 refused_by : {S : Type 0} (s : blocks.Ghosts S) (stores : List S) (stop : ℕ) (start : StartError)
     (back : List S) (why : IsRefusedAt s stores start back)
     → IsUnstartedBy s stores stop (fault_of_start start) (number_told start why.place) back
-refused_by s stores stop errors.Memory back why = (refl, why.back_each)
+refused_by s stores stop errors.Memory back why = (refl, (why.place, why.back_each))
 refused_by s stores stop errors.Device back why = (why, refl)
 refused_by s stores stop errors.NoHead back why = (why, refl)
 refused_by s stores stop errors.Unclosed back why = (why, refl)
@@ -205,6 +297,18 @@ refused_start s stores stop fault number back had =
     subst (λ f. IsUnstartedBy s stores stop f number back) (sym had.1)
     (subst (λ n. IsUnstartedBy s stores stop (fault_of_start had.0) n back) (sym had.2.1)
     (refused_by s stores stop had.0 back had.2.0))
+
+-- memory is refused before a store is called
+pub untouched : {S : Type 0} (s : blocks.Ghosts S) (stores : List S) (stop : ℕ)
+    → IsUnstartedBy s stores stop faults.Memory None stores
+untouched s stores stop = (
+  refl,
+  (
+    0,
+    each_so (untouched_stores s stores)
+        (λ b old new there back is. back_of s None 0 b old new is),
+  ),
+)
 
 -- a start that was mixed
 pub mixed_start : {S J : Type 0} {s : blocks.Ghosts S} {j : store_premises.Ghosts J}
@@ -270,75 +374,148 @@ buffers_keep {s = s} settings stores sized buffers are stop w begun kept failure
       };
 }
 
--- the buffers that were started so far, over the stores that were gone through
+-- the buffers that were started so far, over the stores that were gone through, and what came of
+-- those that are left
 pub record StartedSoFar {S J : Type 0} {s : blocks.Ghosts S} {j : store_premises.Ghosts J}
-    (stop : ℕ) (all left : List S) (buffers : List (UnopenedNumbered S J s j)) (mixed : Option ℕ)
+    (stop : ℕ) (all : List S) (left : List (Option (Trial S J s j)))
+    (buffers : List (UnopenedNumbered S J s j)) (mixed : Option ℕ)
     : Type 0 where
   pub gone : List S
-  pub all_is : gone ++ left ≡ all
+  pub rest : List S
+  pub all_is : gone ++ rest ≡ all
+  pub slots : List (Option (Trial S J s j))
+  pub tried : AreEach IsTriedIn all slots
+  pub through : List (Option (Trial S J s j))
+  pub slots_is : through ++ left ≡ slots
+  pub along : length through ≡ length gone
   pub over : AreEach IsStartedOver gone buffers
   pub first : IsFirstOther stop (map unopened_in buffers) mixed
+
+-- the next store, and what came of its buffer
+pub record HasNext {S J : Type 0} {s : blocks.Ghosts S} {j : store_premises.Ghosts J}
+    (all gone rest : List S) (slot : Option (Trial S J s j)) (more : ℕ)
+    : Type 0 where
+  pub store : S
+  pub behind : List S
+  pub next : rest ≡ store ∷ behind
+  pub there : slice_get all (length gone) ≡ Some store
+  pub tried : IsTriedIn (length gone) store slot
+  pub count : length gone + 1 + more ≡ length all
 
 module _ {S J : Type 0} {s : blocks.Ghosts S} {j : store_premises.Ghosts J} (stop : ℕ)
     (all : List S) where
   -- before the first store none is
-  pub started_none : StartedSoFar {J = J} {s = s} {j = j} stop all all [] None
-  started_none = record {
+  pub started_none : (slots : List (Option (Trial S J s j))) → AreEach IsTriedIn all slots
+      → StartedSoFar stop all slots [] None
+  started_none slots tried = record {
     gone = [];
+    rest = all;
     all_is = refl;
+    slots = slots;
+    tried = tried;
+    through = [];
+    slots_is = refl;
+    along = refl;
     over = none_each IsStartedOver;
     first = λ b one is. absurd (none-some one is);
   }
 
-  -- all are, where no store is left
-  pub started_all : (left : List S) (buffers : List (UnopenedNumbered S J s j)) (mixed : Option ℕ)
+  -- all are, where nothing is left
+  pub started_all : (left : List (Option (Trial S J s j)))
+      (buffers : List (UnopenedNumbered S J s j)) (mixed : Option ℕ)
       → StartedSoFar stop all left buffers mixed → length left ≡ 0
       → AreEach IsStartedOver all buffers
   started_all left buffers mixed had none =
       subst (λ stores. AreEach IsStartedOver stores buffers)
-      (none_left had.gone left had.all_is none) had.over
+      (none_left had.gone had.rest had.all_is
+      (sym (as_many_left all had.slots had.tried had.gone had.rest had.through left had.all_is
+      had.slots_is had.along)
+      ∙ none))
+      had.over
 
-  module _ (left : List S) (buffers : List (UnopenedNumbered S J s j)) (mixed : Option ℕ)
-      (had : StartedSoFar stop all left buffers mixed) (store : S) (more : List S)
-      (next : left ≡ store ∷ more) (number : ℕ) (at : number ≡ length buffers) where
-    -- one more is
-    pub started_more : (one : UnopenedNumbered S J s j) (found : ℕ) → IsStartedOver number store one
-        → stop_of (inside (unopened_in one)) ≡ found
-        → StartedSoFar stop all more (buffers ++ one ∷ []) (other_after mixed found stop number)
-    started_more one found is under = record {
-      gone = had.gone ++ store ∷ [];
-      all_is = one_through had.gone left all store more had.all_is next;
-      over = one_more_each IsStartedOver had.gone buffers store one had.over
-          (subst (λ n. IsStartedOver n store one) (at ∙ had.over.count) is);
-      first = other_joins stop buffers one mixed found number had.first under at;
-    }
+  -- what is left begins with what came of the next buffer
+  next_in : (gone rest : List S) (slots through : List (Option (Trial S J s j)))
+      (slot : Option (Trial S J s j)) (more : List (Option (Trial S J s j)))
+      → AreEach IsTriedIn all slots → gone ++ rest ≡ all → through ++ slot ∷ more ≡ slots
+      → length through ≡ length gone → HasNext all gone rest slot (length more)
+  next_in gone [] slots through slot more tried all_is slots_is along =
+      absurd (omega (
+        arith,
+        as_many_left all slots tried gone [] through (slot ∷ more) all_is slots_is along,
+      ))
+  next_in gone (store ∷ behind) slots through slot more tried all_is slots_is along = record {
+    store = store;
+    behind = behind;
+    next = refl;
+    there = here_through gone (store ∷ behind) all store behind all_is refl;
+    tried = next_of all slots tried gone store behind through slot more all_is slots_is along;
+    count = omega (
+      arith,
+      as_many_left all slots tried gone (store ∷ behind) through (slot ∷ more) all_is slots_is
+          along,
+      count_through gone (store ∷ behind) all store behind all_is refl,
+    );
+  }
 
-    -- or it is refused, and the stores behind it come back as they are
-    pub refused_here : (error : StartError) (refused : S) (fault : StopFault) (told : Option ℕ)
-        (back : List S) → StaysHeld s store refused → IsBlamed s store refused error
-        → (s.honest store → IsRefusedFor (s.heads store) (s.blocks store)
-        (buffer_over s number store) error)
-        → (s.honest store → (stop : ℕ) (h : History)
-        → HoldsStopped (s.heads store) (s.blocks store) stop h
-        → h.buffer ≡ buffer_over s number store → IsUnentered (AreArticles h) error)
-        → fault ≡ fault_of_start error → told ≡ number_told error number
-        → back ≡ (stores_of buffers ++ refused ∷ []) ++ more
-        → IsUnstartedBy s all stop fault told back
-    refused_here error refused fault told back held blamed reason outside is says made =
-        let here : number ≡ length had.gone = at ∙ had.over.count in
-        let why = first_refused s had.gone store buffers error refused had.over held blamed
-        (subst (λ n. s.honest store → IsRefusedFor (s.heads store) (s.blocks store)
-        (buffer_over s n store) error) here reason)
-        (subst (λ n. s.honest store → (stop : ℕ) (h : History)
-        → HoldsStopped (s.heads store) (s.blocks store) stop h
-        → h.buffer ≡ buffer_over s n store → IsUnentered (AreArticles h) error) here outside) in
-        let tried : IsTriedRefusal s (had.gone ++ store ∷ []) fault told
-        (stores_of buffers ++ refused ∷ []) =
-        (error, is, (why, says ∙ ap (number_told error) here)) in
-        refused_start s all stop fault told back
-        (subst (IsTriedRefusal s all fault told) (sym made)
-        (subst (λ stores. IsTriedRefusal s stores fault told
-        ((stores_of buffers ++ refused ∷ []) ++ more))
-        (one_through had.gone left all store more had.all_is next)
-        (rest_refused s fault told more (had.gone ++ store ∷ [])
-        (stores_of buffers ++ refused ∷ []) tried)))
+  module _ (left : List (Option (Trial S J s j))) (buffers : List (UnopenedNumbered S J s j))
+      (mixed : Option ℕ) (had : StartedSoFar stop all left buffers mixed)
+      (slot : Option (Trial S J s j)) (more : List (Option (Trial S J s j)))
+      (next : left ≡ slot ∷ more) where
+    pub next_store : HasNext all had.gone had.rest slot (length more)
+    next_store =
+        next_in had.gone had.rest had.slots had.through slot more had.tried had.all_is
+        (ap (λ items. had.through ++ items) (sym next) ∙ had.slots_is) had.along
+
+    module _ (number : ℕ) (at : number ≡ length buffers) where
+      -- the buffer of this number is the next one
+      here_is : number ≡ length had.gone
+      here_is = at ∙ had.over.count
+
+      -- one more is started
+      pub started_more : (one : UnopenedNumbered S J s j) (found : ℕ)
+          → IsStartedAt number next_store.store one found
+          → StartedSoFar stop all more (buffers ++ one ∷ []) (other_after mixed found stop number)
+      started_more one found is = record {
+        gone = had.gone ++ next_store.store ∷ [];
+        rest = next_store.behind;
+        all_is = one_through had.gone had.rest all next_store.store next_store.behind had.all_is
+            next_store.next;
+        slots = had.slots;
+        tried = had.tried;
+        through = had.through ++ slot ∷ [];
+        slots_is = one_through had.through left had.slots slot more had.slots_is next;
+        along = omega (
+          arith,
+          had.along,
+          length-append had.gone (next_store.store ∷ []),
+          length-append had.through (slot ∷ []),
+        );
+        over = one_more_each IsStartedOver had.gone buffers next_store.store one had.over
+            (subst (λ n. IsStartedOver n next_store.store one) here_is is.0);
+        first = other_joins stop buffers one mixed found number had.first is.1 at;
+      }
+
+      -- or it is refused, and the stores behind it come back unwritten
+      pub refused_here : (refused : Refused S) (fault : StopFault) (told : Option ℕ)
+          (back : List S) → IsRefusedOver s number next_store.store refused
+          → fault ≡ fault_of_start refused.error → told ≡ number_told refused.error number
+          → back ≡ (stores_of buffers ++ refused.store ∷ []) ++ stores_in more
+          → IsUnstartedBy s all stop fault told back
+      refused_here refused fault told back is fault_is says made =
+          let why = first_refused s had.gone next_store.store buffers refused had.over
+          (subst (λ n. IsRefusedOver s n next_store.store refused) here_is is) in
+          refused_start s all stop fault told back
+          (subst (IsTriedRefusal s all fault told) (sym made)
+          (rest_refused all had.slots had.tried fault told next_store.behind
+          (had.gone ++ next_store.store ∷ []) (stores_of buffers ++ refused.store ∷ [])
+          (had.through ++ slot ∷ []) more
+          (one_through had.gone had.rest all next_store.store next_store.behind had.all_is
+          next_store.next)
+          (one_through had.through left had.slots slot more had.slots_is next)
+          (omega (
+            arith,
+            had.along,
+            length-append had.gone (next_store.store ∷ []),
+            length-append had.through (slot ∷ []),
+          ))
+          (refused.error, fault_is, (why, says ∙ ap (number_told refused.error) here_is))))

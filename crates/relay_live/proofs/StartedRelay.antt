@@ -56,6 +56,8 @@ use Rattle.relay_live.specs.declared.alone.Alone.{Alone}
 use Rattle.relay_live.specs.declared.desks.Desks.{Desks}
 use Rattle.relay_model.specs.Terms.{Terms}
 use Rattle.relay_model.specs.World.{World}
+use Rattle.post_history.specs.Shards.{shards_in}
+use Rattle.post_history.specs.declared.book.Naming as naming
 
 -- a head block is of one buffer
 abbrev pub OneHead : Type 0
@@ -258,7 +260,7 @@ module _ {S J : Type 0} {s : blocks.Ghosts S} {j : store_premises.Ghosts J} (con
       is
 
   -- the parts start
-  pub starts : {L : Type 0} (alone : Alone S J L s j) (desks : Desks L)
+  pub starts : {L : Type 0} {n : naming.Ghosts J} (alone : Alone S J L s j n) (desks : Desks J L n)
       → IsAheadAs s config stores kept false
       → AreOf config (map unopened_in buffers) kept desks
       → AreEach IsOpenedFrom buffers alone.buffers.items → alone.shards ≡ desks.shards
@@ -289,9 +291,10 @@ module _ {S J : Type 0} {s : blocks.Ghosts S} {j : store_premises.Ghosts J} (con
         record {
           beside = record {
             newest = newest ∙ history.newest;
-            claims = subst (λ all. EachKeeps all.items (started x x.work.failures).state.claim)
+            claims = subst
+                (λ all. EachKeeps (shards_in all.items) (started x x.work.failures).state.claim)
                 (sym shards)
-                (subst (EachKeeps desks.shards.items)
+                (subst (EachKeeps (shards_in desks.shards.items))
                 (λ i id. (lasts_again (x.state.claim id)
                 ∙ lasting-restart (x.state.claim id) (shut.idle id)) i)
                 (of.claims (started x x.work.failures).state.claim parts.2));

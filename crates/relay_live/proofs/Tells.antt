@@ -25,6 +25,8 @@ use Rattle.relay_live.specs.Stopping.{TellsHistory}
 use Rattle.relay_live.specs.Telling.{AreEntries}
 use Rattle.relay_live.specs.declared.alone.Alone.{Alone}
 use Rattle.relay_model.specs.Terms.{FeedTerms, Terms}
+use Rattle.post_history.specs.Shards.{shards_in}
+use Rattle.post_history.specs.declared.book.Naming as naming
 
 -- the positions that placed groups tell are those of the groups
 pub told_placed_groups : (w : Terms) (begun : ℕ → Course) (placed_groups : List PlacedGroup)
@@ -43,14 +45,15 @@ told_placed_groups w begun placed_groups positions sound keeps told = record {
 }
 
 -- the history that is made of the parts is that of each state
-pub tells_of : {S J L : Type 0} {s : blocks.Ghosts S} {j : store_premises.Ghosts J}
-    (alone : Alone S J L s j) (stop : ℕ) (text : List ℕ) (kept : texts.Kept)
+pub tells_of : {S J L : Type 0} {s : blocks.Ghosts S}
+    {j : store_premises.Ghosts J} {n : naming.Ghosts J}
+    (alone : Alone S J L s j n) (stop : ℕ) (text : List ℕ) (kept : texts.Kept)
     (feeds : List KeptFeed) (ids : List KeptId) → Fits kept → text ≡ history_octets kept
     → kept.stop ≡ stop → kept.newest ≡ newest_in alone
     → AreEach TellsPosition alone.placed_groups.items kept.positions
     → kept.feeds ≡ map feed_view feeds
     → AreKeptFeeds (desk_of alone.desk) alone.feeds feeds → kept.ids ≡ map id_view ids
-    → AreEntries alone.shards.items ids → TellsHistory alone stop text
+    → AreEntries (shards_in alone.shards.items) ids → TellsHistory alone stop text
 tells_of alone stop text kept feeds ids fits written stops newest positions feeds_are feeds_left
     ids_are ids_left w σ beside = record {
       kept = kept;

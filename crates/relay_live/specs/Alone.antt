@@ -16,30 +16,35 @@ use Rattle.relay_live.specs.Numbers.{last_of}
 use Rattle.relay_live.specs.declared.alone.Alone.{Alone}
 use Rattle.relay_model.specs.State.{State}
 use Rattle.relay_model.specs.Terms.{Terms}
+use Rattle.post_history.specs.declared.book.Naming as naming
+use Rattle.post_history.specs.Shards.{shards_in}
 
 -- its buffers, without the numbers beside them
-abbrev pub codes_of : {S J L : Type 0} {s : blocks.Ghosts S} {j : store_premises.Ghosts J}
-    → Alone S J L s j → List (Buffer S s)
+abbrev pub codes_of : {S J L : Type 0} {s : blocks.Ghosts S}
+    {j : store_premises.Ghosts J} {n : naming.Ghosts J}
+    → Alone S J L s j n → List (Buffer S s)
 codes_of alone = map buffer_of alone.buffers.items
 
 -- the number of the session that was drawn last
-abbrev pub newest_in : {S J L : Type 0} {s : blocks.Ghosts S} {j : store_premises.Ghosts J}
-    → Alone S J L s j → ℕ
+abbrev pub newest_in : {S J L : Type 0} {s : blocks.Ghosts S}
+    {j : store_premises.Ghosts J} {n : naming.Ghosts J}
+    → Alone S J L s j n → ℕ
 newest_in alone = last_of alone.last
 
 -- the number of the last stop
-abbrev pub stop_in : {S J L : Type 0} {s : blocks.Ghosts S} {j : store_premises.Ghosts J}
-    → Alone S J L s j → ℕ
+abbrev pub stop_in : {S J L : Type 0} {s : blocks.Ghosts S}
+    {j : store_premises.Ghosts J} {n : naming.Ghosts J}
+    → Alone S J L s j n → ℕ
 stop_in alone = alone.stop
 
 -- What the parts beside the buffers keep of a state, over any stores: the newest session, each
 -- message-id's claim in its own shard, the feeds in their rings, and where each group is.
 pub record KeepsBeside {S J L : Type 0} {s : blocks.Ghosts S}
-    {j : store_premises.Ghosts J} (w : Terms)
-    (alone : Alone S J L s j) (σ : State)
+    {j : store_premises.Ghosts J} {n : naming.Ghosts J} (w : Terms)
+    (alone : Alone S J L s j n) (σ : State)
     : Type 0 where
   pub newest : newest_in alone ≡ newest_kept σ.newest
-  pub claims : EachKeeps alone.shards.items σ.claim
+  pub claims : EachKeeps (shards_in alone.shards.items) σ.claim
   pub feeds : KeepsFeeds (desk_of alone.desk) (ring_sizes w) σ.feed
   pub feed_count : alone.feeds ≡ length w.feeds
   pub sound : AreSound w.buffers w.groups
@@ -48,8 +53,8 @@ pub record KeepsBeside {S J L : Type 0} {s : blocks.Ghosts S}
 -- The parts keep the state, in which no write is open: also each buffer, over an honest store,
 -- whose device has failed as often as is said.
 pub record KeepsState {S J L : Type 0} {s : blocks.Ghosts S}
-    {j : store_premises.Ghosts J} (w : Terms)
-    (alone : Alone S J L s j) (σ : State) (failures : ℕ → ℕ)
+    {j : store_premises.Ghosts J} {n : naming.Ghosts J} (w : Terms)
+    (alone : Alone S J L s j n) (σ : State) (failures : ℕ → ℕ)
     : Type 0 where
   pub beside : KeepsBeside w alone σ
   pub buffers : BuffersKeep (codes_of alone) w σ.begun σ.kept failures

@@ -23,6 +23,8 @@ use Rattle.relay_live.specs.declared.shared.Shared.{Shared}
 use Rattle.relay_model.specs.Claims.{Unknown}
 use Rattle.relay_model.specs.State.{empty_state}
 use Rattle.std.specs.List.{All}
+use Rattle.post_history.specs.declared.book.Naming as naming
+use Rattle.post_history.specs.Shards.{shards_in}
 
 -- The buffer of this number over a store, in which nothing was begun: nothing stands beside it, and
 -- no number at a block. The device was called once, for head block 0, and hasn't failed.
@@ -41,10 +43,11 @@ pub record IsNewOver {S J : Type 0} {s : blocks.Ghosts S} {j : store_premises.Gh
 -- message-id is unknown, no feed gained anything, nothing was begun in a buffer or a group, no
 -- session was drawn, and there was no stop. So over honest stores they keep the empty state, in
 -- which each device has failed as often as it had.
-pub record BeginsOver {S J L : Type 0} {s : blocks.Ghosts S} {j : store_premises.Ghosts J}
-    (config : Config) (stores : List S) (alone : Alone S J L s j)
+pub record BeginsOver {S J L : Type 0} {s : blocks.Ghosts S}
+    {j : store_premises.Ghosts J} {n : naming.Ghosts J}
+    (config : Config) (stores : List S) (alone : Alone S J L s j n)
     : Type 0 where
-  pub claims : EachKeeps alone.shards.items (λ id. Unknown)
+  pub claims : EachKeeps (shards_in alone.shards.items) (λ id. Unknown)
   pub feeds : KeepsFeeds (desk_of alone.desk)
       (map ring_size config.relay.feeds.items) (λ f. no_feed)
   pub placed_groups : AreNewPlacedGroups (places_of_groups config.buffers) alone.placed_groups.items
@@ -58,10 +61,11 @@ pub record BeginsOver {S J L : Type 0} {s : blocks.Ghosts S} {j : store_premises
       → KeepsState (terms_of config) alone empty_state (failures_in s stores)
 
 -- a relay was made of such parts
-pub record BeginsShared {S J L : Type 0} {s : blocks.Ghosts S} {j : store_premises.Ghosts J}
-    (config : Config) (stores : List S) (shared : Shared S J L s j)
+pub record BeginsShared {S J L : Type 0} {s : blocks.Ghosts S}
+    {j : store_premises.Ghosts J} {n : naming.Ghosts J}
+    (config : Config) (stores : List S) (shared : Shared S J L s j n)
     : Type 0 where
-  pub alone : Alone S J L s j
+  pub alone : Alone S J L s j n
   pub slots : ℕ
   pub parts : HasParts shared alone slots
   pub begins : BeginsOver config stores alone

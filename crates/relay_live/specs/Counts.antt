@@ -1,7 +1,6 @@
 -- What was counted of a run, which only the run itself says.
 use Rattle.std.specs.Prelude.{◌≡◌, ℕ, List}
 use Rattle.live_jobs.specs.Mismatches.{mismatched_receipts_in}
-use Rattle.live_jobs.specs.StoredAgain.{ids_stored_again_in}
 use Rattle.live_jobs.specs.declared.desk.Posts.{Posts}
 use Rattle.live_jobs.specs.declared.gather.Totals.{Totals}
 use Rattle.live_jobs.specs.declared.outcome.FinishedJob.{FinishedJob}
@@ -22,10 +21,6 @@ posted_in counted = counted.posted
 abbrev pub mismatched_receipts_of : Counted → ℕ
 mismatched_receipts_of counted = counted.mismatched_receipts
 
--- how many kept jobs are stored again
-abbrev pub ids_stored_again_of : Counted → ℕ
-ids_stored_again_of counted = counted.ids_stored_again
-
 -- What was counted are these totals, and what is told of these lists: what each end answered kept,
 -- and what each writer told. No public contract cites it.
 pub record AreCounts {J : Type 0} {g : Ghosts J} (totals : Totals)
@@ -35,4 +30,3 @@ pub record AreCounts {J : Type 0} {g : Ghosts J} (totals : Totals)
   pub accepted : accepted_in counted ≡ totals.accepted
   pub posted : posted_in counted ≡ totals.posted
   pub mismatched_receipts : mismatched_receipts_of counted ≡ mismatched_receipts_in kept finished
-  pub ids_stored_again : ids_stored_again_of counted ≡ ids_stored_again_in finished

@@ -1,9 +1,12 @@
 pub mod Alone
+pub mod Audits
 pub mod Beginning
 pub mod BufferLocks
 pub mod Counts
+pub mod Pausing
 pub mod PeerServers
 pub mod Figures
+pub mod Gains
 pub mod Holding
 pub mod Journaling
 pub mod Keepers
@@ -11,6 +14,7 @@ pub mod Locked
 pub mod Locking
 pub mod Making
 pub mod Numbers
+pub mod Posting
 pub mod Rounds
 pub mod Running
 pub mod Sessions
@@ -19,3 +23,4 @@ pub mod Slots
 pub mod Starting
 pub mod Stopping
 pub mod Telling
+pub mod Trials

@@ -1,5 +1,5 @@
 -- A start of the parts of a relay: from what, and why not (docs/PROTOCOL.md, Clean stop and start).
-use Rattle.std.specs.Prelude.{◌≡◌, ℕ, ◌<◌, true, false, List, length}
+use Rattle.std.specs.Prelude.{◌≡◌, ◌≢◌, ℕ, ◌<◌, ◌≤◌, true, false, List, length}
 use Rattle.std.specs.Prelude.{map, Option, None, Some, slice_get}
 use Rattle.article_verdict.specs.Config.{terms_of}
 use Rattle.boxcar.specs.Table.{Shelves}
@@ -54,6 +54,8 @@ use Rattle.relay_model.specs.Claims.{Claim}
 use Rattle.relay_model.specs.State.{Feed}
 use Rattle.relay_model.specs.Terms.{Terms}
 use Rattle.relay_model.specs.World.{World}
+use Rattle.post_history.specs.declared.book.Naming as naming
+use Rattle.post_history.specs.Shards.{shards_in}
 
 -- FROM WHAT
 
@@ -113,8 +115,9 @@ pub record IsOpenedFrom {S J : Type 0} {s : blocks.Ghosts S} {j : store_premises
 -- ahead of the stores, whose stop and newest session they have; the buffers were started at this
 -- stop, and their heads are open. Over what a relay was shut to, with its buffers, groups and
 -- feeds, they keep what a Restart makes of the state of each world with which that agreed.
-pub record StartsOver {S J L : Type 0} {s : blocks.Ghosts S} {j : store_premises.Ghosts J}
-    (config : Config) (stores : List S) (text : List ℕ) (alone : Alone S J L s j)
+pub record StartsOver {S J L : Type 0} {s : blocks.Ghosts S}
+    {j : store_premises.Ghosts J} {n : naming.Ghosts J}
+    (config : Config) (stores : List S) (text : List ℕ) (alone : Alone S J L s j n)
     : Type 0 where
   pub history : texts.Kept
   pub reads : Reads config text history
@@ -133,6 +136,15 @@ pub record StartsOver {S J L : Type 0} {s : blocks.Ghosts S} {j : store_premises
 
 -- WHY IT ISN'T STARTED
 
+-- A store comes back unwritten, where the first fault is that of the buffer at this place: its
+-- device has failed if that is the fault, and none before it has. A buffer behind it may have been
+-- tried beside it, so that its device may have failed, too.
+pub record IsBack {S : Type 0} (s : blocks.Ghosts S) (failed : Option ℕ) (place b : ℕ) (old new : S)
+    : Type 0 where
+  pub held : StaysHeld s old new
+  pub failed_here : failed ≡ Some b → s.failures old < s.failures new
+  pub no_failure : b ≤ place → failed ≢ Some b → s.failures new ≡ s.failures old
+
 -- the start of the buffer at this place is refused, and none before it: an honest store for the
 -- first reason that its blocks give, or as the text of a live article is none
 pub record IsRefusedAt {S : Type 0} (s : blocks.Ghosts S) (stores : List S) (error : StartError)
@@ -148,14 +160,14 @@ pub record IsRefusedAt {S : Type 0} (s : blocks.Ghosts S) (stores : List S) (err
       → HoldsStopped (s.heads store) (s.blocks store) stop h
       → h.buffer ≡ buffer_over s place store → IsUnentered (AreArticles h) error
   pub earlier : EarlierStart s stores place
-  pub back_each : AreEach (IsUnwritten s (failed_at error place)) stores back
+  pub back_each : AreEach (IsBack s (failed_at error place) place) stores back
 
 -- The fault of a buffer is told with its number, in the order of the buffers; then the first that
 -- was stopped under another number; memory may be refused in place of each. Nothing is written.
 abbrev pub IsUnstartedBy : {S : Type 0} → blocks.Ghosts S → (stores : List S) → (stop : ℕ)
     → StopFault → Option ℕ → (back : List S) → Type 0
 IsUnstartedBy s stores stop faults.Memory buffer back =
-    (buffer ≡ None) × AreEach (IsUnwritten s None) stores back
+    (buffer ≡ None) × ((place : ℕ) × AreEach (IsBack s None place) stores back)
 IsUnstartedBy s stores stop faults.Device buffer back =
     (why : IsRefusedAt s stores errors.Device back) × (buffer ≡ Some why.place)
 IsUnstartedBy s stores stop faults.NoHead buffer back =
@@ -248,18 +260,20 @@ IsNotStarted s config stores text (nots.Refused refused) =
 -- THE SHARED RELAY
 
 -- the text is of a history of this configuration, and the relay goes on from its stop
-pub record HasStopOf {S J L : Type 0} {s : blocks.Ghosts S} {j : store_premises.Ghosts J}
-    (config : Config) (text : List ℕ) (shared : Shared S J L s j)
+pub record HasStopOf {S J L : Type 0} {s : blocks.Ghosts S}
+    {j : store_premises.Ghosts J} {n : naming.Ghosts J}
+    (config : Config) (text : List ℕ) (shared : Shared S J L s j n)
     : Type 0 where
   pub history : texts.Kept
   pub reads : Reads config text history
   pub stop_is : last_stop shared ≡ history.stop
 
 -- a relay was made of the parts of one that was started from these stores and this text
-pub record StartsShared {S J L : Type 0} {s : blocks.Ghosts S} {j : store_premises.Ghosts J}
-    (config : Config) (stores : List S) (text : List ℕ) (shared : Shared S J L s j)
+pub record StartsShared {S J L : Type 0} {s : blocks.Ghosts S}
+    {j : store_premises.Ghosts J} {n : naming.Ghosts J}
+    (config : Config) (stores : List S) (text : List ℕ) (shared : Shared S J L s j n)
     : Type 0 where
-  pub alone : Alone S J L s j
+  pub alone : Alone S J L s j n
   pub slots : ℕ
   pub parts : HasParts shared alone slots
   pub starts : StartsOver config stores text alone
@@ -285,11 +299,11 @@ pub record IsHeadFailed {S : Type 0} {s : blocks.Ghosts S} (buffers : List (Unop
 -- What is made of a history, with placed groups over started buffers: the ids have what was left of
 -- their claims, the rings what was left of their feeds, the groups are at their positions, and the
 -- newest session is that of the history.
-pub record AreOf {S L : Type 0} {s : blocks.Ghosts S} (config : Config)
-    (buffers : List (Unopened S s)) (kept : texts.Kept) (desks : Desks L)
+pub record AreOf {S J L : Type 0} {s : blocks.Ghosts S} {n : naming.Ghosts J} (config : Config)
+    (buffers : List (Unopened S s)) (kept : texts.Kept) (desks : Desks J L n)
     : Type 0 where
   pub claims : (claim : List ℕ → Claim) → AreLasting kept.ids claim
-      → EachKeeps desks.shards.items (λ id. lasting (claim id))
+      → EachKeeps (shards_in desks.shards.items) (λ id. lasting (claim id))
   pub feeds : (feed : ℕ → Feed)
       → AreLeft kept.feeds (map ring_size config.relay.feeds.items) feed
       → KeepsFeeds (desk_of desks.desk) (map ring_size config.relay.feeds.items) feed

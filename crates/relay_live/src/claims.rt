@@ -4,12 +4,14 @@ ghost use Rattle.id_history.specs.declared.claims.Take.TheVariants as takes;
 ghost use Rattle.live_jobs.specs.Forgotten.{IsForgotten};
 ghost use Rattle.relay_live.specs.Settling.{SettlesJob};
 
-use crate::refusing::refuse;
-use cyc_token::Token;
-use id_history::{Shard, Take};
+use crate::pausing::offer_remembering;
+use crate::posting::{RelayDesk, settle};
+use crate::refusing::{forget_remembering, refuse_remembering};
+use id_history::{Offer, Take};
 use job_queue::{Crowd, Looked};
-use live_jobs::{CountedDesk, Forgotten, Posted, Unsettled};
+use live_jobs::{Forgotten, Posted, Unsettled};
 use nntp_text::MsgId;
+use post_history::{Naming, RememberingShard};
 use std::alloc::AllocError;
 use std::sync::ledger::{Ledger, Share};
 use std::sync::{Mutex, Wait};
@@ -17,15 +19,15 @@ use std::sync::{Mutex, Wait};
 /// A shard, and those who wait until an article of it is no longer being stored. What neither waits
 /// nor ends a storing goes to the shard itself; each call here is that of `Shard` of this name.
 #[derive(Drop)]
-pub(crate) struct Claims {
-    pub(crate) shard: Mutex<Shard>,
+pub(crate) struct Claims<J: Naming> {
+    pub(crate) shard: Mutex<RememberingShard<J>>,
     // Told of each article whose storing ended.
     ended: Crowd,
 }
 
-impl Claims {
+impl<J: Naming> Claims<J> {
     /// The shard, behind its lock.
-    pub(crate) fn over(shard: Shard) -> Claims {
+    pub(crate) fn over(shard: RememberingShard<J>) -> Claims<J> {
         Claims {
             shard: Mutex::new(shard),
             ended: Crowd::new(),
@@ -33,9 +35,22 @@ impl Claims {
     }
 
     /// The shard, which nobody waits for any more.
-    pub(crate) fn into_shard(self) -> Shard {
+    pub(crate) fn into_shard(self) -> RememberingShard<J> {
         let Claims { shard, ended: _ } = self;
         shard.into_inner()
+    }
+
+    /// While no new articles are taken none is wanted.
+    pub(crate) fn offer<R: Wait>(
+        &self,
+        rt: &R,
+        paused: bool,
+        id: &MsgId,
+        session: u64,
+        now: u64,
+        lasting: Option<u64>,
+    ) -> Result<Offer, AllocError> {
+        offer_remembering(&mut self.shard.lock(rt), paused, id, session, now, lasting)
     }
 
     pub(crate) fn take<R: Wait>(
@@ -56,7 +71,7 @@ impl Claims {
         now: u64,
         lasting: Option<u64>,
     ) -> Result<bool, AllocError> {
-        refuse(&mut self.shard.lock(rt), id, session, now, lasting)
+        refuse_remembering(&mut self.shard.lock(rt), id, session, now, lasting)
     }
 
     /// As `take`, but where another session stores an article of the id it waits until that has
@@ -94,16 +109,17 @@ impl Claims {
         ensures { IsForgotten id.now session result }
     {
         let mut shard = self.shard.lock(rt);
-        let forgotten = live_jobs::forget(&mut shard, id, session);
+        let forgotten = forget_remembering(&mut shard, id, session);
         self.ended.unlock(shard);
         forgotten
     }
 
-    /// Settles under this lock and then the desk's (`live_jobs::settle`).
+    /// Settles in any thread: this lock is taken first, and the desk's while it is held. No other
+    /// call of the relay posts, so whoever posts holds both.
     pub(crate) fn settle<L: Ledger, R: Wait>(
         &self,
         rt: &R,
-        desk: &Mutex<CountedDesk<L>>,
+        desk: &Mutex<RelayDesk<J, L>>,
         share: &mut Share<L>,
         article: &Unsettled<'_>,
     ) -> Option<Posted>
@@ -112,10 +128,28 @@ impl Claims {
             article.now.permitted.now.items share.old.amount share.new.amount share.old.parts
             share.new.parts result }
     {
-        let posted = live_jobs::settle(rt, &self.shard, desk, share, article);
+        let posted = self.settle_both(rt, desk, share, article);
         if posted.is_some() {
             self.ended.tell();
         }
         posted
+    }
+
+    // The locks are let go before anybody is told.
+    fn settle_both<L: Ledger, R: Wait>(
+        &self,
+        rt: &R,
+        desk: &Mutex<RelayDesk<J, L>>,
+        share: &mut Share<L>,
+        article: &Unsettled<'_>,
+    ) -> Option<Posted>
+        requires { 0 < share.old.parts }
+        ensures { SettlesJob article.now.id.now article.now.session article.now.token
+            article.now.permitted.now.items share.old.amount share.new.amount share.old.parts
+            share.new.parts result }
+    {
+        let mut shard = self.shard.lock(rt);
+        let mut desk = desk.lock(rt);
+        settle(&mut shard, &mut desk, share, article)
     }
 }

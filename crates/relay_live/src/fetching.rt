@@ -5,11 +5,12 @@ use crate::shared::Shared;
 use cyc_block::BlockStore;
 use cyc_token::Token;
 use live_store::{ArticleLog, Fetched, StorePremises, fetch};
+use post_history::Naming;
 use std::alloc::{AllocError, Global};
 use std::sync::Wait;
 use std::sync::ledger::Ledger;
 
-impl<S: BlockStore + Drop, J: StorePremises, L: Ledger> Shared<S, J, L> {
+impl<S: BlockStore + Drop, J: StorePremises + Naming, L: Ledger> Shared<S, J, L> {
     ghost use Rattle.std.specs.Prelude.{◌≤◌, IfOk, IsOk};
     ghost use Rattle.cyc_token.specs.Token.{token_view};
     ghost use Rattle.live_store.specs.Fetches.{IsFetched};

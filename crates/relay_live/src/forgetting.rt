@@ -8,6 +8,7 @@ mod round;
 use crate::shared::Shared;
 use cyc_block::BlockStore;
 use live_store::StorePremises;
+use post_history::Naming;
 pub use round::Round;
 pub(crate) use round::Rounds;
 use std::sync::Wait;
@@ -17,7 +18,7 @@ use std::sync::ledger::Ledger;
 /// remembered, else nothing: each buffer's front is read under its lock, then what may be forgotten
 /// by these fronts is, in one shard after the other under its lock. It takes no memory. One round
 /// goes at a time, and a second one waits for it.
-pub fn expire_round<S: BlockStore + Drop, J: StorePremises, L: Ledger, R: Wait>(
+pub fn expire_round<S: BlockStore + Drop, J: StorePremises + Naming, L: Ledger, R: Wait>(
     rt: &R,
     shared: &Shared<S, J, L>,
     now: u64,
@@ -31,7 +32,7 @@ pub fn expire_round<S: BlockStore + Drop, J: StorePremises, L: Ledger, R: Wait>(
 }
 
 /// Goes a round, in which each buffer and each shard is held for as long as it is looked at.
-fn go<S: BlockStore + Drop, J: StorePremises, L: Ledger, R: Wait>(
+fn go<S: BlockStore + Drop, J: StorePremises + Naming, L: Ledger, R: Wait>(
     rt: &R,
     shared: &Shared<S, J, L>,
     rounds: &mut Rounds,

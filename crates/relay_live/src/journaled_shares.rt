@@ -12,6 +12,7 @@ use live_journal::PendingJournal;
 use live_session::Shares;
 use live_store::{ArticleLog, OneRead, OneRecord, StorePremises};
 use nntp_text::MsgId;
+use post_history::Naming;
 use std::alloc::{AllocError, Global};
 use std::sync::Wait;
 use std::sync::ledger::Ledger;
@@ -20,13 +21,19 @@ use std::sync::ledger::Ledger;
 /// Where an id is marked as refused the journal is told, once the shard's lock is free; a job is
 /// stored by who brings it, where no other thread does.
 #[derive(Drop)]
-pub struct JournaledShares<'a, S: BlockStore + Drop, J: StorePremises, L: Ledger, N> {
+pub struct JournaledShares<'a, S: BlockStore + Drop, J: StorePremises + Naming, L: Ledger, N> {
     shared: &'a Shared<S, J, L>,
     journal: &'a PendingJournal,
     turns: &'a N,
 }
 
-impl<'a, S: BlockStore + Drop, J: StorePremises, L: Ledger, N> JournaledShares<'a, S, J, L, N> {
+impl<'a, S: BlockStore + Drop, J: StorePremises + Naming, L: Ledger, N> JournaledShares<
+    'a,
+    S,
+    J,
+    L,
+    N,
+> {
     /// These together.
     pub fn new(
         shared: &'a Shared<S, J, L>,
@@ -41,8 +48,14 @@ impl<'a, S: BlockStore + Drop, J: StorePremises, L: Ledger, N> JournaledShares<'
     }
 }
 
-impl<'a, S: BlockStore + Drop, J: StorePremises, L: Ledger, N: WriterTurns<R>, R: Wait> Shares<J, R>
-    for JournaledShares<'a, S, J, L, N> {
+impl<
+    'a,
+    S: BlockStore + Drop,
+    J: StorePremises + Naming,
+    L: Ledger,
+    N: WriterTurns<R>,
+    R: Wait,
+> Shares<J, R> for JournaledShares<'a, S, J, L, N> {
     fn offer(
         &self,
         rt: &R,

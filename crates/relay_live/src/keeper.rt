@@ -10,6 +10,7 @@ ghost use Rattle.relay_live.specs.Settling.{SettlesJob};
 
 use crate::holding;
 use crate::journaled::Journaled;
+use crate::posting::RelayDesk;
 use crate::register_ref::RegisterRef;
 use crate::shared::Shared;
 use block_shelf::{Place, PlacedGroup};
@@ -18,10 +19,11 @@ use cyc_block::BlockStore;
 use cyc_buffer::FaultKind;
 use cyc_token::Token;
 use job_queue::Handed;
-use live_jobs::{CountedDesk, Forgotten, Posted, Store, StoreResult, Unsettled};
+use live_jobs::{Forgotten, Posted, Store, StoreResult, Unsettled};
 use live_journal::PendingJournal;
 use live_session::Clock;
 use live_store::{StorePremises, Stored};
+use post_history::Naming;
 use relay_conf::Buffers;
 use std::sync::ledger::{Ledger, Share};
 use std::sync::{Mutex, Wait};
@@ -30,7 +32,14 @@ use std::thread;
 /// What all writers store by: what the threads share, the register of these store premises, the
 /// buffers' settings, a clock, and the journal that is told of what is stored.
 #[derive(Drop)]
-pub struct Keeper<'a, S: BlockStore + Drop, J: StorePremises, L: Ledger, C: Clock, Q: RegisterRef> {
+pub struct Keeper<
+    'a,
+    S: BlockStore + Drop,
+    J: StorePremises + Naming,
+    L: Ledger,
+    C: Clock,
+    Q: RegisterRef,
+> {
     pub(crate) shared: &'a Shared<S, J, L>,
     pub(crate) register: &'a Q,
     settings: &'a Buffers,
@@ -40,14 +49,14 @@ pub struct Keeper<'a, S: BlockStore + Drop, J: StorePremises, L: Ledger, C: Cloc
     ghost holds: { J.holds ≡ has_buffer settings.now },
 }
 
-impl<'a, S: BlockStore + Drop, J: StorePremises, L: Ledger, C: Clock, Q: RegisterRef> Keeper<
+impl<
     'a,
-    S,
-    J,
-    L,
-    C,
-    Q,
-> {
+    S: BlockStore + Drop,
+    J: StorePremises + Naming,
+    L: Ledger,
+    C: Clock,
+    Q: RegisterRef,
+> Keeper<'a, S, J, L, C, Q> {
     ghost use Rattle.relay_live.specs.Making.{ends_in, slots_of};
 
     /// What stores into these buffers, of which the store premises say which are of a group.
@@ -197,8 +206,8 @@ impl<'a, S: BlockStore + Drop, J: StorePremises, L: Ledger, C: Clock, Q: Registe
 }
 
 /// Whether the desk makes no further post.
-fn is_full<L: Ledger, R: Wait>(rt: &R, desk: &Mutex<CountedDesk<L>>) -> bool {
-    desk.lock(rt).is_full()
+fn is_full<J: Naming, L: Ledger, R: Wait>(rt: &R, desk: &Mutex<RelayDesk<J, L>>) -> bool {
+    desk.lock(rt).counted.is_full()
 }
 
 /// Where the group stores a text of this length, picked under its lock.
@@ -229,7 +238,7 @@ fn is_begun<J: StorePremises>(stored: &Stored<J>) -> bool
 impl<
     'a,
     S: BlockStore + Drop,
-    J: StorePremises,
+    J: StorePremises + Naming,
     L: Ledger,
     C: Clock,
     Q: RegisterRef,

@@ -8,6 +8,8 @@
 #![tactic(auto)]
 
 mod alone;
+mod audit;
+mod auditing;
 mod buffer_locks;
 mod claims;
 mod desks;
@@ -23,18 +25,22 @@ mod locked;
 mod locking;
 mod looking;
 mod making;
+mod pausing;
 mod peer_server;
+mod posting;
 mod refusing;
 mod register_ref;
 mod running;
 mod shared;
 mod sharing;
+mod side_by_side;
 mod slot;
 mod started;
 mod starting;
 mod stopping;
 mod telling;
 
+pub use audit::{Audit, PostedOnce};
 pub use forgetting::{Round, expire_round};
 pub use journaled::Journaled;
 pub use journaled_shares::JournaledShares;
@@ -42,5 +48,5 @@ pub use keeper::Keeper;
 pub use peer_server::PeerServer;
 pub use register_ref::RegisterRef;
 pub use running::{Counted, CountedRun, LiveError, PeerSource, Serving, serve_all};
-pub use shared::{Shared, Unshut, WantOfMemory};
+pub use shared::{Shared, Shut, Unshut, WantOfMemory};
 pub use slot::{Slot, Told};

@@ -5,7 +5,7 @@ ghost use Rattle.relay_live.specs.Locked.{freed_number, freed_value, held_number
 ghost use Rattle.relay_live.specs.Locked.{number_of};
 
 use crate::claims::Claims;
-use id_history::Shard;
+use post_history::{Naming, RememberingShard};
 use std::marker::PhantomData;
 use std::sync::{Mutex, MutexGuard, Wait};
 
@@ -35,16 +35,16 @@ impl<T> LockOf<T> for Mutex<T> {
     }
 }
 
-impl LockOf<Shard> for Claims {
-    fn over(shard: Shard) -> Claims {
+impl<J: Naming> LockOf<RememberingShard<J>> for Claims<J> {
+    fn over(shard: RememberingShard<J>) -> Claims<J> {
         Claims::over(shard)
     }
 
-    fn into_value(self) -> Shard {
+    fn into_value(self) -> RememberingShard<J> {
         self.into_shard()
     }
 
-    fn mutex(&self) -> &Mutex<Shard> {
+    fn mutex(&self) -> &Mutex<RememberingShard<J>> {
         &self.shard
     }
 }

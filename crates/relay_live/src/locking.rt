@@ -8,11 +8,13 @@ use crate::buffer_locks::BufferLocks;
 use crate::claims::Claims;
 use crate::forgetting::Rounds;
 use crate::locked::{Freed, LockOf, Locked};
+use crate::pausing::Pausing;
 use crate::slot::Slot;
 use block_shelf::PlacedGroup;
 use cyc_block::BlockStore;
-use id_history::{SHARD_COUNT, Shard};
+use id_history::SHARD_COUNT;
 use live_store::{NumberedBuffer, StorePremises};
+use post_history::{Naming, RememberingShard};
 use std::alloc::{AllocError, Global};
 use std::sync::Mutex;
 
@@ -25,33 +27,38 @@ pub(crate) struct Room<A: Drop, B: Drop, C: Drop> {
 }
 
 /// A shard behind its lock, with those who wait for it.
-pub(crate) type LockedShard = Locked<Shard, Claims>;
+pub(crate) type LockedShard<J> = Locked<RememberingShard<J>, Claims<J>>;
 
 /// A group behind its lock.
 pub(crate) type LockedGroup = Locked<PlacedGroup, Mutex<PlacedGroup>>;
 
 /// Room for them behind their locks.
 #[derive(Drop)]
-pub(crate) struct LockRoom<S: BlockStore + Drop, J: StorePremises> {
-    pub(crate) shards: Vec<LockedShard>,
+pub(crate) struct LockRoom<S: BlockStore + Drop, J: StorePremises + Naming> {
+    pub(crate) shards: Vec<LockedShard<J>>,
     pub(crate) buffers: BufferLocks<S, J>,
     pub(crate) placed_groups: Vec<LockedGroup>,
 }
 
 /// Room for them as they come out of their locks, and for them alone.
 #[derive(Drop)]
-pub(crate) struct FreeRoom<S: BlockStore + Drop, J: StorePremises> {
-    pub(crate) freed: Room<Freed<Shard>, Freed<NumberedBuffer<S, J>>, Freed<PlacedGroup>>,
-    pub(crate) parts: Room<Shard, NumberedBuffer<S, J>, PlacedGroup>,
+pub(crate) struct FreeRoom<S: BlockStore + Drop, J: StorePremises + Naming> {
+    pub(crate) freed: Room<
+        Freed<RememberingShard<J>>,
+        Freed<NumberedBuffer<S, J>>,
+        Freed<PlacedGroup>,
+    >,
+    pub(crate) parts: Room<RememberingShard<J>, NumberedBuffer<S, J>, PlacedGroup>,
 }
 
-/// Room for the locks of a relay's parts, with what stands beside these: a slot for each end, and
-/// what rounds go by.
+/// Room for the locks of a relay's parts, with what stands beside these: a slot for each end, what
+/// rounds go by, and whether no new articles are taken.
 #[derive(Drop)]
-pub(crate) struct Locks<S: BlockStore + Drop, J: StorePremises> {
+pub(crate) struct Locks<S: BlockStore + Drop, J: StorePremises + Naming> {
     pub(crate) rooms: LockRoom<S, J>,
     pub(crate) slots: Vec<Slot<J>>,
     pub(crate) rounds: Mutex<Rounds>,
+    pub(crate) pausing: Pausing,
 }
 
 impl<A: Drop, B: Drop, C: Drop> Room<A, B, C> {
@@ -72,7 +79,7 @@ impl<A: Drop, B: Drop, C: Drop> Room<A, B, C> {
     }
 }
 
-impl<S: BlockStore + Drop, J: StorePremises> LockRoom<S, J> {
+impl<S: BlockStore + Drop, J: StorePremises + Naming> LockRoom<S, J> {
     /// Room for all shards, and for so many buffers and groups.
     pub(crate) fn new(
         alloc: Global,
@@ -92,7 +99,7 @@ impl<S: BlockStore + Drop, J: StorePremises> LockRoom<S, J> {
     }
 }
 
-impl<S: BlockStore + Drop, J: StorePremises> FreeRoom<S, J> {
+impl<S: BlockStore + Drop, J: StorePremises + Naming> FreeRoom<S, J> {
     /// Room for all shards, and for so many buffers and groups.
     pub(crate) fn new(
         alloc: Global,
@@ -125,7 +132,7 @@ pub(crate) fn rooms<A: Drop, B: Drop, C: Drop>(
     Ok((of_one, of_other, of_third))
 }
 
-impl<S: BlockStore + Drop, J: StorePremises> Locks<S, J> {
+impl<S: BlockStore + Drop, J: StorePremises + Naming> Locks<S, J> {
     /// For so many buffers, groups and ends, before the first round.
     pub(crate) fn new(
         alloc: Global,
@@ -142,6 +149,7 @@ impl<S: BlockStore + Drop, J: StorePremises> Locks<S, J> {
             rooms,
             slots,
             rounds: Mutex::new(rounds),
+            pausing: Pausing::new(),
         })
     }
 }

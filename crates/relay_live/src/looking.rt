@@ -14,10 +14,11 @@ use cyc_block::BlockStore;
 use feed_queue::Counts as FeedCounts;
 use id_history::Counts;
 use live_store::{NumberedBuffer, StorePremises};
+use post_history::Naming;
 use std::sync::Wait;
 use std::sync::ledger::Ledger;
 
-impl<S: BlockStore + Drop, J: StorePremises, L: Ledger> Shared<S, J, L> {
+impl<S: BlockStore + Drop, J: StorePremises + Naming, L: Ledger> Shared<S, J, L> {
     ghost use Rattle.std.specs.Prelude.{◌≡◌, ◌≤◌, ◌+◌, ◌↔◌, None, IfSome};
     ghost use Rattle.relay_live.specs.Making.{buffers_in, feeds_in};
 
@@ -41,7 +42,7 @@ impl<S: BlockStore + Drop, J: StorePremises, L: Ledger> Shared<S, J, L> {
         if usize::from(feed) >= self.feeds {
             return None;
         }
-        self.desk.lock(rt).counts(feed)
+        self.desk.lock(rt).counted.counts(feed)
     }
 
     /// How many message-ids are known, by kind: what one shard after the other counts.
@@ -53,7 +54,7 @@ impl<S: BlockStore + Drop, J: StorePremises, L: Ledger> Shared<S, J, L> {
             refused: 0,
         };
         for shard in &self.shards {
-            all = sum(all, shard.hold(rt).guard.counts());
+            all = sum(all, shard.hold(rt).guard.shard.counts());
         }
         all
     }

@@ -18,6 +18,7 @@ use live_journal::PendingJournal;
 use live_session::{Clock, Connection, Gate, Served, SessionContext, serve_session};
 use live_store::StorePremises;
 use live_wire::{Connections, Hears, Says};
+use post_history::Naming;
 use relay_conf::Config;
 use std::alloc::Global;
 use std::hash::RandomState;
@@ -33,7 +34,7 @@ pub struct PeerServer<
     'a,
     X,
     S: BlockStore + Drop,
-    J: StorePremises,
+    J: StorePremises + Naming,
     L: Ledger,
     C: Clock,
     G,
@@ -59,7 +60,7 @@ impl<
     'a,
     X,
     S: BlockStore + Drop,
-    J: StorePremises,
+    J: StorePremises + Naming,
     L: Ledger,
     C: Clock,
     G,
@@ -212,8 +213,16 @@ struct Conversed<H: Hears, W: Says> {
     writer: W,
 }
 
-impl<'a, X, S: BlockStore + Drop, J: StorePremises, L: Ledger, C: Clock, G, Q: RegisterRef> Accounts
-    for PeerServer<'a, X, S, J, L, C, G, Q> {
+impl<
+    'a,
+    X,
+    S: BlockStore + Drop,
+    J: StorePremises + Naming,
+    L: Ledger,
+    C: Clock,
+    G,
+    Q: RegisterRef,
+> Accounts for PeerServer<'a, X, S, J, L, C, G, Q> {
     ghost use Rattle.article_verdict.specs.Config.{terms_of};
     ghost use Rattle.relay_live.specs.Sessions.{Accounted};
 
@@ -230,7 +239,7 @@ impl<'a, X, S, J, L, C, G, Q, R> Service<R> for PeerServer<'a, X, S, J, L, C, G,
 where
     X: Connections<R>,
     S: BlockStore + Drop,
-    J: StorePremises,
+    J: StorePremises + Naming,
     L: Ledger,
     C: Clock,
     G: Gate<R>,

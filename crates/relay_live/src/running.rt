@@ -1,31 +1,36 @@
 //! A relay in threads, from the first connection to the last seat.
-ghost use Rattle.std.specs.Prelude.{◌≡◌, ◌<◌, ◌^◌, [], length, map, IfOk};
+ghost use Rattle.std.specs.Prelude.{◌≡◌, ◌≢◌, ◌<◌, ◌^◌, [], None, length, map, IfOk, IfSome};
 ghost use Rattle.article_verdict.specs.Config.{terms_of};
-ghost use Rattle.live_jobs.specs.StoredAgain.{ids_stored_again_in};
 ghost use Rattle.live_jobs.specs.StoreResults.{FitsJob, is_kept};
 ghost use Rattle.live_jobs.specs.Mismatches.{mismatched_receipts_in};
 ghost use Rattle.live_jobs.specs.Gathered.{AllTold, NoneElse, hands_of, kept_by_all};
 ghost use Rattle.live_jobs.specs.Started.{AllKept};
 ghost use Rattle.live_jobs.specs.Desks.{posts_in};
 ghost use Rattle.relay_live.specs.Counts.{accepted_in, posted_in, mismatched_receipts_of};
-ghost use Rattle.relay_live.specs.Counts.{AreCounts, ids_stored_again_of};
+ghost use Rattle.relay_live.specs.Counts.{AreCounts};
 ghost use Rattle.relay_live.specs.PeerServers.{kept_of, peer_of, terms_at};
-ghost use Rattle.relay_live.specs.Making.{slots_of};
+ghost use Rattle.post_history.specs.Remembering.{ArePostedOnce};
+ghost use Rattle.relay_live.specs.Audits.{HasFrontOfEach, fronts_of, history_of};
+ghost use Rattle.relay_live.specs.Making.{buffers_of, remembers, slots_of};
 ghost use Rattle.relay_live.specs.Running.{AreNew, AreServed, error_of};
 ghost use Rattle.relay_live.specs.Sessions.{Accounted, HasLists};
 ghost use Rattle.relay_live.specs.declared.running.LiveError.TheVariants as errors;
 
+use crate::audit::{Audit, Closed};
+use crate::auditing::{audit_of, close_desk};
 use crate::keeper::Keeper;
 use crate::peer_server::PeerServer;
+use crate::posting::RelayDesk;
 use crate::register_ref::RegisterRef;
 use cyc_block::BlockStore;
 use live_jobs::{
-    CountedDesk, Opened, Outcome, Posts, Seats, SeatsError, Service, Store, StoreResult, Totals,
-    close, ids_stored_again, mismatched_receipts, open_all, serve_seats,
+    Opened, Outcome, Posts, Seats, SeatsError, Service, Store, StoreResult, Totals,
+    mismatched_receipts, open_all, serve_seats,
 };
 use live_session::{Clock, Gate};
 use live_store::StorePremises;
 use live_wire::Connections;
+use post_history::Naming;
 use relay_conf::Config;
 use std::alloc::{AllocError, Global};
 use std::hash::RandomState;
@@ -56,12 +61,10 @@ pub struct Counted {
     accepted: u64,
     posted: Posts,
     mismatched_receipts: u128,
-    ids_stored_again: u128,
 }
 
 impl Counted {
     ghost use Rattle.relay_live.specs.Counts.{accepted_in, posted_in, mismatched_receipts_of};
-    ghost use Rattle.relay_live.specs.Counts.{ids_stored_again_of};
 
     /// How many jobs the writers kept.
     pub fn accepted(&self) -> u64
@@ -83,13 +86,6 @@ impl Counted {
         ensures { result ≡ mismatched_receipts_of self.now }
     {
         self.mismatched_receipts
-    }
-
-    /// How many kept jobs there are less their different message-ids.
-    pub fn ids_stored_again(&self) -> u128
-        ensures { result ≡ ids_stored_again_of self.now }
-    {
-        self.ids_stored_again
     }
 }
 
@@ -116,23 +112,25 @@ pub struct Serving<'a, X, G> {
 
 /// A run that was counted, once all its threads have ended.
 #[derive(Drop)]
-pub struct CountedRun<L: Ledger, O: Outcome, V> {
+pub struct CountedRun<J: Naming, L: Ledger, O: Outcome, V> {
     /// The seats that have come back.
     pub seats: Seats<L, O, V>,
     /// What was counted of them.
     pub counted: Counted,
+    /// The history of all posts, where the desk and the shards agree on it.
+    pub audit: Audit<J>,
 }
 
 impl<
     'a,
     X: Drop,
     S: BlockStore + Drop,
-    J: StorePremises,
+    J: StorePremises + Naming,
     L: Ledger,
     C: Clock,
     G,
     Q: RegisterRef,
-> CountedRun<L, StoreResult<J>, PeerServer<'a, X, S, J, L, C, G, Q>> {
+> CountedRun<J, L, StoreResult<J>, PeerServer<'a, X, S, J, L, C, G, Q>> {
     /// What was counted, without the seats.
     pub fn into_counted(self) -> Counted
         ensures { result ≡ self.entry.counted }
@@ -156,7 +154,7 @@ fn ends_of<
     'a,
     X: Drop,
     S: BlockStore + Drop,
-    J: StorePremises,
+    J: StorePremises + Naming,
     L: Ledger,
     C: Clock,
     G,
@@ -196,8 +194,9 @@ fn ends_of<
 
 /// Serves these ends, and a writer for each of so many groups, each in a thread of its own, until
 /// all have ended; and compares what they handed over with what they told. The seats that have come
-/// back, and the totals of their writers.
+/// back, and what the desk is closed with.
 fn serve_ends<
+    J: Naming + Send + Sync,
     L: Ledger + Send + Sync,
     O: Outcome + Drop + Send,
     V: Service<R> + Drop + Send,
@@ -210,12 +209,13 @@ fn serve_ends<
     ends: Vec<V>,
     groups: usize,
     all: Share<L>,
-    desk: &Mutex<CountedDesk<L>>,
-) -> Result<(Seats<L, O, V>, Totals), LiveError>
+    desk: &Mutex<RelayDesk<J, L>>,
+) -> Result<(Seats<L, O, V>, Closed<J>), LiveError>
     requires parts { (all.parts ≡ groups) × (all.amount ≡ 0) × (L.parts ≡ groups) × (0 < groups) }
     requires few { length ends.items < 2 ^ 62 }
     requires new { AreNew V.fits ends.items }
-    ensures { IfOk result (λ served. AreServed V.fits V.mark groups ends.items served.0 served.1) }
+    ensures { IfOk result (λ served.
+        AreServed V.fits V.mark groups ends.items served.0 served.1.totals) }
 {
     let Opened {
         channels,
@@ -228,8 +228,8 @@ fn serve_ends<
         Ok(seats) => seats,
         Err(why) => return Err(live_error(why)),
     };
-    let totals = close(rt, channels, desk, &mut rests, &mut seats);
-    Ok((seats, totals))
+    let closed = close_desk(&mut desk.lock(rt), channels, &mut rests, &mut seats);
+    Ok((seats, closed))
 }
 
 /// What is counted of seats that have come back, beside these totals of theirs.
@@ -237,7 +237,7 @@ fn counted_of<
     'a,
     X: Drop,
     S: BlockStore + Drop,
-    J: StorePremises,
+    J: StorePremises + Naming,
     L: Ledger,
     C: Clock,
     G,
@@ -257,12 +257,10 @@ fn counted_of<
     }
     let writers = seats.writers.as_slice();
     let mismatched_receipts = mismatched_receipts(alloc, answers.as_slice(), writers)?;
-    let ids_stored_again = ids_stored_again(alloc, writers)?;
     Ok(Counted {
         accepted: totals.accepted,
         posted: totals.posted,
         mismatched_receipts,
-        ids_stored_again,
     })
 }
 
@@ -277,7 +275,7 @@ pub fn serve_all<
     'a,
     X: Connections<R> + Drop + Send,
     S: BlockStore + Drop + Send,
-    J: StorePremises + Send + Sync,
+    J: StorePremises + Naming + Send + Sync,
     L: Ledger + Send + Sync,
     C: Clock + Sync,
     G: Gate<R> + Sync,
@@ -290,7 +288,7 @@ pub fn serve_all<
     serving: Serving<'a, X, G>,
     groups: usize,
     all: Share<L>,
-) -> Result<CountedRun<L, StoreResult<J>, PeerServer<'a, X, S, J, L, C, G, Q>>, LiveError>
+) -> Result<CountedRun<J, L, StoreResult<J>, PeerServer<'a, X, S, J, L, C, G, Q>>, LiveError>
 where
     <X as Connections<R>>::Reader: Drop + Send,
     <X as Connections<R>>::Writer: Drop + Send,
@@ -330,15 +328,32 @@ where
     ensures mismatched_receipts { IfOk result (λ run. mismatched_receipts_of run.counted
         ≡ mismatched_receipts_in (map kept_of run.seats.services.items)
         (map (λ w. w.finished.items) run.seats.writers.items)) }
-    ensures ids_stored_again { IfOk result (λ run. ids_stored_again_of run.counted
-        ≡ ids_stored_again_in (map (λ w. w.finished.items) run.seats.writers.items)) }
+
+    // Where the desk and the shards agree on the history, it has as many posts as were counted. Two
+    // of these are of one message-id, or one is of an id that the relay had stored when it began,
+    // only where the earlier one's token is passed by a front of its buffer. Where nothing is
+    // forgotten there is no front: then no id was posted twice, and none that was stored before.
+    // Else one front of each buffer was read.
+    ensures once { IfOk result (λ run. IfSome (history_of run.audit) (λ posts.
+        ∥ ArePostedOnce (fronts_of run.audit) J.began posts ∥₁
+        × (length posts ≡ posts_in (posted_in run.counted)))) }
+    ensures unforgotten { remembers keeper.now ≡ None
+        → IfOk result (λ run. fronts_of run.audit ≡ []) }
+    ensures read { remembers keeper.now ≢ None
+        → IfOk result (λ run. HasFrontOfEach (buffers_of keeper.now) run.audit) }
 {
     let ends = ends_of(alloc, keeper, serving)?;
-    let desk = &keeper.shared.desk;
-    let (seats, totals) = serve_ends(rt, alloc, keeper, ends, groups, all, desk)?;
+    let shared = keeper.shared;
+    let (seats, closed) = serve_ends(rt, alloc, keeper, ends, groups, all, &shared.desk)?;
+    let Closed { totals, posts } = closed;
     let counted = match counted_of(alloc, totals, &seats) {
         Ok(counted) => counted,
         Err(_) => return Err(LiveError::Memory),
     };
-    Ok(CountedRun { seats, counted })
+    let audit = audit_of(rt, alloc, shared, posts)?;
+    Ok(CountedRun {
+        seats,
+        counted,
+        audit,
+    })
 }

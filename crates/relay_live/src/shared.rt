@@ -6,6 +6,7 @@ ghost use Rattle.relay_live.specs.Locking.{HasFreeRoom, HasLockRoom};
 ghost use Rattle.relay_model.specs.Terms.{shard_count};
 
 use crate::alone::Alone;
+use crate::audit::Audit;
 use crate::buffer_locks::BufferLocks;
 use crate::claims::Claims;
 use crate::drawing::{Last, Number};
@@ -13,13 +14,15 @@ use crate::forgetting::Rounds;
 use crate::locking::{
     FreeRoom, LockRoom, LockedGroup, LockedShard, Locks, free_all, lock_all, values_of,
 };
+use crate::pausing::Pausing;
+use crate::posting::RelayDesk;
 use crate::slot::Slot;
 use crate::stopping::Unstopped;
 use block_shelf::{BeginError, StopFault};
 use cyc_block::BlockStore;
-use live_jobs::CountedDesk;
 use live_store::{ArticleLog, StorePremises};
 use nntp_text::MsgId;
+use post_history::{Naming, Opened};
 use relay_conf::Config;
 use relay_core::{NotStarted, Stopped, refused};
 use std::alloc::Global;
@@ -27,13 +30,14 @@ use std::hash::RandomState;
 use std::random::RandomSource;
 use std::sync::ledger::{Book, Ledger};
 use std::sync::{Mutex, Wait};
+use std::thread::Threads;
 
 /// What the threads of a relay share, each value behind its lock: sixteen shards, the feed desk,
 /// the buffers and the groups of the configuration, a slot for each end, the number of the last
 /// session. The lock at each place of a list has the number of its place.
-pub struct Shared<S: BlockStore + Drop, J: StorePremises, L: Ledger> {
-    pub(crate) shards: Vec<LockedShard>,
-    pub(crate) desk: Mutex<CountedDesk<L>>,
+pub struct Shared<S: BlockStore + Drop, J: StorePremises + Naming, L: Ledger> {
+    pub(crate) shards: Vec<LockedShard<J>>,
+    pub(crate) desk: Mutex<RelayDesk<J, L>>,
     /// How many feeds the desk had when it was made.
     pub(crate) feeds: usize,
     pub(crate) buffers: BufferLocks<S, J>,
@@ -47,6 +51,8 @@ pub struct Shared<S: BlockStore + Drop, J: StorePremises, L: Ledger> {
     pub(crate) remember: Option<u64>,
     /// What the rounds of forgetting go by, one after the other.
     pub(crate) rounds: Mutex<Rounds>,
+    /// Whether no new articles are taken.
+    pub(crate) pausing: Pausing,
     ghost shards_order: { AreInOrder (map number_of shards.items) },
     ghost buffers_order: { AreInOrder (numbers_in buffers) },
     ghost groups_order: { AreInOrder (map number_of placed_groups.items) },
@@ -54,10 +60,11 @@ pub struct Shared<S: BlockStore + Drop, J: StorePremises, L: Ledger> {
     ghost few: { count_in buffers ≤ 256 },
     ghost few_placed_groups: { length placed_groups.items ≤ 256 },
     ghost few_feeds: { feeds ≤ 1024 },
+    ghost ring_each: { length J.rings ≡ feeds },
 }
 
 // Written out, so that no crate above proves anew how each part is let go.
-impl<S: BlockStore + Drop, J: StorePremises, L: Ledger> Drop for Shared<S, J, L> {
+impl<S: BlockStore + Drop, J: StorePremises + Naming, L: Ledger> Drop for Shared<S, J, L> {
     fn drop(self) {
         let Self {
             shards: _,
@@ -70,8 +77,18 @@ impl<S: BlockStore + Drop, J: StorePremises, L: Ledger> Drop for Shared<S, J, L>
             stop: _,
             remember: _,
             rounds: _,
+            pausing: _,
         } = self;
     }
+}
+
+/// A relay that was stopped.
+#[derive(Drop)]
+pub struct Shut<S: BlockStore + Drop, J: Naming> {
+    /// The stores of its buffers, and the text of its history.
+    pub stopped: Stopped<S>,
+    /// The history of all posts that it made, where the desk and the shards agree on it.
+    pub audit: Audit<J>,
 }
 
 /// That a stop was refused memory: `Shared::shut` alone says so.
@@ -81,7 +98,7 @@ pub struct WantOfMemory {
 }
 
 /// Why a relay isn't stopped, in the order of trial; want of memory comes last before the devices.
-pub enum Unshut<S: BlockStore + Drop, J: StorePremises, L: Ledger> {
+pub enum Unshut<S: BlockStore + Drop, J: StorePremises + Naming, L: Ledger> {
     /// A message-id is being stored, or a write is open in a buffer. The relay goes on, and nothing
     /// was written.
     NotIdle(Shared<S, J, L>),
@@ -93,7 +110,7 @@ pub enum Unshut<S: BlockStore + Drop, J: StorePremises, L: Ledger> {
 }
 
 // Written out, so that no crate above proves anew how each part is let go.
-impl<S: BlockStore + Drop, J: StorePremises, L: Ledger> Drop for Unshut<S, J, L> {
+impl<S: BlockStore + Drop, J: StorePremises + Naming, L: Ledger> Drop for Unshut<S, J, L> {
     fn drop(self) {
         match self {
             Unshut::NotIdle(_) => {}
@@ -103,8 +120,12 @@ impl<S: BlockStore + Drop, J: StorePremises, L: Ledger> Drop for Unshut<S, J, L>
     }
 }
 
-impl<S: BlockStore + Drop, J: StorePremises, L: Ledger> Shared<S, J, L> {
-    ghost use Rattle.std.specs.Prelude.{◌≡◌, true, map, length, All, IfErr, IfOk};
+impl<S: BlockStore + Drop, J: StorePremises + Naming, L: Ledger> Shared<S, J, L> {
+    ghost use Rattle.std.specs.Prelude.{◌≡◌, ◌≢◌, [], true, map, length, None, All, IfErr, IfOk};
+    ghost use Rattle.std.specs.Prelude.{IfSome};
+    ghost use Rattle.post_history.specs.Remembering.{ArePostedOnce};
+    ghost use Rattle.relay_live.specs.Audits.{HasFrontOfEach, fronts_of, history_of};
+    ghost use Rattle.relay_live.specs.Gains.{TellGained};
     ghost use Rattle.block_shelf.specs.Filling.{IsBeginRefusal};
     ghost use Rattle.relay_live.specs.Making.{buffers_in, groups_in, feeds_in, ends_in};
     ghost use Rattle.relay_live.specs.Beginning.{BeginsShared};
@@ -114,6 +135,8 @@ impl<S: BlockStore + Drop, J: StorePremises, L: Ledger> Shared<S, J, L> {
     ghost use Rattle.relay_core.specs.Stopping.{next_stop};
     ghost use Rattle.relay_live.specs.Locked.{number_of};
     ghost use Rattle.relay_model.specs.Run.{shard_of};
+    ghost use Rattle.feed_queue.specs.Feeds.{ring_size};
+    ghost use Rattle.post_history.specs.Opening.{book_in};
 
     /// What so many ends share over these stores, the i-th for buffer i, before anything has come.
     /// All memory that no message-id takes is taken here. Each buffer's head block says that it may
@@ -124,12 +147,15 @@ impl<S: BlockStore + Drop, J: StorePremises, L: Ledger> Shared<S, J, L> {
         config: &Config,
         stores: Vec<S>,
         book: Book<L>,
+        opened: Opened,
         ends: usize,
     ) -> Result<Shared<S, J, L>, BeginError<S>>
         requires stores { map (λ store. length (S.blocks store)) stores.items
             ≡ map (λ buffer. buffer.blocks) config.now.buffers.buffers.items }
         requires honest { J.trusted ≡ true → All S.honest stores.items }
         requires book { book.total ≡ 0 }
+        requires posts { (book_in opened ≡ J.book) × (J.began ≡ []) }
+        requires rings { J.rings ≡ map ring_size config.now.relay.feeds.items }
         ensures buffers { IfOk result (λ shared.
             buffers_in shared ≡ length config.now.buffers.buffers.items) }
         ensures groups { IfOk result (λ shared.
@@ -144,7 +170,7 @@ impl<S: BlockStore + Drop, J: StorePremises, L: Ledger> Shared<S, J, L> {
         ensures refusal { IfErr result (IsBeginRefusal ⟦<S as BlockStore>⟧ stores.items) }
     {
         let locks = Locks::new(alloc, stores.len(), config.buffers.groups.len(), ends)?;
-        match Alone::new(rt, alloc, config, stores, book) {
+        match Alone::new(rt, alloc, config, stores, book, opened) {
             Ok(alone) => Ok(Shared::over(alone, locks)),
             Err(error) => {
                 drop(locks);
@@ -158,21 +184,27 @@ impl<S: BlockStore + Drop, J: StorePremises, L: Ledger> Shared<S, J, L> {
     /// refused in the order of StopFault, but that a text that can't be read comes before a store
     /// is called; want of memory may come in place of each. All stores come back then, in their
     /// order, unwritten but for a Device of the last: the heads are opened once all else is done.
-    pub fn start<R: RandomSource + Wait>(
+    pub fn start<R: RandomSource + Threads + Wait + Sync>(
         rt: &R,
         alloc: Global,
         config: &Config,
         register: &ArticleLog,
         stopped: Stopped<S>,
         book: Book<L>,
+        opened: Opened,
         ends: usize,
     ) -> Result<Shared<S, J, L>, NotStarted<S>>
+    where
+        S: Send,
+        J: Send + Sync,
         requires register { register.now ≡ J.register }
         requires stores { map (λ store. length (S.blocks store)) stopped.stores.items
             ≡ map (λ buffer. buffer.blocks) config.now.buffers.buffers.items }
         requires honest { J.trusted ≡ true → All S.honest stopped.stores.items }
         requires stopped { J.trusted ≡ true → WereStopped S.BlockStore stopped.stores.items }
         requires book { book.total ≡ 0 }
+        requires posts { (book_in opened ≡ J.book) × (J.began ≡ stopped.history.items) }
+        requires rings { J.rings ≡ map ring_size config.now.relay.feeds.items }
         ensures buffers { IfOk result (λ shared.
             buffers_in shared ≡ length config.now.buffers.buffers.items) }
         ensures groups { IfOk result (λ shared.
@@ -200,7 +232,7 @@ impl<S: BlockStore + Drop, J: StorePremises, L: Ledger> Shared<S, J, L> {
                 return Err(NotStarted::Host(why, stopped.stores));
             }
         };
-        match Alone::start_with(rt, alloc, hasher, config, register, stopped, book) {
+        match Alone::start_with(rt, alloc, hasher, config, register, stopped, book, opened) {
             Ok(alone) => Ok(Shared::over(alone, locks)),
             Err(unstarted) => {
                 drop(locks);
@@ -210,16 +242,31 @@ impl<S: BlockStore + Drop, J: StorePremises, L: Ledger> Shared<S, J, L> {
     }
 
     /// Stops a relay that no thread shares any more: the stores of its buffers, and the text of its
-    /// history. Where a message-id is being stored or a write is open it isn't.
-    pub fn shut(self, alloc: Global) -> Result<Stopped<S>, Unshut<S, J, L>>
+    /// history, with what the shards say of all posts. Where a message-id is being stored or a
+    /// write is open it isn't.
+    pub fn shut(self, alloc: Global) -> Result<Shut<S, J>, Unshut<S, J, L>>
         // There is a store of each buffer, which holds one as stopped at the next stop; where
         // stores are trusted, each live text in it is that of a record.
-        ensures stores { IfOk result (λ stopped.
-            length stopped.stores.items ≡ buffers_in self) }
-        ensures known { IfOk result (λ stopped. J.trusted ≡ true → AreShutWith S.BlockStore
-            J.register (next_stop (last_stop self)) stopped.stores.items) }
+        ensures stores { IfOk result (λ shut.
+            length shut.stopped.stores.items ≡ buffers_in self) }
+        ensures known { IfOk result (λ shut. J.trusted ≡ true → AreShutWith S.BlockStore
+            J.register (next_stop (last_stop self)) shut.stopped.stores.items) }
         // They are what closing gives of the parts that came out of the locks.
-        ensures shuts { IfOk result (ShutsParts self) }
+        ensures shuts { IfOk result (λ shut. ShutsParts self shut.stopped) }
+        // Of the posts that the desk ever made, where the shards agree on them, two are of one
+        // message-id, or one is of an id that the relay had stored when it began, only where the
+        // earlier one's token is passed by a front of its buffer; there is none where nothing is
+        // forgotten, else one of each buffer.
+        ensures once { IfOk result (λ shut. IfSome (history_of shut.audit) (λ posts.
+            ∥ ArePostedOnce (fronts_of shut.audit) J.began posts ∥₁)) }
+        ensures unforgotten { remember_in self ≡ None
+            → IfOk result (λ shut. fronts_of shut.audit ≡ []) }
+        ensures read { remember_in self ≢ None
+            → IfOk result (λ shut. HasFrontOfEach (buffers_in self) shut.audit) }
+        // The text tells of each feed that it gained what it had when the relay began, and the
+        // tokens of these posts that it may.
+        ensures gained { IfOk result (λ shut. IfSome (history_of shut.audit) (λ posts.
+            TellGained J.began J.rings posts shut.stopped.history.items)) }
         ensures refused { IfErr result (IsUnshut self) }
     {
         let buffers = self.buffers.len();
@@ -232,10 +279,13 @@ impl<S: BlockStore + Drop, J: StorePremises, L: Ledger> Shared<S, J, L> {
             return Err(Unshut::Memory(self, WantOfMemory { told: () }));
         };
         let (alone, locks) = self.into_alone(room, rooms);
+        let Ok(audit) = alone.audit(alloc) else {
+            return Err(Unshut::Memory(Shared::over(alone, locks), WantOfMemory { told: () }));
+        };
         match alone.shut(alloc) {
             Ok(stopped) => {
                 drop(locks);
-                Ok(stopped)
+                Ok(Shut { stopped, audit })
             }
             Err(Unstopped::NotIdle(alone)) => { Err(Unshut::NotIdle(Shared::over(alone, locks))) }
             Err(Unstopped::Memory(alone)) => {
@@ -257,6 +307,7 @@ impl<S: BlockStore + Drop, J: StorePremises, L: Ledger> Shared<S, J, L> {
         let Alone {
             shards,
             desk,
+            posts,
             feeds,
             buffers,
             placed_groups,
@@ -266,7 +317,10 @@ impl<S: BlockStore + Drop, J: StorePremises, L: Ledger> Shared<S, J, L> {
         } = alone;
         Shared {
             shards: lock_all(shards, locks.rooms.shards),
-            desk: Mutex::new(desk),
+            desk: Mutex::new(RelayDesk {
+                counted: desk,
+                posts,
+            }),
             feeds,
             buffers: BufferLocks::over(buffers, locks.rooms.buffers),
             placed_groups: lock_all(placed_groups, locks.rooms.placed_groups),
@@ -275,6 +329,7 @@ impl<S: BlockStore + Drop, J: StorePremises, L: Ledger> Shared<S, J, L> {
             stop,
             remember,
             rounds: locks.rounds,
+            pausing: locks.pausing,
         }
     }
 
@@ -300,11 +355,14 @@ impl<S: BlockStore + Drop, J: StorePremises, L: Ledger> Shared<S, J, L> {
             stop,
             remember,
             rounds,
+            pausing,
         } = self;
         let FreeRoom { freed, parts } = room;
+        let (counted, posts) = desk.into_inner().into_parts();
         let alone = Alone {
             shards: values_of(free_all(shards, freed.shards), parts.shards),
-            desk: desk.into_inner(),
+            desk: counted,
+            posts,
             feeds,
             buffers: values_of(buffers.free(freed.buffers), parts.buffers),
             placed_groups: values_of(
@@ -319,8 +377,20 @@ impl<S: BlockStore + Drop, J: StorePremises, L: Ledger> Shared<S, J, L> {
             rooms,
             slots,
             rounds,
+            pausing,
         };
         (alone, locks)
+    }
+
+    /// From now on no new articles are taken, or they are again; meanwhile what is offered is to
+    /// come later. Whether it was otherwise before.
+    pub fn pause(&self, paused: bool) -> bool {
+        self.pausing.set(paused)
+    }
+
+    /// Whether no new articles are taken.
+    pub fn is_paused(&self) -> bool {
+        self.pausing.is_paused()
     }
 
     /// Draws the number of a session: one above the last, from 1 on, none after the greatest.
@@ -329,14 +399,14 @@ impl<S: BlockStore + Drop, J: StorePremises, L: Ledger> Shared<S, J, L> {
     }
 
     /// The shard that has the message-id, behind its lock.
-    fn shard(&self, id: &MsgId) -> &LockedShard
+    fn shard(&self, id: &MsgId) -> &LockedShard<J>
         ensures { number_of result.now ≡ shard_of id.now }
     {
         &self.shards[id_history::shard_of(id)]
     }
 
     /// The shard that has the message-id, with those who wait for it.
-    pub(crate) fn claims(&self, id: &MsgId) -> &Claims {
+    pub(crate) fn claims(&self, id: &MsgId) -> &Claims<J> {
         self.shard(id).lock()
     }
 }

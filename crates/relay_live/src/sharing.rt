@@ -11,11 +11,13 @@ use live_jobs::{JobAnswer, JobChannel, KeptJob, OwnThreads, WriterTurns};
 use live_session::Shares;
 use live_store::{ArticleLog, OneRead, OneRecord, StorePremises};
 use nntp_text::MsgId;
+use post_history::Naming;
 use std::alloc::{AllocError, Global};
 use std::sync::Wait;
 use std::sync::ledger::Ledger;
 
-impl<S: BlockStore + Drop, J: StorePremises, L: Ledger, R: Wait> Shares<J, R> for Shared<S, J, L> {
+impl<S: BlockStore + Drop, J: StorePremises + Naming, L: Ledger, R: Wait> Shares<J, R>
+    for Shared<S, J, L> {
     fn offer(
         &self,
         rt: &R,
@@ -24,12 +26,12 @@ impl<S: BlockStore + Drop, J: StorePremises, L: Ledger, R: Wait> Shares<J, R> fo
         now: u64,
         lasting: Option<u64>,
     ) -> Result<Offer, AllocError> {
-        let claims = self.claims(id);
-        claims.shard.lock(rt).offer(id, session, now, lasting)
+        let paused = self.pausing.is_paused();
+        self.claims(id).offer(rt, paused, id, session, now, lasting)
     }
 
     fn look(&self, rt: &R, id: &MsgId) -> Option<Token> {
-        self.claims(id).shard.lock(rt).look(id)
+        self.claims(id).shard.lock(rt).shard.look(id)
     }
 
     fn refuse(
@@ -94,7 +96,7 @@ impl<S: BlockStore + Drop, J: StorePremises, L: Ledger, R: Wait> Shares<J, R> fo
     }
 }
 
-impl<S: BlockStore + Drop, J: StorePremises, L: Ledger> Shared<S, J, L> {
+impl<S: BlockStore + Drop, J: StorePremises + Naming, L: Ledger> Shared<S, J, L> {
     ghost use Rattle.std.specs.Prelude.{◌≡◌};
 
     /// Waits until a writer has told what became of this end's job of this number, and takes that

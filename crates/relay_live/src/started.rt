@@ -1,5 +1,5 @@
-//! The buffers of a relay are started, one after the other, and then their heads are opened.
-ghost use Rattle.std.specs.Prelude.{◌≡◌, ◌≤◌, ◌+◌, ◌++◌, [], true, All, length, map};
+//! The buffers of a relay are started, side by side, and then their heads are opened.
+ghost use Rattle.std.specs.Prelude.{◌≡◌, ◌<◌, ◌≤◌, ◌+◌, ◌++◌, ◌∷◌, [], true, All, length, map};
 ghost use Rattle.std.specs.Prelude.{IfErr, IfOk, vec_len, vec_capacity};
 ghost use Rattle.std.specs.Vec.Iter.{into_iter_items};
 ghost use Rattle.block_shelf.specs.Each.{AreEach};
@@ -10,14 +10,17 @@ ghost use Rattle.live_store.specs.Started.{unopened_in};
 ghost use Rattle.live_store.specs.Steps.{buffer_of};
 ghost use Rattle.relay_live.specs.Starting.{AreStarted, IsHeadFailed, IsOpenedFrom, IsUnstarted};
 ghost use Rattle.relay_live.specs.Starting.{WereStopped, stores_of};
+ghost use Rattle.relay_live.specs.Trials.{stores_in};
 
 use crate::locking::rooms;
+use crate::side_by_side::{Trial, outcome_at, try_all};
 use block_shelf::{StopFault, Unstarted, blamed, fault_of, first_other, number_of, used_in};
 use cyc_block::BlockStore;
 use live_store::{ArticleLog, NumberedBuffer, StorePremises, UnopenedNumbered};
 use relay_core::refused;
 use std::alloc::{AllocError, Global};
 use std::sync::Wait;
+use std::thread::Threads;
 use std::vec::IntoIter;
 
 /// Started buffers whose head blocks say closed yet. They begin nothing before those are open.
@@ -36,9 +39,13 @@ pub(crate) struct StartedBuffers<S: BlockStore + Drop, J: StorePremises> {
 }
 
 /// The buffers that were stopped at this stop over these stores, the i-th buffer i, with the
-/// register's record for each live article. Nothing is written. All memory is taken here, of one
-/// buffer after the other.
-pub(crate) fn start_buffers<S: BlockStore + Drop, J: StorePremises, R: Wait>(
+/// register's record for each live article. They are started side by side. Nothing is written, and
+/// all memory is taken here.
+pub(crate) fn start_buffers<
+    S: BlockStore + Drop + Send,
+    J: StorePremises + Send + Sync,
+    R: Threads + Wait + Sync,
+>(
     rt: &R,
     alloc: Global,
     register: &ArticleLog,
@@ -59,11 +66,14 @@ pub(crate) fn start_buffers<S: BlockStore + Drop, J: StorePremises, R: Wait>(
     let Ok((mut buffers, opened, room)) = rooms(alloc, count, count, count) else {
         return Err(refused(stores, StopFault::Memory));
     };
+    let Ok(slots) = Vec::with_capacity(alloc, count) else {
+        return Err(refused(stores, StopFault::Memory));
+    };
     let mut mixed = None;
-    let mut left = stores.into_iter();
-    while let Some(store) = left.next() {
+    let mut left = try_all(rt, alloc, register, stores, slots).into_iter();
+    while let Some(slot) = left.next() {
         let number = buffers.len() as u8;
-        match NumberedBuffer::start(rt, alloc, register, store, number, 0) {
+        match outcome_at(rt, alloc, register, slot, number) {
             Ok((unopened, found)) => {
                 mixed = first_other(mixed, found, stop, number);
                 buffers.push_reserved(unopened);
@@ -167,13 +177,32 @@ fn give_back<S: BlockStore + Drop, J: StorePremises>(
 }
 
 /// These stores, with those that are left behind them, put where there is room for them.
-fn with_rest<S: Drop>(stores: Vec<S>, left: IntoIter<S>) -> Vec<S>
+fn with_rest<S: BlockStore + Drop, J: StorePremises>(
+    stores: Vec<S>,
+    left: IntoIter<Option<Trial<S, J>>>,
+) -> Vec<S>
     requires { length (into_iter_items left) + vec_len stores ≤ vec_capacity stores }
-    ensures { result.items ≡ stores.items ++ into_iter_items left }
+    ensures { result.items ≡ stores.items ++ stores_in (into_iter_items left) }
 {
     let mut stores = stores;
-    for store in left {
-        stores.push_reserved(store);
+    for slot in left {
+        stores = put_store(stores, slot);
+    }
+    stores
+}
+
+/// These stores, with that of what came of a buffer, put where there is room for it.
+fn put_store<S: BlockStore + Drop, J: StorePremises>(
+    stores: Vec<S>,
+    slot: Option<Trial<S, J>>,
+) -> Vec<S>
+    requires { vec_len stores < vec_capacity stores }
+    ensures items { result.items ≡ stores.items ++ stores_in (slot ∷ []) }
+    ensures capacity { vec_capacity result ≡ vec_capacity stores }
+{
+    let mut stores = stores;
+    if let Some(trial) = slot {
+        stores.push_reserved(trial.into_store());
     }
     stores
 }

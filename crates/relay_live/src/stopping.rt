@@ -5,6 +5,7 @@ ghost use Rattle.block_shelf.specs.Stopping.{IsStopped, StopsNext};
 ghost use Rattle.cyc_buffer.specs.Head.{is_busy};
 ghost use Rattle.id_history.specs.Shards.{EachKeeps};
 ghost use Rattle.live_store.specs.Steps.{buffer_of};
+ghost use Rattle.post_history.specs.Shards.{shards_in};
 ghost use Rattle.relay_live.specs.Stopping.{AreKnown, IsShutAll};
 ghost use Rattle.relay_model.specs.Claims.{Claim, is_storing};
 ghost use Rattle.relay_model.specs.Run.{shard_of};
@@ -12,15 +13,15 @@ ghost use Rattle.relay_model.specs.Run.{shard_of};
 use crate::alone::Alone;
 use block_shelf::number_of;
 use cyc_block::BlockStore;
-use id_history::Shard;
 use live_store::{NumberedBuffer, StorePremises, Unshut};
+use post_history::{Naming, RememberingShard};
 use relay_core::{Stopped, next_stop};
 use std::alloc::Global;
 use std::sync::ledger::Ledger;
 
 /// Why it isn't stopped, in the order of trial; want of memory comes last before the devices.
 #[derive(Drop)]
-pub(crate) enum Unstopped<S: BlockStore + Drop, J: StorePremises, L: Ledger> {
+pub(crate) enum Unstopped<S: BlockStore + Drop, J: StorePremises + Naming, L: Ledger> {
     /// A message-id is being stored, or a write is open in a buffer. The relay is as it was.
     NotIdle(Alone<S, J, L>),
     /// Memory was refused. The relay is as it was, and nothing was written.
@@ -30,7 +31,7 @@ pub(crate) enum Unstopped<S: BlockStore + Drop, J: StorePremises, L: Ledger> {
     Device(u8, Vec<S>),
 }
 
-impl<S: BlockStore + Drop, J: StorePremises, L: Ledger> Alone<S, J, L> {
+impl<S: BlockStore + Drop, J: StorePremises + Naming, L: Ledger> Alone<S, J, L> {
     ghost use Rattle.relay_live.specs.Stopping.{ShutGives};
 
     /// Stops the relay: the stores of its buffers, and the text of its history. Where a message-id
@@ -64,14 +65,16 @@ impl<S: BlockStore + Drop, J: StorePremises, L: Ledger> Alone<S, J, L> {
 }
 
 /// Whether no message-id of these shards is being stored.
-fn none_is_stored(shards: &[Shard]) -> bool
-    ensures none { result ≡ true → (claims : List ℕ → Claim) → EachKeeps shards.now claims
+fn none_is_stored<J: Naming>(shards: &[RememberingShard<J>]) -> bool
+    ensures none { result ≡ true → (claims : List ℕ → Claim)
+        → EachKeeps (shards_in shards.now) claims
         → (id : List ℕ) → shard_of id < length shards.now → is_storing (claims id) ≡ false }
-    ensures some { result ≡ false → (claims : List ℕ → Claim) → EachKeeps shards.now claims
+    ensures some { result ≡ false → (claims : List ℕ → Claim)
+        → EachKeeps (shards_in shards.now) claims
         → (id : List ℕ) × (is_storing (claims id) ≡ true) }
 {
     for shard in shards {
-        if shard.counts().storing > 0 {
+        if shard.shard.counts().storing > 0 {
             return false;
         }
     }

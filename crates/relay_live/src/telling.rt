@@ -3,6 +3,7 @@ ghost use Rattle.std.specs.Prelude.{◌≡◌, ◌≤◌, IfOk, length};
 ghost use Rattle.block_shelf.specs.Each.{AreEach};
 ghost use Rattle.block_shelf.specs.Stopping.{TellsPosition};
 ghost use Rattle.live_jobs.specs.Desks.{desk_of};
+ghost use Rattle.post_history.specs.Shards.{shards_in};
 ghost use Rattle.relay_core.specs.Stopping.{TellsFeeds};
 ghost use Rattle.relay_live.specs.Telling.{AreEntries};
 ghost use Rattle.relay_model.specs.Terms.{shard_count};
@@ -10,19 +11,23 @@ ghost use Rattle.relay_model.specs.Terms.{shard_count};
 use crate::alone::Alone;
 use block_shelf::PlacedGroup;
 use cyc_block::BlockStore;
-use id_history::{History, KeptFeed, KeptId, Shard, sort, write};
+use id_history::{History, KeptFeed, KeptId, sort, write};
 use live_jobs::CountedDesk;
 use live_store::StorePremises;
+use post_history::{Naming, RememberingShard};
 use std::alloc::{AllocError, Global};
 use std::sync::ledger::Ledger;
 
-impl<S: BlockStore + Drop, J: StorePremises, L: Ledger> Alone<S, J, L> {
-    ghost use Rattle.std.specs.Prelude.{IfOk};
+impl<S: BlockStore + Drop, J: StorePremises + Naming, L: Ledger> Alone<S, J, L> {
+    ghost use Rattle.std.specs.Prelude.{◌≡◌, false, IfOk};
+    ghost use Rattle.relay_live.specs.Gains.{TellGained};
     ghost use Rattle.relay_live.specs.Stopping.{TellsHistory};
 
     /// The text of its history at this stop.
     pub(crate) fn text(&self, alloc: Global, stop: u64) -> Result<Vec<u8>, AllocError>
-        ensures { IfOk result (λ text. TellsHistory self.now stop text.items) }
+        ensures tells { IfOk result (λ text. TellsHistory self.now stop text.items) }
+        ensures gained { self.now.posts.lost ≡ false → IfOk result (λ text.
+            TellGained J.began J.rings self.now.posts.all.history text.items) }
     {
         let positions = positions_of(alloc, &self.placed_groups)?;
         let feeds = kept_feeds(alloc, &self.desk, self.feeds)?;
@@ -77,13 +82,16 @@ fn kept_feeds<L: Ledger>(
 }
 
 /// The message-ids that are stored or were refused, of all shards, rising by their octets.
-fn entries_of(alloc: Global, shards: &[Shard]) -> Result<Vec<KeptId>, AllocError>
+fn entries_of<J: Naming>(
+    alloc: Global,
+    shards: &[RememberingShard<J>],
+) -> Result<Vec<KeptId>, AllocError>
     requires { length shards.now ≡ shard_count }
-    ensures { IfOk result (λ entries. AreEntries shards.now entries.items) }
+    ensures { IfOk result (λ entries. AreEntries (shards_in shards.now) entries.items) }
 {
     let mut entries = Vec::new(alloc);
     for shard in shards {
-        shard.gather(&mut entries)?;
+        shard.shard.gather(&mut entries)?;
     }
     sort(&mut entries);
     Ok(entries)

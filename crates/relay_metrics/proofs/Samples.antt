@@ -14,10 +14,10 @@ use Rattle.relay_metrics.specs.Laws.{HasPart, tells}
 use Rattle.relay_metrics.specs.Lines.{Line, report_lines}
 use Rattle.relay_metrics.specs.declared.families.Value.{Value}
 use Rattle.relay_metrics.specs.declared.families.Value.TheVariants.{OfBuffer, OfFeed, OfIds, OfPeer}
-use Rattle.relay_metrics.specs.declared.families.Value.TheVariants.{OfRefusals, OfSize}
+use Rattle.relay_metrics.specs.declared.families.Value.TheVariants.{OfOldest, OfRefusals, OfSize}
 use Rattle.relay_metrics.specs.declared.lines.Subject.{Subject}
 use Rattle.relay_metrics.specs.declared.lines.Subject.TheVariants.{Buffer, Feed, Ids, Peer}
-use Rattle.relay_metrics.specs.declared.lines.Subject.TheVariants.{Refusals, Size}
+use Rattle.relay_metrics.specs.declared.lines.Subject.TheVariants.{Oldest, Refusals, Size}
 
 -- A part of a part is a part.
 pub within : (text middle part : List ℕ) → HasPart text middle → HasPart middle part
@@ -102,4 +102,6 @@ told_value (OfPeer other) Peer place numbers is = ap (slice_get numbers) (eqb-tr
 told_value (OfRefusals other) Refusals place numbers is =
     ap (slice_get numbers) (eqb-true other place is)
 told_value (OfSize other) Size place numbers is = ap (slice_get numbers) (eqb-true other place is)
+told_value (OfOldest other) Oldest place numbers is =
+    ap (slice_get numbers) (eqb-true other place is)
 told_value value subject place numbers is = cc

@@ -6,13 +6,15 @@ use Rattle.relay_metrics.specs.declared.families.Family as code
 use Rattle.relay_metrics.specs.declared.families.Kind.{Kind}
 use Rattle.relay_metrics.specs.declared.families.Kind.TheVariants.{Counter, Gauge}
 use Rattle.relay_metrics.specs.declared.families.Value.{Value}
-use Rattle.relay_metrics.specs.declared.families.Value.TheVariants.{IsRecovering, IsRepaired}
+use Rattle.relay_metrics.specs.declared.families.Value.TheVariants.{IsPaused, IsRecovering}
+use Rattle.relay_metrics.specs.declared.families.Value.TheVariants.{IsRepaired}
 use Rattle.relay_metrics.specs.declared.families.Value.TheVariants.{OfBuffer, OfFeed, OfIds, OfPeer}
-use Rattle.relay_metrics.specs.declared.families.Value.TheVariants.{OfRefusals, OfSize, Uncounted}
+use Rattle.relay_metrics.specs.declared.families.Value.TheVariants.{OfOldest, OfRefusals, OfSize}
+use Rattle.relay_metrics.specs.declared.families.Value.TheVariants.{Uncounted}
 use Rattle.relay_metrics.specs.declared.lines.Subject.{Subject}
 use Rattle.relay_metrics.specs.declared.lines.Subject.TheVariants.{Buffer, Feed, Ids, Peer}
-use Rattle.relay_metrics.specs.declared.lines.Subject.TheVariants.{Recovering, Refusals, Repaired}
-use Rattle.relay_metrics.specs.declared.lines.Subject.TheVariants.{Size}
+use Rattle.relay_metrics.specs.declared.lines.Subject.TheVariants.{Oldest, Paused, Recovering}
+use Rattle.relay_metrics.specs.declared.lines.Subject.TheVariants.{Refusals, Repaired, Size}
 
 -- A metric family: its name but for what its type adds, what is told of it, its type, its unit,
 -- empty where it has none, the label that a line's name is the value of, empty where it has none,
@@ -57,9 +59,11 @@ value_of (OfIds place) Ids numbers = slice_get numbers place
 value_of (OfPeer place) Peer numbers = slice_get numbers place
 value_of (OfRefusals place) Refusals numbers = slice_get numbers place
 value_of (OfSize place) Size numbers = slice_get numbers place
+value_of (OfOldest place) Oldest numbers = slice_get numbers place
 value_of IsRecovering Recovering numbers = Some (codes "1")
 value_of IsRecovering Ids numbers = Some (codes "0")
 value_of IsRepaired Repaired numbers = Some (codes "1")
+value_of IsPaused Paused numbers = Some (codes "1")
 value_of value subject numbers = None
 
 -- the value of a family's sample of a line
@@ -99,9 +103,16 @@ blocks_gauge base help value =
 abbrev pub recovering_families : List Family
 recovering_families =
     gauge (codes "cnrelay_recovering")
-    (codes "Whether the relay is being repaired and serves nobody yet.") [] IsRecovering
+    (codes "Whether the relay is being repaired.") [] IsRecovering
     ∷ gauge (codes "cnrelay_buffer_recovering")
     (codes "A buffer of a relay that is being repaired.") (codes "buffer") IsRepaired
+    ∷ []
+
+-- whether the relay is paused
+abbrev pub paused_families : List Family
+paused_families =
+    gauge (codes "cnrelay_paused") (codes "Whether the relay takes no new articles for now.") []
+    IsPaused
     ∷ []
 
 -- of the buffers: cycle, front, articles begun, articles whole
@@ -111,7 +122,7 @@ buffer_families =
     (codes "The cycle that the newest article of the buffer is in.") [] (codes "buffer")
     (OfBuffer 0)
     ∷ counter (codes "cnrelay_buffer_front_blocks")
-    (codes "The front of the buffer in blocks of 512 octets, counted on over all cycles.")
+    (codes "The front of the buffer, counted on over all cycles.")
     (codes "blocks") (codes "buffer") (OfBuffer 1)
     ∷ counter (codes "cnrelay_buffer_articles_begun")
     (codes "Articles that were begun in the buffer.") [] (codes "buffer") (OfBuffer 2)
@@ -126,6 +137,14 @@ size_families =
     (codes "Blocks of 512 octets that the buffer has.") (OfSize 0)
     ∷ blocks_gauge (codes "cnrelay_buffer_filled_blocks")
     (codes "Blocks of the buffer that hold something.") (OfSize 1)
+    ∷ []
+
+-- of the oldest articles of the buffers: since when each is there
+abbrev pub oldest_families : List Family
+oldest_families =
+    record (gauge (codes "cnrelay_buffer_oldest_article_timestamp_seconds")
+    (codes "Since when the oldest article of the buffer is there.") (codes "buffer")
+    (OfOldest 0)) { unit = codes "seconds" }
     ∷ []
 
 -- of the feeds: tokens waiting, gained, overwritten
@@ -185,34 +204,34 @@ refusals base help value = counter base help [] (codes "peer") value
 abbrev pub refusal_families : List Family
 refusal_families =
     refusals (codes "cnrelay_peer_refused_size")
-    (codes "Articles of the peer refused since the start: more octets than maxart.") (OfRefusals 0)
+    (codes "Articles of the peer refused: more octets than maxart.") (OfRefusals 0)
     ∷ refusals (codes "cnrelay_peer_refused_grammar")
-    (codes "Articles of the peer refused since the start: their text is no article.") (OfRefusals 1)
+    (codes "Articles of the peer refused: their text is no article.") (OfRefusals 1)
     ∷ refusals (codes "cnrelay_peer_refused_id_mismatch")
-    (codes "Articles of the peer refused since the start: another Message-ID was offered.")
+    (codes "Articles of the peer refused: another Message-ID was offered.")
     (OfRefusals 2)
     ∷ refusals (codes "cnrelay_peer_refused_bad_path")
-    (codes "Articles of the peer refused since the start: a forbidden octet in the Path.")
+    (codes "Articles of the peer refused: a forbidden octet in the Path.")
     (OfRefusals 3)
     ∷ refusals (codes "cnrelay_peer_refused_loop")
-    (codes "Articles of the peer refused since the start: the own identity is in the Path.")
+    (codes "Articles of the peer refused: the own identity is in the Path.")
     (OfRefusals 4)
     ∷ refusals (codes "cnrelay_peer_refused_date")
-    (codes "Articles of the peer refused since the start: their date can't be read, is too"
+    (codes "Articles of the peer refused: their date can't be read, is too"
     ++ codes " old, or is in the future.") (OfRefusals 5)
     ∷ refusals (codes "cnrelay_peer_refused_no_class")
-    (codes "Articles of the peer refused since the start: no entry of storage.conf is chosen.")
+    (codes "Articles of the peer refused: no entry of storage.conf is chosen.")
     (OfRefusals 6)
     ∷ refusals (codes "cnrelay_peer_refused_too_large")
-    (codes "Articles of the peer refused since the start: more blocks than the smallest buffer"
+    (codes "Articles of the peer refused: more blocks than the smallest buffer"
     ++ codes " of their group.") (OfRefusals 7)
     ∷ []
 
 -- the families of which lines have samples, in their order
 abbrev pub report_families : List Family
 report_families =
-    recovering_families ++ buffer_families ++ size_families ++ feed_families ++ ids_families
-    ++ peer_families ++ refusal_families
+    recovering_families ++ paused_families ++ buffer_families ++ size_families ++ oldest_families
+    ++ feed_families ++ ids_families ++ peer_families ++ refusal_families
 
 -- the family of how many lines aren't known: no line is a sample of it
 abbrev pub unread_family : Family

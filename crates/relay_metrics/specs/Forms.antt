@@ -3,7 +3,8 @@ use Rattle.std.specs.Prelude.{ℕ, Bool, true, false, List, [], ◌∷◌, codes
 use Rattle.relay_metrics.specs.declared.forms.Form as code
 use Rattle.relay_metrics.specs.declared.lines.Subject.{Subject}
 use Rattle.relay_metrics.specs.declared.lines.Subject.TheVariants.{Address, Buffer, Feed, Ids}
-use Rattle.relay_metrics.specs.declared.lines.Subject.TheVariants.{Peer, Recovering, Refusals}
+use Rattle.relay_metrics.specs.declared.lines.Subject.TheVariants.{Oldest, Paused, Peer}
+use Rattle.relay_metrics.specs.declared.lines.Subject.TheVariants.{Recovering, Refusals}
 use Rattle.relay_metrics.specs.declared.lines.Subject.TheVariants.{Repaired, Size}
 
 -- A form of lines: what such a line is about, its first word, whether a name follows that, what
@@ -106,6 +107,17 @@ size_form =
       keys = codes "blocks=" ∷ codes "filled=" ∷ [];
     }
 
+-- `oldest buffer=A since=1764547200`
+abbrev pub oldest_form : Form
+oldest_form =
+    record {
+      subject = Oldest;
+      word = codes "oldest";
+      is_named = true;
+      name_key = codes "buffer=";
+      keys = codes "since=" ∷ [];
+    }
+
 -- `recovering`
 abbrev pub recovering_form : Form
 recovering_form =
@@ -128,8 +140,19 @@ repaired_form =
       keys = [];
     }
 
+-- `paused`
+abbrev pub paused_form : Form
+paused_form =
+    record {
+      subject = Paused;
+      word = codes "paused";
+      is_named = false;
+      name_key = [];
+      keys = [];
+    }
+
 -- the forms that there are
 abbrev pub report_forms : List Form
 report_forms =
     buffer_form ∷ feed_form ∷ ids_form ∷ peer_form ∷ refusals_form ∷ address_form ∷ size_form
-    ∷ recovering_form ∷ repaired_form ∷ []
+    ∷ oldest_form ∷ recovering_form ∷ repaired_form ∷ paused_form ∷ []

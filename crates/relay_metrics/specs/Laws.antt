@@ -9,10 +9,10 @@ use Rattle.relay_metrics.specs.Forms.{Form}
 use Rattle.relay_metrics.specs.Lines.{Line}
 use Rattle.relay_metrics.specs.declared.families.Value.{Value}
 use Rattle.relay_metrics.specs.declared.families.Value.TheVariants.{OfBuffer, OfFeed, OfIds, OfPeer}
-use Rattle.relay_metrics.specs.declared.families.Value.TheVariants.{OfRefusals, OfSize}
+use Rattle.relay_metrics.specs.declared.families.Value.TheVariants.{OfOldest, OfRefusals, OfSize}
 use Rattle.relay_metrics.specs.declared.lines.Subject.{Subject}
 use Rattle.relay_metrics.specs.declared.lines.Subject.TheVariants.{Buffer, Feed, Ids, Peer}
-use Rattle.relay_metrics.specs.declared.lines.Subject.TheVariants.{Refusals, Size}
+use Rattle.relay_metrics.specs.declared.lines.Subject.TheVariants.{Oldest, Refusals, Size}
 
 -- The text has this part somewhere.
 pub record HasPart (text part : List ℕ) : Type 0 where
@@ -28,6 +28,7 @@ tells (OfIds other) Ids place = other == place
 tells (OfPeer other) Peer place = other == place
 tells (OfRefusals other) Refusals place = other == place
 tells (OfSize other) Size place = other == place
+tells (OfOldest other) Oldest place = other == place
 tells value subject place = false
 
 -- a family tells the number of this place of the lines about this

@@ -31,11 +31,15 @@ pub(crate) enum Value {
     OfRefusals(usize),
     /// The number of this place of a line about a buffer's size.
     OfSize(usize),
+    /// The number of this place of a line about a buffer's oldest article.
+    OfOldest(usize),
     /// 1 of the line that the relay is being repaired, 0 of the line about the message-ids, which
     /// only a relay that is served tells.
     IsRecovering,
     /// 1 of a line about a buffer of a relay that is being repaired.
     IsRepaired,
+    /// 1 of the line that the relay takes no new articles for now.
+    IsPaused,
     /// No line has it.
     Uncounted,
 }
@@ -60,7 +64,7 @@ pub(crate) struct Family {
 pub(crate) const FAMILIES: &[Family] = &[
     Family {
         base: b"cnrelay_recovering",
-        help: b"Whether the relay is being repaired and serves nobody yet.",
+        help: b"Whether the relay is being repaired.",
         kind: Kind::Gauge,
         unit: b"",
         label: b"",
@@ -75,6 +79,14 @@ pub(crate) const FAMILIES: &[Family] = &[
         value: Value::IsRepaired,
     },
     Family {
+        base: b"cnrelay_paused",
+        help: b"Whether the relay takes no new articles for now.",
+        kind: Kind::Gauge,
+        unit: b"",
+        label: b"",
+        value: Value::IsPaused,
+    },
+    Family {
         base: b"cnrelay_buffer_cycles",
         help: b"The cycle that the newest article of the buffer is in.",
         kind: Kind::Counter,
@@ -84,7 +96,7 @@ pub(crate) const FAMILIES: &[Family] = &[
     },
     Family {
         base: b"cnrelay_buffer_front_blocks",
-        help: b"The front of the buffer in blocks of 512 octets, counted on over all cycles.",
+        help: b"The front of the buffer, counted on over all cycles.",
         kind: Kind::Counter,
         unit: b"blocks",
         label: b"buffer",
@@ -121,6 +133,14 @@ pub(crate) const FAMILIES: &[Family] = &[
         unit: b"blocks",
         label: b"buffer",
         value: Value::OfSize(1),
+    },
+    Family {
+        base: b"cnrelay_buffer_oldest_article_timestamp_seconds",
+        help: b"Since when the oldest article of the buffer is there.",
+        kind: Kind::Gauge,
+        unit: b"seconds",
+        label: b"buffer",
+        value: Value::OfOldest(0),
     },
     Family {
         base: b"cnrelay_feed_tokens_waiting",
@@ -236,7 +256,7 @@ pub(crate) const FAMILIES: &[Family] = &[
     },
     Family {
         base: b"cnrelay_peer_refused_size",
-        help: b"Articles of the peer refused since the start: more octets than maxart.",
+        help: b"Articles of the peer refused: more octets than maxart.",
         kind: Kind::Counter,
         unit: b"",
         label: b"peer",
@@ -244,7 +264,7 @@ pub(crate) const FAMILIES: &[Family] = &[
     },
     Family {
         base: b"cnrelay_peer_refused_grammar",
-        help: b"Articles of the peer refused since the start: their text is no article.",
+        help: b"Articles of the peer refused: their text is no article.",
         kind: Kind::Counter,
         unit: b"",
         label: b"peer",
@@ -252,7 +272,7 @@ pub(crate) const FAMILIES: &[Family] = &[
     },
     Family {
         base: b"cnrelay_peer_refused_id_mismatch",
-        help: b"Articles of the peer refused since the start: another Message-ID was offered.",
+        help: b"Articles of the peer refused: another Message-ID was offered.",
         kind: Kind::Counter,
         unit: b"",
         label: b"peer",
@@ -260,7 +280,7 @@ pub(crate) const FAMILIES: &[Family] = &[
     },
     Family {
         base: b"cnrelay_peer_refused_bad_path",
-        help: b"Articles of the peer refused since the start: a forbidden octet in the Path.",
+        help: b"Articles of the peer refused: a forbidden octet in the Path.",
         kind: Kind::Counter,
         unit: b"",
         label: b"peer",
@@ -268,7 +288,7 @@ pub(crate) const FAMILIES: &[Family] = &[
     },
     Family {
         base: b"cnrelay_peer_refused_loop",
-        help: b"Articles of the peer refused since the start: the own identity is in the Path.",
+        help: b"Articles of the peer refused: the own identity is in the Path.",
         kind: Kind::Counter,
         unit: b"",
         label: b"peer",
@@ -276,7 +296,7 @@ pub(crate) const FAMILIES: &[Family] = &[
     },
     Family {
         base: b"cnrelay_peer_refused_date",
-        help: b"Articles of the peer refused since the start: their date can't be read, is too \
+        help: b"Articles of the peer refused: their date can't be read, is too \
             old, or is in the future.",
         kind: Kind::Counter,
         unit: b"",
@@ -285,7 +305,7 @@ pub(crate) const FAMILIES: &[Family] = &[
     },
     Family {
         base: b"cnrelay_peer_refused_no_class",
-        help: b"Articles of the peer refused since the start: no entry of storage.conf is chosen.",
+        help: b"Articles of the peer refused: no entry of storage.conf is chosen.",
         kind: Kind::Counter,
         unit: b"",
         label: b"peer",
@@ -293,7 +313,7 @@ pub(crate) const FAMILIES: &[Family] = &[
     },
     Family {
         base: b"cnrelay_peer_refused_too_large",
-        help: b"Articles of the peer refused since the start: more blocks than the smallest buffer \
+        help: b"Articles of the peer refused: more blocks than the smallest buffer \
             of their group.",
         kind: Kind::Counter,
         unit: b"",
@@ -343,10 +363,12 @@ pub(crate) fn value_in<'a>(family: &Family, line: &'a Line<'_>) -> Option<&'a [u
         | (Value::OfIds(place), Subject::Ids)
         | (Value::OfPeer(place), Subject::Peer)
         | (Value::OfRefusals(place), Subject::Refusals)
-        | (Value::OfSize(place), Subject::Size) => number_at(line, place),
+        | (Value::OfSize(place), Subject::Size)
+        | (Value::OfOldest(place), Subject::Oldest) => number_at(line, place),
         (Value::IsRecovering, Subject::Recovering) | (Value::IsRepaired, Subject::Repaired) => {
             Some(b"1")
         }
+        (Value::IsPaused, Subject::Paused) => Some(b"1"),
         (Value::IsRecovering, Subject::Ids) => Some(b"0"),
         _ => None,
     }

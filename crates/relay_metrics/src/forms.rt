@@ -84,6 +84,13 @@ pub(crate) const FORMS: &[Form] = &[
         keys: &[b"blocks=", b"filled="],
     },
     Form {
+        subject: Subject::Oldest,
+        word: b"oldest",
+        is_named: true,
+        name_key: b"buffer=",
+        keys: &[b"since="],
+    },
+    Form {
         subject: Subject::Recovering,
         word: b"recovering",
         is_named: false,
@@ -94,6 +101,13 @@ pub(crate) const FORMS: &[Form] = &[
         subject: Subject::Repaired,
         word: b"buffer",
         is_named: true,
+        name_key: b"",
+        keys: &[],
+    },
+    Form {
+        subject: Subject::Paused,
+        word: b"paused",
+        is_named: false,
         name_key: b"",
         keys: &[],
     },

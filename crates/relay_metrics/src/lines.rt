@@ -29,10 +29,14 @@ pub enum Subject {
     Address,
     /// How large a buffer is, and how much of it is filled.
     Size,
+    /// Since when the oldest article is there that a buffer still has.
+    Oldest,
     /// That the relay is being repaired.
     Recovering,
     /// A buffer of a relay that is being repaired.
     Repaired,
+    /// That the relay takes no new articles for now.
+    Paused,
     /// Nothing that is known here.
     Unread,
 }

@@ -8,8 +8,8 @@ use Rattle.relay_metrics.specs.Lines.{Line, report_lines}
 use Rattle.relay_page.specs.Figures.{Figure, figure_text, figures_text, number_or_none, number_text}
 use Rattle.relay_page.specs.Page.{Section, first_section, foot, other_sections, page_of}
 use Rattle.relay_page.specs.Page.{section_text, sized_rows}
-use Rattle.relay_page.specs.Rows.{buffer_row, buffer_rows, row_of, size_at}
-use Rattle.relay_page.specs.Selected.{buffers_in, most_waiting, sizes_in}
+use Rattle.relay_page.specs.Rows.{buffer_row, buffer_rows, oldest_of, row_of, size_at}
+use Rattle.relay_page.specs.Selected.{buffers_in, most_waiting, oldest_in, sizes_in}
 
 -- The other sections are a part of the page,
 others_there : (report : List ℕ) → HasPart (page_of report)
@@ -70,40 +70,46 @@ row_there report line front back section before after are these =
     (within _ _ _ in_all (within _ _ _ (rows_in most lines section) in_rows))
 
 -- The row of a buffer is a part of those of all from a place on.
-row_in : (sizes : List Line) (place at : ℕ) (front back : List Line) (line : Line)
+row_in : (sizes oldest : List Line) (place at : ℕ) (front back : List Line) (line : Line)
     → at ≡ place + length front
-    → HasPart (buffer_rows sizes place (front ++ line ∷ back))
-    (buffer_row (size_at sizes at line.name) line)
-row_in sizes place at [] back line is =
+    → HasPart (buffer_rows sizes oldest place (front ++ line ∷ back))
+    (buffer_row (size_at sizes at line.name) (oldest_of oldest line.name) line)
+row_in sizes oldest place at [] back line is =
     let here : at ≡ place = omega (arith, is) in
     record {
       before = [];
-      after = buffer_rows sizes (suc place) back;
-      whole = ap (λ (o : ℕ). buffer_row (size_at sizes o line.name) line
-          ++ buffer_rows sizes (suc place) back) (sym here);
+      after = buffer_rows sizes oldest (suc place) back;
+      whole = ap (λ (o : ℕ).
+          buffer_row (size_at sizes o line.name) (oldest_of oldest line.name) line
+          ++ buffer_rows sizes oldest (suc place) back) (sym here);
     }
-row_in sizes place at (other ∷ front) back line is =
-    let first = buffer_row (size_at sizes place other.name) other in
-    let rest = row_in sizes (suc place) at front back line (omega (arith, is)) in
+row_in sizes oldest place at (other ∷ front) back line is =
+    let first =
+    buffer_row (size_at sizes place other.name) (oldest_of oldest other.name) other in
+    let rest = row_in sizes oldest (suc place) at front back line (omega (arith, is)) in
     record {
       before = first ++ rest.before;
       after = rest.after;
       whole = ap (λ (o : List ℕ). first ++ o) rest.whole
           ∙ sym (append_assoc first rest.before
-          (buffer_row (size_at sizes at line.name) line ++ rest.after));
+          (buffer_row (size_at sizes at line.name) (oldest_of oldest line.name) line
+          ++ rest.after));
     }
 
 -- So it is a part of the page.
 pub buffer_there : (report : List ℕ) (line : Line) (front back : List Line)
     → buffers_in (report_lines report) ≡ front ++ line ∷ back
     → HasPart (page_of report)
-    (buffer_row (size_at (sizes_in (report_lines report)) (length front) line.name) line)
+    (buffer_row (size_at (sizes_in (report_lines report)) (length front) line.name)
+    (oldest_of (oldest_in (report_lines report)) line.name) line)
 buffer_there report line front back are =
     let sizes = sizes_in (report_lines report) in
-    let row = buffer_row (size_at sizes (length front) line.name) line in
+    let oldest = oldest_in (report_lines report) in
+    let row =
+    buffer_row (size_at sizes (length front) line.name) (oldest_of oldest line.name) line in
     within _ _ _ (sized_there report)
-    (subst (λ (all : List Line). HasPart (buffer_rows sizes 0 all) row) (sym are)
-    (row_in sizes 0 (length front) front back line (omega arith)))
+    (subst (λ (all : List Line). HasPart (buffer_rows sizes oldest 0 all) row) (sym are)
+    (row_in sizes oldest 0 (length front) front back line (omega arith)))
 
 -- A number of a line stands among those that its row has.
 pub number_there : (line : Line) (number : List ℕ) (figure : Figure) (before after : List Figure)

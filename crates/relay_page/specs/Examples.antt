@@ -54,6 +54,7 @@ served =
     ++ codes "from p3=2001:db8::3\n"
     ++ codes "size buffer=A blocks=1000 filled=371\n"
     ++ codes "size buffer=B.2 blocks=1000 filled=1000\n"
+    ++ codes "oldest buffer=B.2 since=1764547200\n"
 
 -- and its page
 abbrev pub served_page : List ℕ
@@ -78,6 +79,7 @@ served_page =
     ++ codes "<span>articles whole <b>29</b></span>\n"
     ++ codes "<span>blocks <b>1000</b></span>\n"
     ++ codes "<span>filled <b>1000</b></span>\n"
+    ++ codes "<span>oldest article since <b>1764547200</b></span>\n"
     ++ codes "</p>\n"
     ++ codes "<h2>Feeds</h2>\n"
     ++ codes "<h3>p2</h3>\n"
@@ -151,8 +153,34 @@ recovering_page =
     ++ codes "</body>\n"
     ++ codes "</html>\n"
 
--- A name that no configuration has, a buffer whose size has another name, one of no blocks, a
--- size without a key, and lines that are not known, of which no LF ends the last.
+-- the line that a relay is paused
+abbrev pub paused : List ℕ
+paused = codes "paused\n"
+
+-- and its page
+abbrev pub paused_page : List ℕ
+paused_page =
+    begin ++ codes "<p>The relay is paused and takes no new articles.</p>\n"
+    ++ codes "<h2>Buffers</h2>\n"
+    ++ codes "<h2>Feeds</h2>\n"
+    ++ codes "<h2>Message-ids</h2>\n"
+    ++ codes "<h2>Peers</h2>\n"
+    ++ codes "<div class=\"wide\"><table>\n"
+    ++ codes "<tr><th>peer</th><th>open</th><th>accepted</th><th>known</th>"
+    ++ codes "<th>refused</th><th>later</th><th>octets</th><th>offers</th></tr>\n"
+    ++ codes "</table></div>\n"
+    ++ refused_begin
+    ++ codes "</table></div>\n"
+    ++ codes "<h3>Newest connections</h3>\n"
+    ++ codes "<p>\n"
+    ++ codes "</p>\n"
+    ++ codes "<p>Lines of the report that are not known here: <b>0</b></p>\n"
+    ++ codes "</body>\n"
+    ++ codes "</html>\n"
+
+-- A name that no configuration has, a buffer whose size has another name, one of no blocks of whose
+-- oldest article two lines tell, a size without a key, and lines that are not known, of which no LF
+-- ends the last.
 abbrev pub odd : List ℕ
 odd =
     codes "feed <b>&\"' 0 2 3\n"
@@ -160,6 +188,8 @@ odd =
     ++ codes "buffer C 0 2 2 2\n"
     ++ codes "size buffer=C blocks=8 filled=3\n"
     ++ codes "size buffer=C blocks=0 filled=0\n"
+    ++ codes "oldest buffer=C since=7\n"
+    ++ codes "oldest buffer=C since=8\n"
     ++ codes "size D blocks=8 filled=3\n"
     ++ codes "from <p>=192.0.2.1\n"
     ++ codes "memory 5\n"
@@ -184,6 +214,7 @@ odd_page =
     ++ codes "<span>articles whole <b>2</b></span>\n"
     ++ codes "<span>blocks <b>0</b></span>\n"
     ++ codes "<span>filled <b>0</b></span>\n"
+    ++ codes "<span>oldest article since <b>7</b></span>\n"
     ++ codes "</p>\n"
     ++ codes "<h2>Feeds</h2>\n"
     ++ codes "<h3>&lt;b&gt;&amp;&quot;&#39;</h3>\n"

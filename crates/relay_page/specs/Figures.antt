@@ -38,6 +38,10 @@ buffer_figures =
 abbrev pub size_figures : List Figure
 size_figures = worded (codes "blocks") 0 ∷ worded (codes "filled") 1 ∷ []
 
+-- the number of a buffer's oldest article
+abbrev pub oldest_figures : List Figure
+oldest_figures = worded (codes "oldest article since") 0 ∷ []
+
 -- the numbers of a feed
 abbrev pub feed_figures : List Figure
 feed_figures =

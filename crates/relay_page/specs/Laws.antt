@@ -4,14 +4,16 @@ use Rattle.std.specs.List.{enumerate_from, list_all, list_any}
 use Rattle.relay_metrics.specs.Forms.{Form}
 use Rattle.relay_metrics.specs.declared.lines.Subject.{Subject}
 use Rattle.relay_metrics.specs.declared.lines.Subject.TheVariants.{Buffer, Feed, Ids, Peer}
-use Rattle.relay_metrics.specs.declared.lines.Subject.TheVariants.{Refusals, Size}
+use Rattle.relay_metrics.specs.declared.lines.Subject.TheVariants.{Oldest, Refusals, Size}
 use Rattle.relay_page.specs.Figures.{Figure, buffer_figures, feed_figures, ids_figures}
-use Rattle.relay_page.specs.Figures.{peer_figures, refusal_figures, size_figures}
+use Rattle.relay_page.specs.Figures.{oldest_figures, peer_figures, refusal_figures}
+use Rattle.relay_page.specs.Figures.{size_figures}
 
 -- the numbers that the page has of a line about this
 abbrev pub figures_of : Subject → List Figure
 figures_of Buffer = buffer_figures
 figures_of Size = size_figures
+figures_of Oldest = oldest_figures
 figures_of Feed = feed_figures
 figures_of Ids = ids_figures
 figures_of Peer = peer_figures

@@ -3,7 +3,7 @@ use Rattle.std.specs.Prelude.{ℕ, List, [], ◌∷◌, ◌++◌, codes, count_b
 use Rattle.relay_metrics.specs.Exposition.{is_unread}
 use Rattle.relay_metrics.specs.Lines.{Line, report_lines}
 use Rattle.relay_page.specs.Rows.{buffer_rows, row_of}
-use Rattle.relay_page.specs.Selected.{buffers_in, most_waiting, sizes_in}
+use Rattle.relay_page.specs.Selected.{buffers_in, most_waiting, oldest_in, sizes_in}
 use Rattle.relay_page.specs.declared.frame.Section as code
 use Rattle.relay_page.specs.declared.rows.Part.{Part}
 use Rattle.relay_page.specs.declared.rows.Part.TheVariants as parts
@@ -120,9 +120,10 @@ abbrev pub section_text : (most : ℕ) → List Line → Section → List ℕ
 section_text most lines section =
     section.opening ++ flat_map (row_of section.part most) lines ++ section.closing
 
--- the buffers of a relay that is served, each with its size
+-- the buffers of a relay that is served, each with its size, and with what is told of its oldest
+-- article
 abbrev pub sized_rows : List Line → List ℕ
-sized_rows lines = buffer_rows (sizes_in lines) 0 (buffers_in lines)
+sized_rows lines = buffer_rows (sizes_in lines) (oldest_in lines) 0 (buffers_in lines)
 
 -- how many lines aren't known, and the end of the page
 abbrev pub foot : (unread : ℕ) → List ℕ
@@ -130,8 +131,9 @@ foot unread =
     codes "<p>Lines of the report that are not known here: <b>" ++ decimal unread
     ++ codes "</b></p>\n</body>\n</html>\n"
 
--- The page of these lines: what stands before all else, and that the relay is being repaired where
--- it is; the buffers with their sizes; the other sections; how many of the lines aren't known.
+-- The page of these lines: what stands before all else, and that the relay is being repaired, or
+-- paused, where it is; the buffers with their sizes; the other sections; how many of the lines
+-- aren't known.
 abbrev pub page_lines : List Line → List ℕ
 page_lines lines =
     section_text (most_waiting lines) lines first_section

@@ -4,11 +4,13 @@ use Rattle.std.specs.Prelude.{option_and_then, Option, None, Some, if◌then◌e
 use Rattle.std.specs.List.{list_any}
 use Rattle.relay_metrics.specs.Lines.{Line}
 use Rattle.relay_metrics.specs.declared.lines.Subject.{Subject}
-use Rattle.relay_metrics.specs.declared.lines.Subject.TheVariants.{Address, Feed, Ids, Peer}
-use Rattle.relay_metrics.specs.declared.lines.Subject.TheVariants.{Recovering, Refusals, Repaired}
+use Rattle.relay_metrics.specs.declared.lines.Subject.TheVariants.{Address, Feed, Ids, Paused}
+use Rattle.relay_metrics.specs.declared.lines.Subject.TheVariants.{Peer, Recovering, Refusals}
+use Rattle.relay_metrics.specs.declared.lines.Subject.TheVariants.{Repaired}
 use Rattle.relay_page.specs.Bars.{bar_text, hundredths, number_at, share_of}
 use Rattle.relay_page.specs.Figures.{Figure, buffer_figures, feed_figures, figures_text}
-use Rattle.relay_page.specs.Figures.{ids_figures, peer_figures, refusal_figures, size_figures}
+use Rattle.relay_page.specs.Figures.{ids_figures, oldest_figures, peer_figures, refusal_figures}
+use Rattle.relay_page.specs.Figures.{size_figures}
 use Rattle.relay_page.specs.Text.{escaped}
 use Rattle.relay_page.specs.declared.rows.Part.{Part}
 use Rattle.relay_page.specs.declared.rows.Part.TheVariants as parts
@@ -16,6 +18,10 @@ use Rattle.relay_page.specs.declared.rows.Part.TheVariants as parts
 -- what is told of a relay that is being repaired
 abbrev pub notice : List ℕ
 notice = codes "<p>The relay is being repaired and serves nobody yet.</p>\n"
+
+-- what is told of a relay that is paused
+abbrev pub paused_notice : List ℕ
+paused_notice = codes "<p>The relay is paused and takes no new articles.</p>\n"
 
 -- a name as a heading
 abbrev pub heading : (name : List ℕ) → List ℕ
@@ -61,6 +67,7 @@ address_row line = codes "<span>" ++ escaped line.name ++ codes "</span>\n"
 -- what a part of the page has of a line about this; in no feed wait more tokens than `most`
 abbrev pub row_about : Part → (most : ℕ) → Subject → Line → List ℕ
 row_about parts.Notice most Recovering line = notice
+row_about parts.Notice most Paused line = paused_notice
 row_about parts.Repaired most Repaired line = heading line.name
 row_about parts.Feeds most Feed line = feed_row most line
 row_about parts.Ids most Ids line = ids_row line
@@ -86,11 +93,17 @@ abbrev pub size_text : Option Line → List ℕ
 size_text None = []
 size_text (Some size) = figures_text size_figures size
 
--- a buffer: its name, a bar of what is filled, and its numbers, those of its size too
-abbrev pub buffer_row : (size : Option Line) → Line → List ℕ
-buffer_row size line =
+-- since when a buffer's oldest article is there, where that is told
+abbrev pub oldest_text : Option Line → List ℕ
+oldest_text None = []
+oldest_text (Some oldest) = figures_text oldest_figures oldest
+
+-- a buffer: its name, a bar of what is filled, and its numbers, those of its size and of its oldest
+-- article too
+abbrev pub buffer_row : (size oldest : Option Line) → Line → List ℕ
+buffer_row size oldest line =
     heading line.name ++ bar_text (filled_share size)
-    ++ paragraph (figures_text buffer_figures line ++ size_text size)
+    ++ paragraph (figures_text buffer_figures line ++ size_text size ++ oldest_text oldest)
 
 -- a line of a buffer's size, where it is of the buffer of this name
 abbrev pub named_so : (name : List ℕ) → Line → Option Line
@@ -101,8 +114,15 @@ named_so name size = if bytes_eq size.name name then Some size else None
 abbrev pub size_at : (sizes : List Line) → (place : ℕ) → (name : List ℕ) → Option Line
 size_at sizes place name = option_and_then (named_so name) (slice_get sizes place)
 
--- the buffers from this place on, each with its size
-abbrev pub buffer_rows : (sizes : List Line) → (place : ℕ) → (buffers : List Line) → List ℕ
-buffer_rows sizes place [] = []
-buffer_rows sizes place (buffer ∷ buffers) =
-    buffer_row (size_at sizes place buffer.name) buffer ++ buffer_rows sizes (suc place) buffers
+-- what is told of the oldest article of the buffer of this name, by the first line of that name
+abbrev pub oldest_of : (oldest : List Line) → (name : List ℕ) → Option Line
+oldest_of [] name = None
+oldest_of (line ∷ lines) name =
+    if bytes_eq line.name name then Some line else oldest_of lines name
+
+-- the buffers from this place on, each with its size, and with what is told of its oldest article
+abbrev pub buffer_rows : (sizes oldest : List Line) → (place : ℕ) → (buffers : List Line) → List ℕ
+buffer_rows sizes oldest place [] = []
+buffer_rows sizes oldest place (buffer ∷ buffers) =
+    buffer_row (size_at sizes place buffer.name) (oldest_of oldest buffer.name) buffer
+    ++ buffer_rows sizes oldest (suc place) buffers

@@ -2,13 +2,15 @@
 use Rattle.std.specs.Prelude.{ℕ, Bool, true, false, List, [], ◌∷◌, filter, max, unwrap_or}
 use Rattle.relay_metrics.specs.Lines.{Line}
 use Rattle.relay_metrics.specs.declared.lines.Subject.{Subject}
-use Rattle.relay_metrics.specs.declared.lines.Subject.TheVariants.{Buffer, Feed, Size}
+use Rattle.relay_metrics.specs.declared.lines.Subject.TheVariants.{Buffer, Feed, Oldest, Size}
 use Rattle.relay_page.specs.Bars.{number_at}
 
--- what a line is about is this: a buffer of a relay that is served, or the size of a buffer
+-- what a line is about is this: a buffer of a relay that is served, or the size or the oldest
+-- article of a buffer
 abbrev pub is_about : (subject other : Subject) → Bool
 is_about Buffer Buffer = true
 is_about Size Size = true
+is_about Oldest Oldest = true
 is_about subject other = false
 
 -- the line is about this
@@ -22,6 +24,10 @@ buffers_in lines = filter (is_of Buffer) lines
 -- the lines about buffers' sizes
 abbrev pub sizes_in : List Line → List Line
 sizes_in lines = filter (is_of Size) lines
+
+-- the lines about buffers' oldest articles
+abbrev pub oldest_in : List Line → List Line
+oldest_in lines = filter (is_of Oldest) lines
 
 -- how many tokens wait by a line about this, 0 where that is no feed
 abbrev pub waiting_by : Subject → Line → ℕ

@@ -57,6 +57,13 @@ pub(crate) const SIZE: &[Figure] = &[
     },
 ];
 
+/// The number of a buffer's oldest article.
+pub(crate) const OLDEST: &[Figure] = &[Figure {
+    place: 0,
+    before: b"<span>oldest article since <b>",
+    behind: SPAN_END,
+}];
+
 /// The numbers of a feed.
 pub(crate) const FEED: &[Figure] = &[
     Figure {

@@ -9,8 +9,8 @@ ghost use Rattle.relay_page.specs.Bars.{hundredths};
 ghost use Rattle.relay_page.specs.Figures.{Figure, figures_text, number_text};
 ghost use Rattle.relay_page.specs.Laws.{AreHundredths, has_all_of};
 ghost use Rattle.relay_page.specs.Page.{Section, other_sections, page_of};
-ghost use Rattle.relay_page.specs.Rows.{buffer_row, row_of, size_at};
-ghost use Rattle.relay_page.specs.Selected.{buffers_in, most_waiting, sizes_in};
+ghost use Rattle.relay_page.specs.Rows.{buffer_row, oldest_of, row_of, size_at};
+ghost use Rattle.relay_page.specs.Selected.{buffers_in, most_waiting, oldest_in, sizes_in};
 ghost use Rattle.relay_page.specs.Text.{escaped, is_no_mark, text_read};
 
 /// A name as text has no mark in it that could end the text, or the value of an attribute.
@@ -39,12 +39,14 @@ pub fn rows_are_there()
         (row_of section.part (most_waiting (report_lines report)) line) }
 {}
 
-/// Each buffer is on the page, with the size at its place among the sizes.
+/// Each buffer is on the page, with the size at its place among the sizes, and with what is told of
+/// its oldest article.
 pub fn buffers_are_there()
     ensures { (report : List ℕ) (line : Line) (front back : List Line)
         → buffers_in (report_lines report) ≡ front ++ line ∷ back
         → HasPart (page_of report)
-        (buffer_row (size_at (sizes_in (report_lines report)) (length front) line.name) line) }
+        (buffer_row (size_at (sizes_in (report_lines report)) (length front) line.name)
+        (oldest_of (oldest_in (report_lines report)) line.name) line) }
 {}
 
 /// Each number of each form of line has a place on the page, where it stands as it is written.

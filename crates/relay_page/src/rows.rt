@@ -17,7 +17,7 @@ use std::alloc::AllocError;
 /// A part of the page, by what its lines are about.
 #[derive(Clone, Copy)]
 pub(crate) enum Part {
-    /// That the relay is being repaired.
+    /// That the relay is being repaired, or that it is paused.
     Notice,
     /// The buffers of a relay that is being repaired.
     Repaired,
@@ -35,6 +35,9 @@ pub(crate) enum Part {
 
 /// What is told of a relay that is being repaired.
 const NOTICE: &[u8] = b"<p>The relay is being repaired and serves nobody yet.</p>\n";
+
+/// What is told of a relay that is paused.
+const PAUSED: &[u8] = b"<p>The relay is paused and takes no new articles.</p>\n";
 
 /// Puts what a part of the page has of these lines. In no feed wait more tokens than `most`.
 pub(crate) fn put_rows(
@@ -59,6 +62,7 @@ fn put_row(text: &mut Vec<u8>, part: Part, most: u64, line: &Line<'_>) -> Result
 {
     match (part, line.subject) {
         (Part::Notice, Subject::Recovering) => text.extend_from_slice(NOTICE),
+        (Part::Notice, Subject::Paused) => text.extend_from_slice(PAUSED),
         (Part::Repaired, Subject::Repaired) => put_heading(text, line.name),
         (Part::Feeds, Subject::Feed) => put_feed(text, most, line),
         (Part::Ids, Subject::Ids) => put_ids(text, line),

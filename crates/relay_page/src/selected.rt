@@ -27,7 +27,9 @@ fn is_about(subject: Subject, other: Subject) -> bool
     ensures { result ≡ terms.is_about subject other }
 {
     match (subject, other) {
-        (Subject::Buffer, Subject::Buffer) | (Subject::Size, Subject::Size) => true,
+        (Subject::Buffer, Subject::Buffer)
+        | (Subject::Size, Subject::Size)
+        | (Subject::Oldest, Subject::Oldest) => true,
         _ => false,
     }
 }

@@ -35,14 +35,17 @@ fn text_of(alloc: Global, report: &[u8], lines: &[Line<'_>]) -> Result<Vec<u8>, 
     Ok(text)
 }
 
-/// Puts the buffers of a relay that is served, each with its size.
+/// Puts the buffers of a relay that is served, each with its size, and with what is told of its
+/// oldest article.
 fn put_sized(alloc: Global, text: &mut Vec<u8>, report: &[u8]) -> Result<(), AllocError>
     ensures { OnOk result (text.new.items ≡ text.old.items
         ++ sized_rows (report_lines report.now)) }
 {
     let buffers = lines_about(alloc, report, Subject::Buffer)?;
     let sizes = lines_about(alloc, report, Subject::Size)?;
-    let put = put_buffers(text, &buffers, &sizes);
+    let oldest = lines_about(alloc, report, Subject::Oldest)?;
+    let put = put_buffers(text, &buffers, &sizes, &oldest);
+    drop(oldest);
     drop(sizes);
     drop(buffers);
     put

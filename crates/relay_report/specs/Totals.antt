@@ -6,8 +6,7 @@ use Rattle.relay_report.specs.Text.{report_text}
 use Rattle.relay_report.specs.declared.totals.Totals.{Totals}
 
 -- the report of the totals: a line for each buffer, for each feed and for the message-ids, as in a
--- relay's own; what was accepted and posted, the mismatched receipts and the ids stored again have
--- no line
+-- relay's own; what was accepted and posted, and the mismatched receipts, have no line
 abbrev pub text_of_totals : Totals → List ℕ
 text_of_totals totals =
     let figures = totals.figures in

@@ -15,11 +15,8 @@ pub struct Totals {
     pub accepted: u64,
     /// How many posts the feed desk made.
     pub posted: u64,
-    /// How many kept answers have another register number than the writer's receipt for the same
-    /// job, and how many jobs were in conflict.
+    /// How many kept answers and jobs weren't borne out (docs/PROTOCOL.md, Threads).
     pub mismatched_receipts: u128,
-    /// How many kept jobs there are less their different message-ids.
-    pub ids_stored_again: u128,
 }
 
 // Written out, so that no crate above proves anew how each part is let go.
@@ -30,7 +27,6 @@ impl Drop for Totals {
             accepted: _,
             posted: _,
             mismatched_receipts: _,
-            ids_stored_again: _,
         } = self;
     }
 }

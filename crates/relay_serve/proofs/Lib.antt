@@ -1,6 +1,3 @@
 mod Kept
-mod Repairs
 mod ServeFaults
-mod ShutAgain
 mod Starts
-mod Unsaved

@@ -6,12 +6,12 @@ use Rattle.std.specs.Result.{IsErr, IsErrAnd}
 use Rattle.live_store.specs.declared.record.StorePremises as store_premises
 use Rattle.relay_conf.specs.declared.settings.Config.{Config}
 use Rattle.relay_live.specs.declared.running.Counted.{Counted}
-use Rattle.relay_startup.specs.Files.{IsFileFault}
-use Rattle.relay_startup.specs.History.{IsOriginFault}
+use Rattle.buffer_files.specs.Files.{IsFileFault}
+use Rattle.buffer_files.specs.History.{IsOriginFault}
 use Rattle.relay_ports.specs.Ports.{IsPortFault}
 use Rattle.relay_serve.specs.Running.{RunGives}
 use Rattle.relay_startup.proofs.Faults.{origin_serves}
-use Rattle.relay_startup.specs.Faults.{IsServeFault}
+use Rattle.buffer_files.specs.Faults.{IsServeFault}
 use Rattle.relay_report.specs.Serve.{ServeGives}
 use Rattle.relay_report.specs.declared.fault.ServeError.{ServeError}
 use Rattle.relay_report.specs.declared.fault.ServeError.TheVariants as faults

@@ -14,16 +14,17 @@ use Rattle.relay_live.specs.declared.shared.Shared.{Shared}
 use Rattle.live_store.specs.declared.record.StorePremises as store_premises
 use Rattle.relay_report.specs.declared.fault.ServeError.{ServeError}
 use Rattle.relay_report.specs.declared.fault.ServeError.TheVariants as faults
-use Rattle.relay_startup.specs.Files.{IsFaultAt}
-use Rattle.relay_serve.specs.Lives.{Finishes, IsNoStart, IsUnbegun, IsUnstartedAs, RunsRelay}
-use Rattle.relay_serve.specs.Lives.{StartsAsTold}
+use Rattle.buffer_files.specs.Files.{IsFaultAt}
+use Rattle.relay_serve.specs.Lives.{Finishes, IsNoStart, IsUnbegun, RunsRelay, StartsAsTold}
 use Rattle.relay_serve.specs.RunTotals.{totals_in}
 use Rattle.relay_serve.specs.Running.{CountsOf, Ran}
 use Rattle.relay_serve.specs.declared.running.Finished.{Finished}
 use Rattle.relay_startup.proofs.Faults.{refusal_stays, relay_serves, run_serves, stop_stays}
 use Rattle.relay_startup.proofs.Faults.{unbegun_runs}
-use Rattle.relay_startup.specs.Faults.{IsRelayFault, IsRunFault, IsServeFault, IsStopFault}
-use Rattle.relay_startup.specs.Faults.{unbegun_as}
+use Rattle.relay_startup.specs.Starting.{IsUnstartedAs}
+use Rattle.buffer_files.specs.Faults.{IsRelayFault, IsRunFault, IsServeFault, IsStopFault}
+use Rattle.buffer_files.specs.Faults.{unbegun_as}
+use Rattle.post_history.specs.declared.book.Naming as naming
 
 -- What ends a run isn't that it can't start,
 pub run_other : (error : ServeError) → IsRunFault error → IsNoStart error
@@ -144,8 +145,9 @@ unbegun_gives g j config stores origin peers error unbegun = record {
 }
 
 -- One that was run and stopped comes to what was counted, or why it isn't stopped.
-pub finished_gives : {S J L : Type 0} {s : Ghosts S} {j : store_premises.Ghosts J}
-    (config : Config) (shared : Shared S J L s j) (stores : List S) (origin : Origin)
+pub finished_gives : {S J L : Type 0} {s : Ghosts S}
+    {j : store_premises.Ghosts J} {n : naming.Ghosts J}
+    (config : Config) (shared : Shared S J L s j n) (stores : List S) (origin : Origin)
     (peers : List ℕ) (counts : Counted) (result : Result (Finished S) ServeError)
     → Ran j config peers counts → Finishes config shared counts result
     → RunsRelay s j config stores origin peers result

@@ -1,9 +1,6 @@
-pub mod Desks
 pub mod Figures
 pub mod Filled
 pub mod Lives
-pub mod Moments
-pub mod Recovering
-pub mod Repairing
+pub mod Pausing
 pub mod RunTotals
 pub mod Running

@@ -1,6 +1,6 @@
 -- How a relay is started and stopped from one life to the next, and why it isn't (docs/PROTOCOL.md,
 -- Clean stop and start).
-use Rattle.std.specs.Prelude.{◌≡◌, ℕ, List, length}
+use Rattle.std.specs.Prelude.{◌≡◌, ℕ, List, [], length}
 use Rattle.std.specs.Prelude.{Result, IfErr, IfOk}
 use Rattle.std.specs.IoError.{error_kind}
 use Rattle.cyc_block.specs.declared.store.BlockStore as blocks
@@ -25,19 +25,19 @@ use Rattle.relay_report.specs.declared.keeping.StopFault.TheVariants as stops
 use Rattle.relay_serve.specs.RunTotals.{totals_in}
 use Rattle.relay_serve.specs.Running.{CountsOf, Ran}
 use Rattle.relay_serve.specs.declared.running.Finished.{Finished}
-use Rattle.relay_startup.specs.Faults.{IsRelayFault, IsStopFault, unbegun_as}
-use Rattle.relay_startup.specs.Starting.{IsRefusal}
+use Rattle.buffer_files.specs.Faults.{IsRelayFault, IsStopFault, unbegun_as}
+use Rattle.relay_startup.specs.Starting.{IsUnstartedAs}
+use Rattle.post_history.specs.declared.book.Naming as naming
 
 -- where a relay is to begin from what it was stopped with, each store holds its buffer as stopped
 abbrev pub AreOfOrigin : {S : Type 0} → blocks.Ghosts S → Origin → (stores : List S) → Type 0
 AreOfOrigin g origins.Formatted stores = Unit {0}
 AreOfOrigin g (origins.Stopped text) stores = WereStopped g stores
 
--- why a relay isn't started is told so
-abbrev pub IsUnstartedAs : {S : Type 0} → Buffers → NotStarted S → ServeError → Type 0
-IsUnstartedAs settings (nots.Host why back) error = error ≡ unbegun_as (error_kind why)
-IsUnstartedAs settings (nots.Refused refused) error =
-    IsRefusal settings refused.buffer refused.error error
+-- the text of the history that a relay begins from; none where it begins from nothing
+abbrev pub text_in : Origin → List ℕ
+text_in origins.Formatted = []
+text_in (origins.Stopped text) = text.items
 
 -- The error tells why a relay isn't started from these stores and this history: for the first
 -- reason that there is.
@@ -70,25 +70,28 @@ IsUnbegun g config stores (origins.Stopped text) error =
     TellsStart g config stores text.items error
 
 -- why a relay isn't stopped so that it can start again is told so
-abbrev pub stopped_as : {S J L : Type 0} {s : blocks.Ghosts S} {j : store_premises.Ghosts J}
-    → Unshut S J L s j → ServeError
+abbrev pub stopped_as : {S J L : Type 0} {s : blocks.Ghosts S}
+    {j : store_premises.Ghosts J} {n : naming.Ghosts J}
+    → Unshut S J L s j n → ServeError
 stopped_as (unshut.NotIdle shared) = faults.Stop stops.NotIdle
 stopped_as (unshut.Memory shared want) = faults.Memory
 stopped_as (unshut.Device number stores) = faults.Stop stops.Device
 
 -- the error tells why this relay isn't stopped: for the first reason that there is
-pub record TellsStop {S J L : Type 0} {s : blocks.Ghosts S} {j : store_premises.Ghosts J}
-    (shared : Shared S J L s j) (error : ServeError) : Type 0 where
-  pub refused : Unshut S J L s j
+pub record TellsStop {S J L : Type 0} {s : blocks.Ghosts S}
+    {j : store_premises.Ghosts J} {n : naming.Ghosts J}
+    (shared : Shared S J L s j n) (error : ServeError) : Type 0 where
+  pub refused : Unshut S J L s j n
   pub rightly : IsUnshut shared refused
   pub told : error ≡ stopped_as refused
 
 -- A relay whose threads have ended, and of which this was counted, is stopped: what was counted,
 -- totals of its configuration with the same numbers, and a store of each buffer; or why it isn't
 -- stopped, for the first reason that there is.
-pub record StopsCounted {S J L : Type 0} {s : blocks.Ghosts S} {j : store_premises.Ghosts J}
-    (config : Config) (shared : Shared S J L s j) (counts : Counted)
-    (result : Result (Finished S) (Unshut S J L s j)) : Type 0 where
+pub record StopsCounted {S J L : Type 0} {s : blocks.Ghosts S}
+    {j : store_premises.Ghosts J} {n : naming.Ghosts J}
+    (config : Config) (shared : Shared S J L s j n) (counts : Counted)
+    (result : Result (Finished S) (Unshut S J L s j n)) : Type 0 where
   pub counted : IfOk result (λ run. run.counted ≡ counts)
   pub totals : IfOk result (λ run. IfOk (totals_in run.totals) (AreOf config))
   pub numbers : IfOk result (λ run. IfOk (totals_in run.totals) (λ totals. CountsOf totals counts))
@@ -98,8 +101,9 @@ pub record StopsCounted {S J L : Type 0} {s : blocks.Ghosts S} {j : store_premis
 -- What a relay comes to whose threads have ended, and of which this was counted: what was counted,
 -- totals of its configuration with the same numbers, and a store of each buffer; or the error tells
 -- why it isn't stopped.
-pub record Finishes {S J L : Type 0} {s : blocks.Ghosts S} {j : store_premises.Ghosts J}
-    (config : Config) (shared : Shared S J L s j) (counts : Counted)
+pub record Finishes {S J L : Type 0} {s : blocks.Ghosts S}
+    {j : store_premises.Ghosts J} {n : naming.Ghosts J}
+    (config : Config) (shared : Shared S J L s j n) (counts : Counted)
     (result : Result (Finished S) ServeError) : Type 0 where
   pub counted : IfOk result (λ run. run.counted ≡ counts)
   pub totals : IfOk result (λ run. IfOk (totals_in run.totals) (AreOf config))

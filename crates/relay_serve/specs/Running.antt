@@ -4,7 +4,6 @@ use Rattle.std.specs.Prelude.{ℕ, List, length, slice_get, Some, if◌then◌el
 use Rattle.std.specs.Prelude.{Result, IfErr, IfOk}
 use Rattle.article_verdict.specs.Config.{terms_of}
 use Rattle.job_queue.specs.declared.parcel.Handed.{Handed}
-use Rattle.live_jobs.specs.StoredAgain.{ids_stored_again_in}
 use Rattle.live_jobs.specs.StoreResults.{FitsJob, is_kept}
 use Rattle.live_jobs.specs.Mismatches.{mismatched_receipts_in}
 use Rattle.live_jobs.specs.declared.store_result.StoreResult.{StoreResult}
@@ -15,7 +14,6 @@ use Rattle.live_store.specs.declared.record.StorePremises.{Ghosts}
 use Rattle.relay_conf.specs.declared.settings.Config.{Config}
 use Rattle.live_jobs.specs.Desks.{posts_in}
 use Rattle.relay_live.specs.Counts.{accepted_in, posted_in, mismatched_receipts_of}
-use Rattle.relay_live.specs.Counts.{ids_stored_again_of}
 use Rattle.relay_live.specs.Sessions.{Accounted, HasLists}
 use Rattle.relay_live.specs.declared.running.Counted.{Counted}
 use Rattle.relay_live.specs.declared.running.LiveError.{LiveError}
@@ -23,7 +21,7 @@ use Rattle.relay_live.specs.declared.running.LiveError.TheVariants as errors
 use Rattle.relay_report.specs.declared.totals.Totals.{Totals}
 use Rattle.relay_report.specs.declared.fault.ServeError.{ServeError}
 use Rattle.relay_report.specs.declared.fault.ServeError.TheVariants as faults
-use Rattle.relay_startup.specs.Faults.{IsRunFault}
+use Rattle.buffer_files.specs.Faults.{IsRunFault}
 
 -- why its threads ended before they had served: memory was refused, or no thread was to be had
 abbrev pub ended_as : LiveError → ServeError
@@ -63,7 +61,6 @@ pub record Ran {J : Type 0} (g : Ghosts J) (config : Config) (peers : List ℕ) 
   pub accepted : accepted_in counted ≡ kept_by_all is_kept finished
   pub posted : posts_in (posted_in counted) ≡ accepted_in counted
   pub mismatched_receipts : mismatched_receipts_of counted ≡ mismatched_receipts_in kept finished
-  pub ids_stored_again : ids_stored_again_of counted ≡ ids_stored_again_in finished
 
 -- what was counted is of a run of these ends, or an error ended it
 pub record RunGives {J : Type 0} (g : Ghosts J) (config : Config) (peers : List ℕ)
@@ -85,4 +82,3 @@ pub record CountsOf (totals : Totals) (counted : Counted) : Type 0 where
   pub accepted : totals.accepted ≡ accepted_in counted
   pub posted : totals.posted ≡ posts_in (posted_in counted)
   pub mismatched_receipts : totals.mismatched_receipts ≡ mismatched_receipts_of counted
-  pub ids_stored_again : totals.ids_stored_again ≡ ids_stored_again_of counted

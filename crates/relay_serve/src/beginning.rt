@@ -4,20 +4,19 @@ ghost use Rattle.file_blocks.specs.Store.{count_of};
 ghost use Rattle.relay_report.specs.Serve.{AreOf, ServeGives};
 ghost use Rattle.relay_serve.specs.RunTotals.{totals_in};
 ghost use Rattle.relay_devices.specs.Watched.{store_in};
-ghost use Rattle.relay_startup.specs.Faults.{IsServeFault};
+ghost use Rattle.buffer_files.specs.Faults.{IsServeFault};
 
-use crate::clock::MachineClock;
-use crate::desk::Desk;
 use crate::keeping::keep_finished;
-use crate::places::HistoryPlaces;
-use crate::repairing::begin_again;
 use crate::running::{Finished, Records, Surroundings, channels_of, run_relay};
-use crate::side_thread::Writers;
+use buffer_files::{Beginning, Unbegun, begin_over};
 use file_blocks::FileBlocks;
 use live_journal::PendingJournal;
 use live_store::ArticleLog;
 use live_wire::Port;
 use news_log::{NewsFile, NewsLines, NewsWriting};
+use post_history::Opened;
+use relay_ages::AgesDesk;
+use relay_attendant::{Attendant, MachineClock, Writers};
 use relay_conf::Config;
 use relay_devices::{Watched, watch};
 use relay_folder::{HistoryPlace, JournalFile, JournalPlace, Origin};
@@ -27,8 +26,9 @@ use relay_journal::{
     begin_journal,
 };
 use relay_live::PeerSource;
+use relay_recovery::{HistoryPlaces, begin_again};
 use relay_report::{ServeError, Totals, print_totals};
-use relay_startup::{Beginning, Unbegun, begin_over, complete_first, stop_begun};
+use relay_startup::{complete_first, stop_begun};
 use std::alloc::Global;
 use std::fs::{File, Files};
 use std::io::Write;
@@ -41,13 +41,15 @@ use std::time::Clock;
 
 /// How a relay is had from outside.
 #[derive(Drop)]
-pub(crate) struct Access<'a, N, M> {
+pub(crate) struct Access<'a, N, M, G> {
     /// The ports of its peers.
     pub(crate) peer_sources: Vec<PeerSource<Port<'a>>>,
     pub(crate) gate: &'a CountingGate<'a>,
-    pub(crate) desk: &'a Desk<'a>,
+    pub(crate) desk: &'a Attendant<'a>,
     /// What writes its news log, where it has one.
     pub(crate) news: Option<NewsWriting<'a, N, M>>,
+    /// Where the marks of its buffers are kept.
+    pub(crate) ages: G,
 }
 
 /// Finds out what the relay begins from, runs it, keeps its history once all that its stores were
@@ -57,6 +59,7 @@ pub(crate) fn begin_and_run<
     R,
     N: NewsFile + Drop + Send,
     M: NewsLines + Drop + Send,
+    G: HistoryPlace + Drop + Send,
     H: HistoryPlace,
     K: HistoryPlace,
     P: JournalPlace,
@@ -69,7 +72,7 @@ pub(crate) fn begin_and_run<
     unbegun: Unbegun,
     places: &mut HistoryPlaces<H, K>,
     journal: &mut ToldJournal<P, L>,
-    access: Access<'_, N, M>,
+    access: Access<'_, N, M, G>,
     writer: &mut W,
 ) -> Result<(), ServeError>
 where
@@ -95,13 +98,11 @@ where
     printed
 }
 
-/// Tells of how many kept articles the receipt was not the writer's, and how many ids were stored
-/// again, where there is any.
+/// Tells of how many kept articles the receipt was not the writer's, where there is any.
 fn tell_counted<R: Eprint>(rt: &R, totals: &Totals) {
     let mismatched = totals.mismatched_receipts;
-    let again = totals.ids_stored_again;
-    if mismatched > 0 || again > 0 {
-        let _lost = eprintln!(rt; "counted mismatched={mismatched} again={again}");
+    if mismatched > 0 {
+        let _lost = eprintln!(rt; "counted mismatched={mismatched}");
     }
 }
 
@@ -121,6 +122,7 @@ fn run_begun<
     R,
     N: NewsFile + Drop + Send,
     M: NewsLines + Drop + Send,
+    G: HistoryPlace + Drop + Send,
     H: HistoryPlace,
     K: HistoryPlace,
     P: JournalPlace,
@@ -132,7 +134,7 @@ fn run_begun<
     begun: Beginning<FileBlocks>,
     places: &mut HistoryPlaces<H, K>,
     journal: &mut ToldJournal<P, L>,
-    access: Access<'_, N, M>,
+    access: Access<'_, N, M, G>,
 ) -> Result<Finished<Watched<'a, FileBlocks, R>>, ServeError>
 where
     R: Threads + Wait + Clock + Eprint + Files<File = File> + RandomSource + Sync,
@@ -158,6 +160,7 @@ fn run_watched<
     R,
     N: NewsFile + Drop + Send,
     M: NewsLines + Drop + Send,
+    G: HistoryPlace + Drop + Send,
     O: JournalFile + Drop + Send,
 >(
     rt: &'a R,
@@ -165,7 +168,7 @@ fn run_watched<
     config: &'a Config,
     beginning: Beginning<Watched<'a, FileBlocks, R>>,
     begun_journal: Option<BegunJournal<O>>,
-    access: Access<'_, N, M>,
+    access: Access<'_, N, M, G>,
 ) -> Result<Finished<Watched<'a, FileBlocks, R>>, ServeError>
 where
     R: Threads + Wait + Clock + Eprint + Files<File = File> + RandomSource + Sync,
@@ -187,7 +190,8 @@ where
         None => None,
     };
     let news = access.news;
-    run_relay::<Watched<'a, FileBlocks, R>, Brand, Brand, O, PrintedLines<'a, R>, N, M, R>(
+    let ages = AgesDesk::begun(rt, alloc, config, access.ages, &beginning.origin)?;
+    run_relay::<Watched<'a, FileBlocks, R>, Brand, Brand, O, PrintedLines<'a, R>, N, M, G, R>(
         rt,
         alloc,
         config,
@@ -195,12 +199,14 @@ where
         Records {
             register: &register,
             blank: Blank::new(channels_of(config) as u64),
+            opened: Opened::new(),
         },
         access.peer_sources,
         Surroundings {
             clock: &clock,
             gate: access.gate,
             side: access.desk,
+            ages: &ages,
             pending: &pending,
             writers: Writers { journaling, news },
         },

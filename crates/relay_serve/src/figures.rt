@@ -16,6 +16,7 @@ use cyc_block::BlockStore;
 use feed_queue::Counts;
 use line_words::Octets;
 use live_store::StorePremises;
+use post_history::Naming;
 use relay_conf::{Config, Feed, Peer};
 use relay_live::{Counted, Shared};
 use relay_report::{FeedFigures, Figures, NamedBuffer, NamedFeed, Totals};
@@ -24,7 +25,7 @@ use std::sync::Wait;
 use std::sync::ledger::Ledger;
 
 /// What was counted of a run, with the figures of what its threads share.
-pub(crate) fn totals_of<S: BlockStore + Drop, J: StorePremises, L: Ledger, R: Wait>(
+pub(crate) fn totals_of<S: BlockStore + Drop, J: StorePremises + Naming, L: Ledger, R: Wait>(
     rt: &R,
     alloc: Global,
     config: &Config,
@@ -40,7 +41,7 @@ pub(crate) fn totals_of<S: BlockStore + Drop, J: StorePremises, L: Ledger, R: Wa
 }
 
 /// The same, where there is memory for it.
-fn try_totals<S: BlockStore + Drop, J: StorePremises, L: Ledger, R: Wait>(
+fn try_totals<S: BlockStore + Drop, J: StorePremises + Naming, L: Ledger, R: Wait>(
     rt: &R,
     alloc: Global,
     config: &Config,
@@ -57,12 +58,11 @@ fn try_totals<S: BlockStore + Drop, J: StorePremises, L: Ledger, R: Wait>(
         accepted: counted.accepted(),
         posted: counted.posted().count(),
         mismatched_receipts: counted.mismatched_receipts(),
-        ids_stored_again: counted.ids_stored_again(),
     })
 }
 
 /// The figures of what the threads of a relay share: each lock is taken once, one after the other.
-pub(crate) fn figures_of<S: BlockStore + Drop, J: StorePremises, L: Ledger, R: Wait>(
+pub(crate) fn figures_of<S: BlockStore + Drop, J: StorePremises + Naming, L: Ledger, R: Wait>(
     rt: &R,
     alloc: Global,
     config: &Config,
@@ -81,7 +81,7 @@ pub(crate) fn figures_of<S: BlockStore + Drop, J: StorePremises, L: Ledger, R: W
 }
 
 /// Each buffer with its figures.
-fn buffers_of<S: BlockStore + Drop, J: StorePremises, L: Ledger, R: Wait>(
+fn buffers_of<S: BlockStore + Drop, J: StorePremises + Naming, L: Ledger, R: Wait>(
     rt: &R,
     alloc: Global,
     config: &Config,
@@ -104,7 +104,7 @@ fn buffers_of<S: BlockStore + Drop, J: StorePremises, L: Ledger, R: Wait>(
 }
 
 /// Each feed with its figures.
-fn feeds_of<S: BlockStore + Drop, J: StorePremises, L: Ledger, R: Wait>(
+fn feeds_of<S: BlockStore + Drop, J: StorePremises + Naming, L: Ledger, R: Wait>(
     rt: &R,
     alloc: Global,
     config: &Config,

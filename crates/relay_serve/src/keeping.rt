@@ -1,12 +1,13 @@
 //! What a relay that has run was stopped with is kept.
 ghost use Rattle.std.specs.Prelude.{◌≡◌, ◌∷◌, [], Ok, Some, IfErr, IfOk};
 ghost use Rattle.relay_serve.specs.RunTotals.{totals_in};
-ghost use Rattle.relay_startup.specs.Faults.{IsStopFault};
+ghost use Rattle.buffer_files.specs.Faults.{IsStopFault};
 
 use crate::running::Finished;
+use buffer_files::Synced;
 use relay_folder::HistoryPlace;
 use relay_report::{ServeError, Totals};
-use relay_startup::{Synced, keep_stopped};
+use relay_startup::keep_stopped;
 
 /// Keeps what a relay that has run was stopped with, and gives its totals, where there was memory
 /// for them.

@@ -8,18 +8,14 @@
 #![tactic(auto)]
 
 mod beginning;
-mod clock;
-mod desk;
 mod figures;
 mod filled;
 mod keeping;
 mod lives;
-mod places;
-mod recovering;
-mod repairing;
+mod pausing;
 mod run_totals;
 mod running;
+mod served;
 mod serving;
-mod side_thread;
 
 pub use serving::serve_on;

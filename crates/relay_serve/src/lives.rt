@@ -1,42 +1,25 @@
-//! What a relay's threads share is stopped, and why it isn't started or stopped.
+//! What a relay's threads share is stopped, and why it isn't.
 ghost use Rattle.std.specs.Prelude.{◌≡◌, length};
 ghost use Rattle.live_jobs.specs.Desks.{posts_in};
 ghost use Rattle.relay_live.specs.Counts.{accepted_in, posted_in};
 ghost use Rattle.relay_live.specs.Making.{buffers_in};
-ghost use Rattle.relay_serve.specs.Lives.{Finishes, IsUnstartedAs, StopsCounted, stopped_as};
-ghost use Rattle.relay_startup.specs.Faults.{IsStopFault};
+ghost use Rattle.relay_serve.specs.Lives.{Finishes, StopsCounted, stopped_as};
+ghost use Rattle.buffer_files.specs.Faults.{IsStopFault};
 
 use crate::figures::totals_of;
 use crate::running::Finished;
 use cyc_block::BlockStore;
 use live_store::StorePremises;
+use post_history::Naming;
 use relay_conf::Config;
-use relay_core::NotStarted;
-use relay_live::{Counted, Shared, Unshut};
+use relay_live::{Audit, Counted, Shared, Shut, Unshut};
 use relay_report::{ServeError, StopFault};
-use relay_startup::{refusal, unbegun};
 use std::alloc::Global;
 use std::sync::Wait;
 use std::sync::ledger::Ledger;
 
-/// Why a relay isn't started over the stores of a configuration.
-pub(crate) fn unstarted<S: Drop>(
-    alloc: Global,
-    config: &Config,
-    refused: NotStarted<S>,
-) -> ServeError
-    ensures { IsUnstartedAs config.now.buffers refused result }
-{
-    match refused {
-        NotStarted::Host(error, _stores) => unbegun(error.kind()),
-        NotStarted::Refused(refused) => {
-            refusal(alloc, &config.buffers, refused.buffer, refused.error)
-        }
-    }
-}
-
 /// Stops a relay whose threads have ended, of which this was counted.
-pub(crate) fn finish<S: BlockStore + Drop, J: StorePremises, L: Ledger, R: Wait>(
+pub(crate) fn finish<S: BlockStore + Drop, J: StorePremises + Naming, L: Ledger, R: Wait + Eprint>(
     rt: &R,
     alloc: Global,
     config: &Config,
@@ -58,7 +41,7 @@ pub(crate) fn finish<S: BlockStore + Drop, J: StorePremises, L: Ledger, R: Wait>
 }
 
 /// Stops it, whether or not there is memory for its totals: only `Shared::shut` refuses.
-fn stop_counted<S: BlockStore + Drop, J: StorePremises, L: Ledger, R: Wait>(
+fn stop_counted<S: BlockStore + Drop, J: StorePremises + Naming, L: Ledger, R: Wait + Eprint>(
     rt: &R,
     alloc: Global,
     config: &Config,
@@ -71,11 +54,15 @@ fn stop_counted<S: BlockStore + Drop, J: StorePremises, L: Ledger, R: Wait>(
 {
     let totals = totals_of(rt, alloc, config, &shared, &counted);
     match shared.shut(alloc) {
-        Ok(stopped) => Ok(Finished {
-            counted,
-            totals,
-            stopped,
-        }),
+        Ok(shut) => {
+            let Shut { stopped, audit } = shut;
+            tell_audit(rt, &audit);
+            Ok(Finished {
+                counted,
+                totals,
+                stopped,
+            })
+        }
         Err(refused) => {
             drop(totals);
             Err(refused)
@@ -83,8 +70,16 @@ fn stop_counted<S: BlockStore + Drop, J: StorePremises, L: Ledger, R: Wait>(
     }
 }
 
+/// Tells that the desk and the shards don't agree on what was posted, where it is so: a fault of
+/// the program.
+pub(crate) fn tell_audit<J: Naming, R: Eprint>(rt: &R, audit: &Audit<J>) {
+    if audit.differs() {
+        let _lost = eprintln!(rt; "counted posts=differ");
+    }
+}
+
 /// Why a relay isn't stopped so that it can start again.
-fn unstopped<S: BlockStore + Drop, J: StorePremises, L: Ledger>(
+fn unstopped<S: BlockStore + Drop, J: StorePremises + Naming, L: Ledger>(
     refused: &Unshut<S, J, L>,
 ) -> ServeError
     ensures error { result ≡ stopped_as refused.now }

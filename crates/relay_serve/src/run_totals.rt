@@ -1,7 +1,7 @@
 //! The totals of a run, before its history is kept.
 ghost use Rattle.std.specs.Prelude.{◌≡◌, Ok, IfErr, IfOk, IsOk, OnOk};
 ghost use Rattle.relay_serve.specs.RunTotals.{totals_in};
-ghost use Rattle.relay_startup.specs.Faults.{IsStopFault};
+ghost use Rattle.buffer_files.specs.Faults.{IsStopFault};
 
 use relay_report::{ServeError, Totals};
 use std::alloc::AllocError;

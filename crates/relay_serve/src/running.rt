@@ -2,35 +2,39 @@
 ghost use Rattle.std.specs.Prelude.{◌≡◌, ◌<◌, ◌^◌, ◌⊎◌, true, All, List, Ok, Err, IfErr, IfOk};
 ghost use Rattle.std.specs.Prelude.{length, map};
 ghost use Rattle.block_shelf.specs.Filling.{IsBeginRefusal};
+ghost use Rattle.feed_queue.specs.Feeds.{ring_size};
+ghost use Rattle.post_history.specs.Opening.{book_in};
 ghost use Rattle.relay_live.specs.Holding.{has_buffer};
 ghost use Rattle.relay_live.specs.Making.{buffers_in, ends_in, slots_of};
-ghost use Rattle.relay_serve.specs.Lives.{AreOfOrigin, IsNoStart, IsUnbegun, RunsRelay};
+ghost use Rattle.relay_serve.specs.Lives.{AreOfOrigin, IsNoStart, IsUnbegun, RunsRelay, text_in};
 ghost use Rattle.relay_serve.specs.Running.{CanRun};
 ghost use Rattle.relay_serve.specs.Running.{RunGives};
 ghost use Rattle.relay_serve.specs.Running.{ended_as};
 ghost use Rattle.relay_serve.specs.Running.{channel_count};
-ghost use Rattle.relay_startup.specs.Faults.{IsRelayFault, IsRunFault};
+ghost use Rattle.buffer_files.specs.Faults.{IsRelayFault, IsRunFault};
 ghost use Rattle.relay_report.specs.declared.fault.ServeError.TheVariants as faults;
 
-use crate::clock::MachineClock;
-use crate::desk::Desk;
-use crate::lives::{finish, unstarted};
+use crate::lives::{finish, tell_audit};
 use crate::run_totals::RunTotals;
-use crate::side_thread::{Figured, Served, Writers, start_beside};
+use crate::served::Served;
 use block_shelf::BeginError;
+use buffer_files::{Beginning, Looked, hasher_of, unbegun, unformatted};
 use cyc_block::BlockStore;
 use live_journal::PendingJournal;
 use live_store::{ArticleLog, StorePremises};
 use live_wire::Port;
 use news_log::{NewsFile, NewsLines};
+use post_history::{Naming, Opened};
+use relay_ages::AgesDesk;
+use relay_attendant::{Attendant, Figured, MachineClock, Writers, start_beside};
 use relay_conf::Config;
 use relay_core::Stopped;
-use relay_folder::{JournalFile, Origin};
+use relay_folder::{HistoryPlace, JournalFile, Origin};
 use relay_gate::CountingGate;
 use relay_journal::JournalLines;
 use relay_live::{Counted, Keeper, LiveError, PeerSource, RegisterRef, Serving, Shared, serve_all};
 use relay_report::ServeError;
-use relay_startup::{Beginning, Looked, hasher_of, unbegun, unformatted};
+use relay_startup::unstarted;
 use std::alloc::Global;
 use std::random::RandomSource;
 use std::sync::Wait;
@@ -57,17 +61,21 @@ pub(crate) struct Records<'a> {
     pub register: &'a ArticleLog,
     /// The ledger of the posts before it is opened, with a part for each writer.
     pub blank: Blank,
+    /// The book of the posts before it has a name.
+    pub opened: Opened,
 }
 
 /// What stands around a relay.
 #[derive(Drop)]
-pub(crate) struct Surroundings<'a, O, K, N, M, R> {
+pub(crate) struct Surroundings<'a, O, K, N, M, G, R> {
     /// The clock that it goes by.
     pub clock: &'a MachineClock<'a, R>,
     /// What lets its sessions' commands in, and is told of them.
     pub gate: &'a CountingGate<'a>,
     /// What goes on beside it.
-    pub side: &'a Desk<'a>,
+    pub side: &'a Attendant<'a>,
+    /// The marks of its buffers.
+    pub ages: &'a AgesDesk<G>,
     /// What is said to its journal.
     pub pending: &'a PendingJournal,
     /// What is written beside it.
@@ -84,12 +92,13 @@ pub(crate) struct Surroundings<'a, O, K, N, M, R> {
 /// when it was formatted; what was served before stands, and nothing is counted.
 pub(crate) fn run_relay<
     S: BlockStore + Looked + Drop + Send,
-    J: StorePremises + Send + Sync,
+    J: StorePremises + Naming + Send + Sync,
     L: Ledger + Send + Sync,
     O: JournalFile + Drop + Send,
     K: JournalLines + Drop + Send,
     N: NewsFile + Drop + Send,
     M: NewsLines + Drop + Send,
+    G: HistoryPlace + Drop + Send,
     R: Threads + Wait + Clock + Eprint + RandomSource + Sync,
 >(
     rt: &R,
@@ -98,11 +107,14 @@ pub(crate) fn run_relay<
     beginning: Beginning<S>,
     records: Records<'_>,
     peer_sources: Vec<PeerSource<Port<'_>>>,
-    surroundings: Surroundings<'_, O, K, N, M, R>,
+    surroundings: Surroundings<'_, O, K, N, M, G, R>,
 ) -> Result<Finished<S>, ServeError>
     requires register { records.register.now ≡ J.register }
     requires holds { J.holds ≡ has_buffer config.now.buffers }
     requires name { records.blank.name ≡ L.name }
+    requires posts { (book_in records.opened ≡ J.book)
+        × (J.began ≡ text_in beginning.origin) }
+    requires rings { J.rings ≡ map ring_size config.now.relay.feeds.items }
     requires parts { (records.blank.parts ≡ L.parts)
         × (records.blank.parts ≡ channel_count config.now) }
     requires stores { map (λ store. length (S.blocks store)) beginning.stores.items
@@ -117,14 +129,21 @@ pub(crate) fn run_relay<
 {
     // A relay that was started and can't be served would have lost what it was stopped with.
     let hasher = hasher_of(rt)?;
-    let Records { register, blank } = records;
+    let Records {
+        register,
+        blank,
+        opened,
+    } = records;
     let (book, all) = blank.open::<L>();
     let ends = peer_sources.len();
-    let shared = begun_by::<S, J, L, R>(rt, alloc, config, register, beginning, book, ends)?;
+    let shared = begun_by::<S, J, L, R>(
+        rt, alloc, config, register, beginning, book, opened, ends,
+    )?;
     let Surroundings {
         clock,
         gate,
         side,
+        ages,
         pending,
         writers,
     } = surroundings;
@@ -135,7 +154,7 @@ pub(crate) fn run_relay<
         peer_sources,
     };
     let counted = attended(
-        rt, alloc, register, &shared, serving, all, clock, side, pending, writers,
+        rt, alloc, register, &shared, serving, all, clock, side, ages, pending, writers,
     );
     match counted {
         Ok(counted) => finish(rt, alloc, config, shared, counted),
@@ -148,13 +167,19 @@ pub(crate) fn run_relay<
 
 /// What so many ends share over these stores, from nothing or from what it was stopped with: then
 /// nothing is written until it is known that it starts.
-fn begun_by<S: BlockStore + Looked + Drop, J: StorePremises, L: Ledger, R: RandomSource + Wait>(
+fn begun_by<
+    S: BlockStore + Looked + Drop + Send,
+    J: StorePremises + Naming + Send + Sync,
+    L: Ledger,
+    R: RandomSource + Threads + Wait + Sync,
+>(
     rt: &R,
     alloc: Global,
     config: &Config,
     register: &ArticleLog,
     beginning: Beginning<S>,
     book: Book<L>,
+    opened: Opened,
     ends: usize,
 ) -> Result<Shared<S, J, L>, ServeError>
     requires register { register.now ≡ J.register }
@@ -164,6 +189,8 @@ fn begun_by<S: BlockStore + Looked + Drop, J: StorePremises, L: Ledger, R: Rando
     requires stopped { J.trusted ≡ true
         → AreOfOrigin ⟦<S as BlockStore>⟧ beginning.origin beginning.stores.items }
     requires book { book.total ≡ 0 }
+    requires posts { (book_in opened ≡ J.book) × (J.began ≡ text_in beginning.origin) }
+    requires rings { J.rings ≡ map ring_size config.now.relay.feeds.items }
     ensures buffers { IfOk result (λ shared.
         buffers_in shared ≡ length config.now.buffers.buffers.items) }
     ensures ends { IfOk result (λ shared. ends_in shared ≡ ends) }
@@ -176,13 +203,13 @@ fn begun_by<S: BlockStore + Looked + Drop, J: StorePremises, L: Ledger, R: Rando
         fresh: _,
     } = beginning;
     match origin {
-        Origin::Formatted => match Shared::new(rt, alloc, config, stores, book, ends) {
+        Origin::Formatted => match Shared::new(rt, alloc, config, stores, book, opened, ends) {
             Ok(shared) => Ok(shared),
             Err(error) => Err(unshared(alloc, config, error)),
         },
         Origin::Stopped(history) => {
             let stopped = Stopped { stores, history };
-            match Shared::start(rt, alloc, config, register, stopped, book, ends) {
+            match Shared::start(rt, alloc, config, register, stopped, book, opened, ends) {
                 Ok(shared) => Ok(shared),
                 Err(refused) => Err(unstarted(alloc, config, refused)),
             }
@@ -211,7 +238,7 @@ fn unshared<S: BlockStore + Drop>(
 fn run_shared<
     'a,
     S: BlockStore + Drop + Send,
-    J: StorePremises + Send + Sync,
+    J: StorePremises + Naming + Send + Sync,
     L: Ledger + Send + Sync,
     Q: RegisterRef + Sync,
     R: Threads + Wait + Clock + Eprint + Sync,
@@ -229,7 +256,10 @@ fn run_shared<
 {
     let groups = channels_of(serving.config);
     match serve_all(rt, alloc, keeper, serving, groups, all) {
-        Ok(ran) => Ok(ran.into_counted()),
+        Ok(ran) => {
+            tell_audit(rt, &ran.audit);
+            Ok(ran.into_counted())
+        }
         Err(error) => Err(ended(error)),
     }
 }
@@ -239,12 +269,13 @@ fn run_shared<
 fn attended<
     'a,
     S: BlockStore + Drop + Send,
-    J: StorePremises + Send + Sync,
+    J: StorePremises + Naming + Send + Sync,
     L: Ledger + Send + Sync,
     O: JournalFile + Drop + Send,
     K: JournalLines + Drop + Send,
     N: NewsFile + Drop + Send,
     M: NewsLines + Drop + Send,
+    G: HistoryPlace + Drop + Send,
     R: Threads + Wait + Clock + Eprint + Sync,
 >(
     rt: &R,
@@ -254,7 +285,8 @@ fn attended<
     serving: Serving<'a, Port<'a>, CountingGate<'a>>,
     all: Share<L>,
     clock: &'a MachineClock<'a, R>,
-    side: &Desk<'_>,
+    side: &Attendant<'_>,
+    ages: &AgesDesk<G>,
     pending: &'a PendingJournal,
     writers: Writers<'a, O, K, N, M>,
 ) -> Result<Counted, ServeError>
@@ -269,7 +301,8 @@ fn attended<
     let config = serving.config;
     let own = Keeper::new(shared, register, &config.buffers, clock, pending);
     let keeper = &own;
-    let served = Served::new(config, shared, clock);
+    let served = Served::new(config, shared, clock, ages);
+    served.note(rt);
     let run = move || -> Result<Counted, ServeError>
         requires { CanRun (channel_count serving.config.now) L.parts all.parts all.amount
             (slots_of keeper.now) (length serving.peer_sources.items) }
@@ -292,7 +325,7 @@ fn run_beside<
 >(
     rt: &R,
     run: W,
-    side: &Desk<'_>,
+    side: &Attendant<'_>,
     served: &F,
     writers: Writers<'_, O, K, N, M>,
 ) -> Result<Counted, ServeError>

@@ -1,25 +1,25 @@
 //! A relay is served on the ports of the machine, over its files.
 ghost use Rattle.std.specs.Prelude.{◌≡◌, ◌<◌, ◌^◌, ◌⊎◌, All, IfErr, IfOk, length, map};
-ghost use Rattle.relay_startup.specs.Files.{IsFileFault};
+ghost use Rattle.buffer_files.specs.Files.{IsFileFault};
 ghost use Rattle.relay_ports.specs.Callers.{AreCallers, HasCallers};
 ghost use Rattle.relay_ports.specs.Ports.{IsPortFault};
 ghost use Rattle.relay_report.specs.Serve.{ServeGives};
 ghost use Rattle.file_blocks.specs.Store.{count_of};
 
 use crate::beginning::{Access, begin_and_run};
-use crate::desk::Desk;
-use crate::places::HistoryPlaces;
+use buffer_files::{Unbegun, fill_streams, fit_files, hold_files};
 use live_wire::{Callers, Port, Stop};
 use news_log::{HostNews, NewsFile, NewsLines, NewsWriting, Opening};
+use relay_attendant::Attendant;
 use relay_conf::Config;
 use relay_devices::{Syncing, open_syncing};
-use relay_folder::{Control, HistoryPlace, HostHistory, HostJournal, JournalPlace};
+use relay_folder::{Control, Filing, HistoryPlace, HostHistory, HostJournal, JournalPlace};
 use relay_gate::{CountingGate, News, pending_of, writing_of};
 use relay_journal::{JournalLines, PrintedLines, ToldJournal};
 use relay_live::PeerSource;
 use relay_ports::{callers_of, open_doors, open_ports};
+use relay_recovery::{HistoryPlaces, places_in};
 use relay_report::ServeError;
-use relay_startup::{Unbegun, fill_streams, fit_files, hold_files};
 use std::alloc::Global;
 use std::fs::{File, Files};
 use std::io::{ErrorKind, Write};
@@ -51,6 +51,7 @@ where
         + Wait
         + Net<Listener = TcpListener, Stream = TcpStream>
         + Files<File = File>
+        + Filing
         + Opening
         + Clock
         + Eprint
@@ -59,14 +60,12 @@ where
     ensures { ServeGives config.now result (W.contents writer.old) (W.contents writer.new) }
 {
     fill_streams(rt);
-    let mut places = HistoryPlaces {
-        history: HostHistory::in_folder(rt, alloc, folder)?,
-        names: HostHistory::of_names(rt, alloc, folder)?,
-    };
+    let mut places = places_in(rt, alloc, folder)?;
     let mut journal = ToldJournal {
         place: HostJournal::in_folder(rt, alloc, folder)?,
         lines: PrintedLines::new(rt),
     };
+    let ages = HostHistory::of_ages(rt, alloc, folder)?;
     let lines = pending_of(alloc, &config.relay)?;
     let logged = News::of(&config.relay, &lines);
     let gate = CountingGate::new(alloc, &config.relay.peers, logged)?;
@@ -87,6 +86,7 @@ where
         &stop,
         &gate,
         writing,
+        ages,
         &mut places,
         &mut journal,
         writer,
@@ -127,6 +127,7 @@ fn open_and_run<
     R,
     N: NewsFile + Drop + Send,
     M: NewsLines + Drop + Send,
+    G: HistoryPlace + Drop + Send,
     H: HistoryPlace,
     K: HistoryPlace,
     P: JournalPlace,
@@ -140,6 +141,7 @@ fn open_and_run<
     stop: &Stop,
     gate: &CountingGate<'_>,
     news: Option<NewsWriting<'_, N, M>>,
+    ages: G,
     places: &mut HistoryPlaces<H, K>,
     journal: &mut ToldJournal<P, L>,
     writer: &mut W,
@@ -162,13 +164,14 @@ where
     };
     match Control::listen(rt, alloc, asked.folder) {
         Ok(control) => {
-            let desk = Desk::new(alloc, stop, gate, control, doors, syncing);
+            let desk = Attendant::new(alloc, stop, gate, control, doors, syncing);
             tell_serving(rt, peer_sources.len(), unbegun.stores.len());
             let access = Access {
                 peer_sources,
                 gate,
                 desk: &desk,
                 news,
+                ages,
             };
             let answer = begin_and_run(rt, alloc, config, unbegun, places, journal, access, writer);
             desk.close(rt, asked.folder);
@@ -176,6 +179,7 @@ where
             answer
         }
         Err(error) => {
+            drop(ages);
             drop(news);
             drop(doors);
             drop(syncing);

@@ -23,7 +23,7 @@ use Rattle.relay_report.specs.declared.keeping.HistoryFault.{HistoryFault}
 use Rattle.relay_report.specs.declared.keeping.HistoryFault.TheVariants.{Missing, Text, Groups}
 use Rattle.relay_report.specs.declared.keeping.HistoryFault.TheVariants.{Feeds, Ring, Buffers}
 use Rattle.relay_report.specs.declared.keeping.StartFault.TheVariants as starts
-use Rattle.relay_startup.specs.Adding.{IsStopOf, TellsNone}
+use Rattle.relay_startup.specs.StopNumbers.{IsStopOf, TellsNone}
 use Rattle.relay_startup.specs.Causes.{HasStopOrCause, TellsCause, cause_of, is_of_some}
 use Rattle.relay_startup.specs.Causes.{names_buffers, own_ring}
 use Rattle.relay_startup.specs.Causes.{own_rings, unfit, unfit_read, unless}

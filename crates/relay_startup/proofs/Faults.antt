@@ -15,10 +15,10 @@ use Rattle.relay_report.specs.declared.keeping.BufferFault.{BufferFault}
 use Rattle.relay_report.specs.declared.keeping.BufferFault.TheVariants.{Device, NoHead, Unclosed}
 use Rattle.relay_report.specs.declared.keeping.BufferFault.TheVariants.{Damaged, Mixed}
 use Rattle.relay_report.specs.declared.keeping.StartFault.TheVariants as starts
-use Rattle.relay_startup.specs.Adding.{IsHistoryFault}
-use Rattle.relay_startup.specs.Faults.{IsRelayFault, IsRunFault, IsServeFault, IsStopFault}
-use Rattle.relay_startup.specs.Faults.{unbegun_as}
-use Rattle.relay_startup.specs.History.{IsOriginFault}
+use Rattle.relay_startup.specs.StopNumbers.{IsHistoryFault}
+use Rattle.buffer_files.specs.Faults.{IsRelayFault, IsRunFault, IsServeFault, IsStopFault}
+use Rattle.buffer_files.specs.Faults.{unbegun_as}
+use Rattle.buffer_files.specs.History.{IsOriginFault}
 use Rattle.relay_startup.specs.Starting.{IsFaultAtAny, IsFaultOfBuffer, IsRefusal}
 
 -- what ends a run is a reason that a relay isn't run

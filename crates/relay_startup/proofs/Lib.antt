@@ -1,17 +1,11 @@
-mod AddFaults
 mod CauseLemmas
-mod CausesByName
 mod Counted
 pub mod Faults
-pub mod FileFaults
 mod FirstHistory
-pub mod Founds
 mod HeadsRead
 mod Kept
 mod Listed
-mod Looks
 mod NamesKept
-pub mod Rows
 pub mod Sizes
-mod ToldCauses
+pub mod ToldCauses
 mod Uncalled

@@ -19,7 +19,7 @@ use Rattle.relay_report.specs.declared.keeping.BufferFault.{BufferFault}
 use Rattle.relay_report.specs.declared.keeping.BufferFault.TheVariants.{Device, NoHead, Mixed}
 use Rattle.relay_report.specs.declared.keeping.StartFault.TheVariants as starts
 use Rattle.relay_startup.specs.Causes.{TellsCause, cause_of}
-use Rattle.relay_startup.specs.History.{IsOriginFault}
+use Rattle.buffer_files.specs.History.{IsOriginFault}
 use Rattle.relay_startup.specs.Starting.{IsFaultOfBuffer, IsRefusal}
 use Rattle.relay_startup.specs.Unstopped.{kept_text}
 

@@ -7,7 +7,7 @@ use Rattle.block_shelf.specs.Each.{AreEach}
 use Rattle.block_shelf.specs.Starting.{IsUnwritten}
 use Rattle.cyc_block.specs.declared.store.BlockStore.{Ghosts}
 use Rattle.relay_remains.proofs.Ended.{left_unwritten}
-use Rattle.relay_startup.specs.Synced.{IsUncalled}
+use Rattle.buffer_files.specs.Synced.{IsUncalled}
 
 module _ {S : Type 0} (g : Ghosts S) where
   -- stores of which nothing was asked

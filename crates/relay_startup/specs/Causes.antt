@@ -14,7 +14,7 @@ use Rattle.relay_report.specs.declared.keeping.HistoryFault.{HistoryFault}
 use Rattle.relay_report.specs.declared.keeping.HistoryFault.TheVariants.{Missing, Text, Groups}
 use Rattle.relay_report.specs.declared.keeping.HistoryFault.TheVariants.{Feeds, Ring, Buffers}
 use Rattle.relay_report.specs.declared.keeping.StartFault.TheVariants as starts
-use Rattle.relay_startup.specs.Adding.{IsStopIn}
+use Rattle.relay_startup.specs.StopNumbers.{IsStopIn}
 
 -- the ring with which a feed can have come to this, if any is: it holds what waits
 abbrev pub own_ring : KeptFeed → ℕ

@@ -1,15 +1,9 @@
-pub mod Adding
 pub mod Causes
-pub mod Faults
-pub mod Files
-pub mod History
 pub mod Keeping
 pub mod LastHistory
-pub mod Looking
 pub mod Naming
-pub mod Reasons
 pub mod Recovered
 pub mod Starting
-pub mod Synced
+pub mod StopNumbers
 pub mod Unsaved
 pub mod Unstopped

@@ -14,7 +14,7 @@ use Rattle.relay_report.specs.declared.fault.ServeError.TheVariants as faults
 use Rattle.relay_report.specs.declared.keeping.HistoryFault.{HistoryFault}
 use Rattle.relay_report.specs.declared.keeping.HistoryFault.TheVariants as causes
 use Rattle.relay_report.specs.declared.keeping.StartFault.TheVariants as starts
-use Rattle.relay_startup.specs.Adding.{IsHistoryFault, IsStopOf}
+use Rattle.relay_startup.specs.StopNumbers.{IsHistoryFault, IsStopOf}
 use Rattle.relay_startup.specs.Causes.{cause_of}
 use Rattle.relay_startup.specs.Unstopped.{IsLastStop, kept_text}
 

@@ -1,10 +1,14 @@
 -- Why a relay can't start from its buffers.
 use Rattle.std.specs.Prelude.{◌≡◌, ℕ, Option, None, Some, slice_get, string_bytes}
+use Rattle.std.specs.IoError.{error_kind}
 use Rattle.std.specs.Str.Lossy.{utf8_lossy}
 use Rattle.block_shelf.specs.declared.starting.StopFault.{StopFault}
 use Rattle.block_shelf.specs.declared.starting.StopFault.TheVariants as reasons
+use Rattle.buffer_files.specs.Faults.{unbegun_as}
 use Rattle.relay_conf.specs.declared.cycbuff.BufferConf.{BufferConf}
 use Rattle.relay_conf.specs.declared.settings.Buffers.{Buffers}
+use Rattle.relay_core.specs.declared.stopped.NotStarted.{NotStarted}
+use Rattle.relay_core.specs.declared.stopped.NotStarted.TheVariants as nots
 use Rattle.relay_report.specs.declared.fault.ServeError.{ServeError}
 use Rattle.relay_report.specs.declared.fault.ServeError.TheVariants as faults
 use Rattle.relay_report.specs.declared.keeping.BufferFault.{BufferFault}
@@ -41,3 +45,9 @@ IsRefusal settings number reasons.Damaged error = IsFaultAtAny settings number D
 IsRefusal settings number reasons.BadHistory error = error ≡ faults.Start (starts.BadHistory Text)
 IsRefusal settings number reasons.Mixed error = IsFaultAtAny settings number Mixed error
 IsRefusal settings number reasons.Ahead error = error ≡ faults.Start starts.Ahead
+
+-- why a relay isn't started is told so
+abbrev pub IsUnstartedAs : {S : Type 0} → Buffers → NotStarted S → ServeError → Type 0
+IsUnstartedAs settings (nots.Host why back) error = error ≡ unbegun_as (error_kind why)
+IsUnstartedAs settings (nots.Refused refused) error =
+    IsRefusal settings refused.buffer refused.error error

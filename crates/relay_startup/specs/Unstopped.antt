@@ -4,7 +4,7 @@ use Rattle.cyc_block.specs.declared.store.BlockStore.{Ghosts}
 use Rattle.relay_conf.specs.declared.settings.Config.{Config}
 use Rattle.relay_remains.specs.Heads.{HaveEnded}
 use Rattle.relay_remains.specs.declared.heads.Standing.TheVariants as standings
-use Rattle.relay_startup.specs.Adding.{IsStopIn}
+use Rattle.relay_startup.specs.StopNumbers.{IsStopIn}
 
 -- the history that a text is, none where it is empty
 abbrev pub kept_text : List ℕ → Option (List ℕ)

@@ -2,11 +2,10 @@
 ghost use Rattle.std.specs.Prelude.{◌≡◌, ◌≢◌, ◌≤◌, [], IfErr, IfOk, OnOk, length, map};
 ghost use Rattle.first_start.specs.Completing.{AreCompleted};
 ghost use Rattle.relay_folder.specs.Origin.{Starts, origin_view};
-ghost use Rattle.relay_startup.specs.Faults.{IsServeFault};
+ghost use Rattle.buffer_files.specs.Faults.{IsServeFault};
 
-use crate::begun::{Beginning, Looked};
-use crate::files::unformatted;
 use block_shelf::number_of;
+use buffer_files::{Beginning, Looked, unformatted};
 use cyc_block::BlockStore;
 use first_start::{complete_each, is_cut_short};
 use relay_conf::Config;

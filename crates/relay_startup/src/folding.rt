@@ -7,10 +7,10 @@ ghost use Rattle.relay_core.specs.Desks.{Reads, setting_of};
 ghost use Rattle.relay_log.specs.FoldedText.{IsTextWith};
 ghost use Rattle.relay_journal.specs.Reading.{IsJournalRead};
 ghost use Rattle.relay_startup.specs.LastHistory.{IsLastWith, empty_feed, first_kept, last_text};
-ghost use Rattle.relay_startup.specs.Faults.{IsServeFault};
+ghost use Rattle.buffer_files.specs.Faults.{IsServeFault};
 
-use crate::seed::hasher_of;
 use crate::stop_number::no_history;
+use buffer_files::hasher_of;
 use id_history::{History, HistoryError, KeptFeed, write};
 use relay_conf::Config;
 use relay_core::{GROUP_LIMIT, read_history};

@@ -6,11 +6,11 @@ ghost use Rattle.block_shelf.specs.Starting.{IsUnwritten, buffer_over};
 ghost use Rattle.cyc_block.specs.Heads.{head_view};
 ghost use Rattle.cyc_buffer.specs.Stopped.{Says};
 ghost use Rattle.relay_startup.specs.Recovered.{IsHeadIn};
-ghost use Rattle.relay_startup.specs.Faults.{IsServeFault};
+ghost use Rattle.buffer_files.specs.Faults.{IsServeFault};
 
 use crate::starting::refusal;
-use crate::synced::Synced;
 use block_shelf::{StopFault, number_of};
+use buffer_files::Synced;
 use cyc_block::{BLOCK_OCTETS, BlockStore, HeadNumbers};
 use relay_conf::Config;
 use relay_core::Stopped;

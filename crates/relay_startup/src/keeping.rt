@@ -3,11 +3,11 @@ ghost use Rattle.std.specs.Prelude.{◌≡◌, ◌∷◌, [], Some, All, IfErr, 
 ghost use Rattle.std.specs.Prelude.{length, map};
 ghost use Rattle.block_shelf.specs.Each.{AreEach};
 ghost use Rattle.relay_startup.specs.Keeping.{IsKeptAs, TellsKeeping};
-ghost use Rattle.relay_startup.specs.Faults.{IsStopFault};
-ghost use Rattle.relay_startup.specs.Synced.{IsUncalled};
+ghost use Rattle.buffer_files.specs.Faults.{IsStopFault};
+ghost use Rattle.buffer_files.specs.Synced.{IsUncalled};
 
-use crate::history::keep_history;
-use crate::synced::{Synced, sync_all};
+use crate::synced::sync_all;
+use buffer_files::{Synced, keep_history};
 use cyc_block::BlockStore;
 use relay_core::Stopped;
 use relay_folder::HistoryPlace;

@@ -3,12 +3,12 @@
 ghost use Rattle.std.specs.Prelude.{◌≡◌, [], true, IfErr, IfOk, length, map};
 ghost use Rattle.block_shelf.specs.Each.{AreEach};
 ghost use Rattle.block_shelf.specs.Starting.{IsUnwritten};
-ghost use Rattle.relay_startup.specs.Faults.{IsServeFault};
+ghost use Rattle.buffer_files.specs.Faults.{IsServeFault};
 ghost use Rattle.relay_startup.specs.Naming.{IsTakenByName, LeavesNames, TellsChangesOf};
 ghost use Rattle.relay_startup.specs.Unstopped.{IsUnstoppedBy};
 
-use crate::synced::Synced;
 use crate::unstopped::{LookedAt, looked_at};
+use buffer_files::Synced;
 use cyc_block::BlockStore;
 use history_names::{NamedText, keep_names, named_text};
 use relay_conf::Config;

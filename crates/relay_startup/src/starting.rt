@@ -1,11 +1,13 @@
 //! A relay begins, from nothing or from what it was stopped with.
 ghost use Rattle.std.specs.Prelude.{◌≡◌, slice_get};
 ghost use Rattle.relay_startup.specs.Starting.{IsBufferFaultAt, IsFaultAtAny, IsFaultOfBuffer};
-ghost use Rattle.relay_startup.specs.Starting.{IsRefusal};
+ghost use Rattle.relay_startup.specs.Starting.{IsRefusal, IsUnstartedAs};
 ghost use Rattle.std.specs.Prelude.{Some};
 
 use block_shelf::StopFault;
-use relay_conf::{BufferConf, Buffers};
+use buffer_files::unbegun;
+use relay_conf::{BufferConf, Buffers, Config};
+use relay_core::NotStarted;
 use relay_report::{BufferFault, HistoryFault, ServeError, StartFault};
 use std::alloc::Global;
 
@@ -58,5 +60,17 @@ fn fault_of(alloc: Global, buffer: &BufferConf, fault: BufferFault) -> ServeErro
     match String::from_utf8_lossy(alloc, buffer.name.as_slice()) {
         Ok(name) => ServeError::Start(StartFault::Buffer(name, fault)),
         Err(_) => ServeError::Memory,
+    }
+}
+
+/// Why a relay isn't started over the stores of a configuration.
+pub fn unstarted<S: Drop>(alloc: Global, config: &Config, refused: NotStarted<S>) -> ServeError
+    ensures { IsUnstartedAs config.now.buffers refused result }
+{
+    match refused {
+        NotStarted::Host(error, _stores) => unbegun(error.kind()),
+        NotStarted::Refused(refused) => {
+            refusal(alloc, &config.buffers, refused.buffer, refused.error)
+        }
     }
 }

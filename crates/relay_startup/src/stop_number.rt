@@ -1,15 +1,15 @@
 //! The number of the stop that a relay's history is of, or the cause why there is no history.
 ghost use Rattle.std.specs.Prelude.{◌≡◌, IfErr, IfOk};
 ghost use Rattle.relay_folder.specs.Keeping.{IsAsBefore};
-ghost use Rattle.relay_startup.specs.Adding.{IsHistoryFault, IsStopBegun, IsStopIn, TellsNone};
-ghost use Rattle.relay_startup.specs.Adding.{no_history_as};
+ghost use Rattle.relay_startup.specs.StopNumbers.{IsHistoryFault, IsStopBegun, IsStopIn, TellsNone};
+ghost use Rattle.relay_startup.specs.StopNumbers.{no_history_as};
 ghost use Rattle.relay_startup.specs.Naming.{IsNamedHistoryFault, IsStopByName};
 ghost use Rattle.relay_startup.specs.Naming.{TellsNamedCause, TellsNoneByName};
 ghost use Rattle.relay_startup.specs.Causes.{HasStopOrCause, TellsCause, TellsCauseBegun};
 ghost use Rattle.std.specs.Prelude.{Some};
 
 use crate::causes::unfit;
-use crate::history::unread;
+use buffer_files::unread;
 use history_names::{NamedText, named_text};
 use id_history::{HistoryError, read_any};
 use relay_conf::Config;
@@ -20,7 +20,7 @@ use std::alloc::{AllocError, Global};
 
 /// The number of the stop of the history that is kept, which has to be one of this configuration by
 /// the names that are kept. Nothing is changed.
-pub(crate) fn stop_kept<P: HistoryPlace, N: HistoryPlace>(
+pub fn stop_kept<P: HistoryPlace, N: HistoryPlace>(
     alloc: Global,
     config: &Config,
     place: &mut P,

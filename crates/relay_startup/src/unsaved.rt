@@ -4,14 +4,14 @@ ghost use Rattle.std.specs.Prelude.{◌≡◌, IfErr, IfOk, map};
 ghost use Rattle.cyc_block.specs.Heads.{head_view};
 ghost use Rattle.id_history.specs.History.{Rises};
 ghost use Rattle.id_history.specs.Views.{id_view};
-ghost use Rattle.relay_startup.specs.Faults.{IsServeFault};
+ghost use Rattle.buffer_files.specs.Faults.{IsServeFault};
 ghost use Rattle.relay_startup.specs.Unsaved as told;
 ghost use Rattle.relay_startup.specs.Unsaved.{AreIdsOf, IsWithoutUnsaved};
 
 use crate::lost::{is_found, is_overwritten};
 use crate::stop_number::no_history;
-use crate::synced::Synced;
 use crate::unstopped::history_of;
+use buffer_files::Synced;
 use cyc_block::HeadNumbers;
 use id_history::{History, HistoryError, KeptId, write};
 use relay_conf::Config;

@@ -6,16 +6,16 @@ ghost use Rattle.block_shelf.specs.Each.{AreEach};
 ghost use Rattle.block_shelf.specs.Starting.{IsUnwritten};
 ghost use Rattle.block_shelf.specs.declared.starting.StopFault.TheVariants as stops;
 ghost use Rattle.relay_repair.specs.Telling.{octets_in};
-ghost use Rattle.relay_startup.specs.Adding.{IsHistoryFault};
+ghost use Rattle.relay_startup.specs.StopNumbers.{IsHistoryFault};
 ghost use Rattle.relay_startup.specs.Causes.{TellsCause};
-ghost use Rattle.relay_startup.specs.Faults.{IsServeFault};
+ghost use Rattle.buffer_files.specs.Faults.{IsServeFault};
 ghost use Rattle.relay_startup.specs.Starting.{IsRefusal};
 ghost use Rattle.relay_startup.specs.Unstopped.{IsLastStop, IsUnstoppedBy, kept_text};
 
 use crate::starting::refusal;
 use crate::stop_number::stop_in;
-use crate::synced::Synced;
 use block_shelf::{StopFault, number_of};
+use buffer_files::Synced;
 use cyc_block::BlockStore;
 use relay_conf::Config;
 use relay_remains::{HeadFault, Standing, standing_of};
@@ -70,7 +70,7 @@ pub(crate) fn looked_at<S: Synced + Drop>(
 
 /// Whether the heads say that the relay of this history was left without a stop. The error is that
 /// the text is no history, or the first head that no relay of this history has.
-pub(crate) fn is_unstopped<S: BlockStore>(
+pub fn is_unstopped<S: BlockStore>(
     alloc: Global,
     config: &Config,
     stores: &mut [S],

@@ -10,6 +10,7 @@ use live_jobs::OwnThreads;
 use live_journal::{Batch, PendingJournal};
 use live_session::{Clock, Shares};
 use live_store::{ArticleLog, StorePremises};
+use post_history::Naming;
 use relay_conf::Config;
 use relay_live::{JournaledShares, Keeper, Shared};
 use relay_log::{Entry, Journal, begin, read};
@@ -23,7 +24,7 @@ const OTHER_SESSION: u64 = 2;
 /// Does what each of the last cells says: `+N` stores the article of this number, `-N` refuses it,
 /// `?N` offers it to another session, and `.` writes what was said since the last one, in a journal
 /// with room for as many octets as the first cell says.
-pub(super) fn put_said<J: StorePremises, L: Ledger, R: Wait>(
+pub(super) fn put_said<J: StorePremises + Naming, L: Ledger, R: Wait>(
     rt: &R,
     config: &Config,
     register: &ArticleLog,
@@ -72,7 +73,7 @@ fn journal_of(alloc: Global, room: usize) -> Result<(PendingJournal, Batch), All
 }
 
 /// Does what each of these words says.
-fn put_steps<J: StorePremises, L: Ledger, R: Wait>(
+fn put_steps<J: StorePremises + Naming, L: Ledger, R: Wait>(
     rt: &R,
     shared: &Shared<Device, J, L>,
     keeper: &Keeper<'_, Device, J, L, Standing, ArticleLog>,
@@ -99,7 +100,7 @@ fn put_steps<J: StorePremises, L: Ledger, R: Wait>(
 }
 
 /// Stores the article of this number, where it can be kept.
-fn store<J: StorePremises, L: Ledger, R: Wait>(
+fn store<J: StorePremises + Naming, L: Ledger, R: Wait>(
     rt: &R,
     shared: &Shared<Device, J, L>,
     keeper: &Keeper<'_, Device, J, L, Standing, ArticleLog>,
@@ -119,7 +120,7 @@ fn store<J: StorePremises, L: Ledger, R: Wait>(
 }
 
 /// Refuses the article of this number, as sessions do.
-fn refuse<J: StorePremises, L: Ledger, R: Wait>(
+fn refuse<J: StorePremises + Naming, L: Ledger, R: Wait>(
     rt: &R,
     shared: &Shared<Device, J, L>,
     journal: &PendingJournal,
@@ -143,7 +144,7 @@ fn refuse<J: StorePremises, L: Ledger, R: Wait>(
 }
 
 /// Offers the article of this number to another session.
-fn offer<J: StorePremises, L: Ledger, R: Wait>(
+fn offer<J: StorePremises + Naming, L: Ledger, R: Wait>(
     rt: &R,
     shared: &Shared<Device, J, L>,
     number: u64,

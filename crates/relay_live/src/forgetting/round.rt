@@ -5,8 +5,9 @@ ghost use Rattle.relay_model.specs.Terms.{shard_count};
 use crate::locked::Held;
 use cyc_block::BlockStore;
 use cyc_buffer::Front;
-use id_history::{SHARD_COUNT, Shard};
+use id_history::SHARD_COUNT;
 use live_store::{NumberedBuffer, StorePremises};
+use post_history::{Naming, RememberingShard};
 use std::alloc::{AllocError, Global};
 use std::mem::size_of;
 use std::snapshot::Snapshot;
@@ -59,6 +60,7 @@ impl Rounds {
     ghost use Rattle.id_history.specs.Expiry.{passed_view};
     ghost use Rattle.id_history.specs.Shard.{Keeps};
     ghost use Rattle.live_store.specs.Steps.{buffer_of};
+    ghost use Rattle.post_history.specs.Shards.{shard_in};
     ghost use Rattle.relay_live.specs.Locked.{held_number, held_value};
     ghost use Rattle.relay_live.specs.Rounds.{buffers_in, fronts_in, shards_in, times_of, IsOf};
     ghost use Rattle.relay_model.specs.Claims.{Claim, after_expire};
@@ -110,11 +112,11 @@ impl Rounds {
 
     /// Forgets in a shard that is held, the next one, what may be forgotten at the round's moment,
     /// by the fronts that it has read.
-    pub(crate) fn expire(&mut self, shard: &mut Held<'_, Shard>)
+    pub(crate) fn expire<J: Naming>(&mut self, shard: &mut Held<'_, RememberingShard<J>>)
         requires next { held_number shard.old ≡ length (shards_in self.old) }
         requires left { length (shards_in self.old) < shard_count }
-        ensures claims { (claims : List ℕ → Claim) → Keeps (held_value shard.old) claims
-            → Keeps (held_value shard.new)
+        ensures claims { (claims : List ℕ → Claim) → Keeps (shard_in (held_value shard.old)) claims
+            → Keeps (shard_in (held_value shard.new))
             (λ id. after_expire (times_of self.old).0 (times_of self.old).1
             (map passed_view (fronts_in self.old)) (claims id)) }
         ensures one_more { shards_in self.new ≡ shards_in self.old ++ record {

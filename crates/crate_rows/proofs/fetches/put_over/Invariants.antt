@@ -1,4 +1,6 @@
-use Rattle.std.proofs.Common.{true}
+use Rattle.std.proofs.Common.{true, [], map}
+use Rattle.feed_queue.specs.Feeds.{ring_size}
+use Rattle.post_history.specs.Opening.{book_in}
 use Rattle.relay_live.specs.Holding.{has_buffer}
 use Rattle.crate_rows.proofs.fetches.put_over.Given as goal
 
@@ -13,3 +15,11 @@ ghosts-put_of-J-StorePremises g a = record {
 -- a ledger of one part
 abbrev pub ghosts-put_of-L-Ledger : goal.ghosts-put_of-L-Ledger
 ghosts-put_of-L-Ledger g a = record { name = a.blank.name; parts = a.blank.parts }
+
+-- the book that was just opened, of a relay that begins from nothing
+abbrev pub ghosts-put_of-J-Naming : goal.ghosts-put_of-J-Naming
+ghosts-put_of-J-Naming g a = record {
+  book = book_in a.opened;
+  began = [];
+  rings = map ring_size a.config.now.relay.feeds.items;
+}

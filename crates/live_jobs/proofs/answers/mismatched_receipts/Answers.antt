@@ -4,7 +4,7 @@ use Rattle.std.proofs.lemmas.List.Folds.{list_any-append}
 use Rattle.std.proofs.lemmas.List.Sums.{sum_by-append}
 use Rattle.std.specs.List.{list_any}
 use Rattle.std.proofs.lemmas.List.{take_all}
-use Rattle.live_jobs.specs.StoredAgain.{all_told}
+use Rattle.live_jobs.specs.Gathered.{all_told}
 use Rattle.live_jobs.specs.Mismatches.{conflicts_in, is_conflict, is_receipt_of}
 use Rattle.live_jobs.specs.Mismatches.{mismatched_receipts_in}
 use Rattle.live_jobs.proofs.AllTold.{told_on}
@@ -20,8 +20,8 @@ loop-writer-init g c = record {
   few = omega arith;
 }
 
-few_more : (conflict more k : ℕ) → conflict ≤ k * 2 ^ 62 → more < 2 ^ 62
-    → conflict + more ≤ (k + 1) * 2 ^ 62
+few_more : (conflict more k : ℕ) → conflict ≤ k * 2 ^ 63 → more < 2 ^ 63
+    → conflict + more ≤ (k + 1) * 2 ^ 63
 few_more conflict more k few small = omega (arith, few, small)
 
 pub loop-writer-preserved : goal.loop-writer-preserved

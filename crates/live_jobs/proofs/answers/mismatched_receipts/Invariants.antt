@@ -1,6 +1,6 @@
 use Rattle.std.proofs.Common.{◌≡◌, ◌≤◌, ◌*◌, ◌^◌, ℕ, map, take}
 use Rattle.std.specs.List.{list_any}
-use Rattle.live_jobs.specs.StoredAgain.{all_told}
+use Rattle.live_jobs.specs.Gathered.{all_told}
 use Rattle.live_jobs.specs.Mismatches.{conflicts_in, is_receipt_of}
 use Rattle.live_jobs.specs.Sets.{has_job}
 use Rattle.live_jobs.proofs.answers.mismatched_receipts.Given as goal
@@ -13,5 +13,5 @@ invariant-loop-writer g l = record {
       (all_told (map (λ w. w.finished.items) (take l.writer-index l.writers)));
   conflict : l.conflict
       ≡ conflicts_in (all_told (map (λ w. w.finished.items) (take l.writer-index l.writers)));
-  few : l.conflict ≤ l.writer-index * 2 ^ 62;
+  few : l.conflict ≤ l.writer-index * 2 ^ 63;
 }

@@ -35,6 +35,9 @@ returns g c =
       posted = c.posted-posted.ensures.amount ∙ lent.amount
           ∙ ap (kept_by_all g.O.Outcome.kept) (sym lent.finished)
           ∙ sym these ∙ sym c.sum_kept.ensures;
+      made = c.posted-posted.ensures.posts;
+      same = c.posted-posted.ensures.same;
+      rings = c.posted-posted.ensures.desk;
       finished = lent.finished
           ∙ map_set_same (λ w. w.finished.items) c.args.writers.now.items 0 _ _ at none.1;
       pass = lent.pass ∙ map_set_same (λ w. w.pass) c.args.writers.now.items 0 _ _ at none.0;

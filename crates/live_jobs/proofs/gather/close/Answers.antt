@@ -33,6 +33,9 @@ returns g c =
           NoneElse (length seats.lefts.items) finished_lists) counted.finished told.none;
       accepted = counted.accepted;
       posted = counted.posted;
+      made = counted.made;
+      same = counted.same;
+      rings = counted.rings;
       finished = told.finished ∙ counted.finished;
       handed = told.handed;
       services = refl;

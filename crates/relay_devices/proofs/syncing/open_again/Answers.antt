@@ -5,9 +5,9 @@ use Rattle.std.proofs.lemmas.Option.{get_or_from_slice_get}
 use Rattle.std.proofs.lemmas.Result.{err_from_is_err_and}
 use Rattle.file_blocks.specs.Host.{held_identity}
 use Rattle.relay_devices.specs.Syncing.{identity_in, name_in}
-use Rattle.relay_startup.proofs.FileFaults.{fault_at}
+use Rattle.buffer_files.proofs.FileFaults.{fault_at}
 use Rattle.relay_devices.proofs.Rooms.{index_fits_as, no_more, room_of, still_fits}
-use Rattle.relay_startup.proofs.Rows.{longer, one_more_made}
+use Rattle.buffer_files.proofs.Rows.{longer, one_more_made}
 use Rattle.relay_devices.proofs.syncing.open_again.Goals as goal
 
 pub loop-buffer-init : goal.loop-buffer-init

@@ -1,7 +1,7 @@
 use Rattle.std.proofs.Common.{inl, inr}
 use Rattle.std.proofs.Math.Logic.{∥∥₁_map}
 use Rattle.relay_devices.specs.Watched.{store_in}
-use Rattle.relay_startup.proofs.Founds.{all_there}
+use Rattle.buffer_files.proofs.Founds.{all_there}
 use Rattle.relay_devices.proofs.watched.watch.Goals as goal
 
 -- what was found in the stores was found in those that are watched

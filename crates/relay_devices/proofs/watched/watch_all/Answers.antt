@@ -5,7 +5,7 @@ use Rattle.std.proofs.lemmas.Option.{get_or_from_slice_get}
 use Rattle.std.specs.Vec.Iter.{into_iter_items}
 use Rattle.std.specs.Prelude.{slice_get}
 use Rattle.relay_devices.proofs.Rooms.{next_fits, none_yet, one_came, room_of, still_fits}
-use Rattle.relay_startup.proofs.Rows.{longer, none_left, one_more_made, one_more_read}
+use Rattle.buffer_files.proofs.Rows.{longer, none_left, one_more_made, one_more_read}
 use Rattle.relay_devices.specs.Watched.{name_in, store_in}
 use Rattle.relay_devices.proofs.watched.watch_all.Goals as goal
 

@@ -2,7 +2,7 @@ use Rattle.std.proofs.Common.{length, rules}
 use Rattle.relay_drill.specs.Todo.{bring_each, pieces_in}
 use Rattle.relay_drill.proofs.Courses.{fails_next, goes_next, goes_none, goes_to, wants_memory}
 use Rattle.relay_drill.proofs.Pieces.{fewer_behind, some_left}
-use Rattle.relay_drill.proofs.Todos.{piece_last, piece_next}
+use Rattle.relay_drill.proofs.Todos.{piece_last, piece_next, pieces_cut}
 use Rattle.relay_drill.proofs.play.bring.Goals as goal
 
 pub loop-rest-init : goal.loop-rest-init
@@ -40,16 +40,20 @@ returns g c = λ more.
 
 pub returns-in_err-piece : goal.returns-in_err-piece
 returns-in_err-piece g c = λ more.
-    wants_memory c.from_residual.result _ _ more _ _ _ _ _ c.from_residual.ensures.0
+    wants_memory _ c.from_residual.result _ _ more _ _ _ _ _ c.from_residual.ensures.0
     c.from_residual.ensures.1 (c.loop-rest.invariant.goes more)
 
 pub returns-in_err-perform : goal.returns-in_err-perform
 returns-in_err-perform g c = λ more.
     let some = some_left c.loop-rest.rest.now c.loop-rest-test.ensures in
     let size = c.loop-rest.invariant.some some in
-    fails_next _ c.from_residual-in_err-perform.result _ _ _ more _ _ _ _ _ _
+    let later = bring_each c.args.session
+    (pieces_in (length c.split_at.result.1.now) c.args.size c.split_at.result.1.now) more in
+    fails_next _ _ c.from_residual-in_err-perform.result _ _ _ later more _ _ _ _ _ _
     c.from_residual-in_err-perform.ensures.0 c.from_residual-in_err-perform.ensures.1
     (rw (← c.in_ok-piece.ensures) at (piece_next c.args.session c.args.size c.min.result
     c.loop-rest.rest.now c.split_at.result.0.now c.split_at.result.1.now more size some
     c.min.ensures c.split_at.ensures.front c.split_at.ensures.back))
-    (c.loop-rest.invariant.goes more) (c.in_err-perform.ensures _)
+    (pieces_cut c.args.session (pieces_in (length c.split_at.result.1.now) c.args.size
+    c.split_at.result.1.now) more)
+    (c.loop-rest.invariant.goes more) (c.in_err-perform.ensures later)

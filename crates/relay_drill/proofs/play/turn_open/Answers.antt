@@ -6,7 +6,7 @@ use Rattle.relay_drill.proofs.play.turn_open.Goals as goal
 
 pub returns : goal.returns
 returns g c = λ more.
-    performs_on c.perform.result _ _ more _ _ _ _ _ _
+    performs_on _ c.perform.result _ _ more _ _ _ _ _ _
     (goes_turning c.args.session c.args.now more c.args.relay.now _ true
     (λ config x under.
     sym (c.is_running.ensures true x (left_agrees c.args.relay.now x under.agrees))

@@ -84,9 +84,9 @@ returns-in-Some-Restart c =
 pub returns-in-Some-Crash : goal.returns-in-Some-Crash
 returns-in-Some-Crash c =
     keyword_gives (names_of c.args.config.now) c.args.line.now c.cut.result.0.now
-    (parts_after 32 c.cut.result.1) c.keyword_of.result _ (Ok c.alone-in-Some-Crash.result)
+    (parts_after 32 c.cut.result.1) c.keyword_of.result _ (Ok c.crash.result)
     c.cut.ensures c.keyword_of.ensures (c.in-Some-Crash.is ∙ ap Some c.in-Some-Crash.field-0-is)
-    (line_gives c.alone-in-Some-Crash.result _ c.alone-in-Some-Crash.ensures)
+    (line_gives c.crash.result _ (rw c.deref-in-Some-Crash.ensures.value at c.crash.ensures))
 
 pub returns-in-Some-Report : goal.returns-in-Some-Report
 returns-in-Some-Report c =

@@ -4,7 +4,7 @@ use Rattle.relay_drill.specs.Fault.{line_view}
 use Rattle.relay_drill.specs.Progress.{Leads}
 use Rattle.relay_drill.specs.Todo.{Done, first_stand, lines_ask}
 use Rattle.relay_drill.specs.declared.line.Line.{Line}
-use Rattle.relay_drill.specs.declared.play.Life.{Life}
+use Rattle.relay_drill.specs.declared.life.Life.{Life}
 use Rattle.relay_drill.proofs.Drills.{bad_line, begun, drill_done, drill_stops, memory_at_once}
 use Rattle.relay_drill.proofs.Drills.{unbegun, unread}
 use Rattle.relay_drill.proofs.whole.drill.Goals as goal
@@ -25,6 +25,11 @@ returns-in_default g c =
     memory_at_once c.args.reasons c.args.config (g.R.Read.remaining c.args.reader.now)
     (g.W.Write.contents c.args.writer.now)
 
+pub returns-in_default-new_stores : goal.returns-in_default-new_stores
+returns-in_default-new_stores g c =
+    memory_at_once c.args.reasons c.args.config (g.R.Read.remaining c.args.reader.now)
+    (g.W.Write.contents c.args.writer.now)
+
 pub returns : goal.returns
 returns g c =
     unbegun c.args.reasons c.args.config c.in-Err-new.error c.refused.result
@@ -36,12 +41,12 @@ pub returns-in-Ok-play : goal.returns-in-Ok-play
 returns-in-Ok-play g c =
     let before = g.W.Write.contents c.args.writer.now in
     let after = g.W.Write.contents c.play.new.writer in
-    let life : Life = record { relay = c.in-Ok-new.relay; history = None } in
+    let life : Life = record { relay = c.in-Ok-new-2.relay; history = None; earlier = None } in
     let says : lines_of_script c.args.config c.in-Ok.script.items
     ≡ Ok (map line_view c.in-Ok-read_script.lines.items) =
     rw (← c.deref.ensures.value) c.in-Ok-read_script.ensures in
     let Q : List Line → Type 0 = λ read. Leads c.args.reasons c.play.result
-    (lines_ask c.len-groups.result (map line_view read) first_stand) Done life before after in
+    (lines_ask c.len-2.result (map line_view read) first_stand) Done life before after in
     let R : ℕ → Type 0 = λ groups. Leads c.args.reasons c.play.result
     (lines_ask groups (map line_view c.in-Ok-read_script.lines.items) first_stand) Done life
     before after in
@@ -50,20 +55,20 @@ returns-in-Ok-play g c =
     (map line_view c.in-Ok-read_script.lines.items) life c.in-Ok-play.life before after
     c.in-Ok.ensures
     says
-    (subst R c.len-groups.ensures (subst Q c.deref-in-Ok-new.ensures.value c.play.ensures))
-    (begun c.args.config _ c.in-Ok-new_stores.stores.items c.in-Ok-new.relay
-    c.in-Ok-new_stores.ensures.stores c.in-Ok-new.ensures.begins) c.in-Ok-play.is
+    (subst R c.len-2.ensures (subst Q c.deref-in-Ok-new-2.ensures.value c.play.ensures))
+    (begun c.args.config _ c.in-Ok-new_stores.stores.items c.in-Ok-new-2.relay
+    c.in-Ok-new_stores.ensures c.in-Ok-new-2.ensures.begins) c.in-Ok-play.is
 
-pub returns-in-Ok-new : goal.returns-in-Ok-new
-returns-in-Ok-new g c =
+pub returns-in-Ok-new-2 : goal.returns-in-Ok-new-2
+returns-in-Ok-new-2 g c =
     let before = g.W.Write.contents c.args.writer.now in
     let after = g.W.Write.contents c.play.new.writer in
-    let life : Life = record { relay = c.in-Ok-new.relay; history = None } in
+    let life : Life = record { relay = c.in-Ok-new-2.relay; history = None; earlier = None } in
     let says : lines_of_script c.args.config c.in-Ok.script.items
     ≡ Ok (map line_view c.in-Ok-read_script.lines.items) =
     rw (← c.deref.ensures.value) c.in-Ok-read_script.ensures in
     let Q : List Line → Type 0 = λ read. Leads c.args.reasons c.play.result
-    (lines_ask c.len-groups.result (map line_view read) first_stand) Done life before after in
+    (lines_ask c.len-2.result (map line_view read) first_stand) Done life before after in
     let R : ℕ → Type 0 = λ groups. Leads c.args.reasons c.play.result
     (lines_ask groups (map line_view c.in-Ok-read_script.lines.items) first_stand) Done life
     before after in
@@ -72,6 +77,6 @@ returns-in-Ok-new g c =
     (map line_view c.in-Ok-read_script.lines.items) life c.in-Err-play.error before after
     c.in-Ok.ensures
     says
-    (subst R c.len-groups.ensures (subst Q c.deref-in-Ok-new.ensures.value c.play.ensures))
-    (begun c.args.config _ c.in-Ok-new_stores.stores.items c.in-Ok-new.relay
-    c.in-Ok-new_stores.ensures.stores c.in-Ok-new.ensures.begins) c.in-Err-play.is
+    (subst R c.len-2.ensures (subst Q c.deref-in-Ok-new-2.ensures.value c.play.ensures))
+    (begun c.args.config _ c.in-Ok-new_stores.stores.items c.in-Ok-new-2.relay
+    c.in-Ok-new_stores.ensures c.in-Ok-new-2.ensures.begins) c.in-Err-play.is

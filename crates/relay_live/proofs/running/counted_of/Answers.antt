@@ -2,7 +2,6 @@ use Rattle.std.proofs.Common.{◌∙◌, ◌+◌, ◌++◌, ◌∷◌, [], ap, a
 use Rattle.std.proofs.Common.{length-append, take}
 use Rattle.std.proofs.lemmas.List.{map-append, take_all, take_more}
 use Rattle.live_jobs.specs.Mismatches.{mismatched_receipts_in}
-use Rattle.live_jobs.specs.StoredAgain.{ids_stored_again_in}
 use Rattle.relay_live.specs.PeerServers.{kept_of}
 use Rattle.relay_live.proofs.Rooms.{index_fits, room_of, still_fits}
 use Rattle.relay_live.proofs.running.counted_of.Goals as goal
@@ -57,5 +56,4 @@ returns g c =
       posted = refl;
       mismatched_receipts = c.in_ok-mismatched_receipts.ensures.count
           ∙ ap₂ mismatched_receipts_in kept told;
-      ids_stored_again = c.in_ok-ids_stored_again.ensures.count ∙ ap ids_stored_again_in told;
     }

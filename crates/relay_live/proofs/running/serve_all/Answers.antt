@@ -1,11 +1,14 @@
-use Rattle.std.proofs.Common.{◌∙◌, ◌<◌, ◌^◌, ℕ, [], ap, map, subst, sym}
+use Rattle.std.proofs.Common.{◌≡◌, ◌∙◌, ◌<◌, ◌^◌, ℕ, [], ap, length, map, subst, sym}
 use denote.Param.Send.{sendable}
 use Rattle.std.proofs.lemmas.Result.{IfOk-from_err}
 use Rattle.article_verdict.specs.Config.{terms_of}
 use Rattle.live_jobs.specs.Desks.{posts_in}
+use Rattle.relay_live.specs.Counts.{posted_in}
+use Rattle.std.specs.Prelude.{IfSome}
 use Rattle.live_jobs.specs.Gathered.{NoneElse}
 use Rattle.relay_live.specs.PeerServers.{kept_of}
 use Rattle.relay_live.proofs.Accounts.{each_same, marked, new_accounts, same_length}
+use Rattle.relay_live.proofs.Audited.{both_of}
 use Rattle.relay_live.proofs.Sent.{store_result_send}
 use Rattle.relay_live.proofs.running.serve_all.Goals as goal
 
@@ -50,7 +53,14 @@ returns g c =
       accepted = counts.accepted ∙ served.accepted;
       posted = ap posts_in counts.posted ∙ served.posted ∙ sym counts.accepted;
       mismatched_receipts = counts.mismatched_receipts;
-      ids_stored_again = counts.ids_stored_again;
+      once = both_of c.in_ok-audit.audit
+          (λ posts. length posts ≡ posts_in (posted_in c.in-Ok.counted))
+          (c.in_ok-audit.ensures.as_many (posts_in (posted_in c.in-Ok.counted))
+          (subst (λ (totals : _). IfSome c.in_ok-seats.closed.posts
+          (λ all. length all.history ≡ posts_in totals)) (sym counts.posted)
+          c.in_ok-seats.closed.as_many));
+      unforgotten = c.in_ok-audit.ensures.unforgotten;
+      read = c.in_ok-audit.ensures.read;
     }
 
 -- where memory was refused before a thread was started, nothing comes back,
@@ -69,7 +79,9 @@ returns-in_err-ends g c =
       accepted = IfOk-from_err told.result _ told.ensures.0;
       posted = IfOk-from_err told.result _ told.ensures.0;
       mismatched_receipts = IfOk-from_err told.result _ told.ensures.0;
-      ids_stored_again = IfOk-from_err told.result _ told.ensures.0;
+      once = IfOk-from_err told.result _ told.ensures.0;
+      unforgotten = λ unset. IfOk-from_err told.result _ told.ensures.0;
+      read = λ set. IfOk-from_err told.result _ told.ensures.0;
     }
 
 -- nor where a thread couldn't be started
@@ -88,7 +100,9 @@ returns-in_err-seats g c =
       accepted = IfOk-from_err told.result _ told.ensures.0;
       posted = IfOk-from_err told.result _ told.ensures.0;
       mismatched_receipts = IfOk-from_err told.result _ told.ensures.0;
-      ids_stored_again = IfOk-from_err told.result _ told.ensures.0;
+      once = IfOk-from_err told.result _ told.ensures.0;
+      unforgotten = λ unset. IfOk-from_err told.result _ told.ensures.0;
+      read = λ set. IfOk-from_err told.result _ told.ensures.0;
     }
 
 -- or where there is no memory to count
@@ -106,5 +120,28 @@ returns-in-Err g c =
       accepted = tt;
       posted = tt;
       mismatched_receipts = tt;
-      ids_stored_again = tt;
+      once = tt;
+      unforgotten = λ unset. tt;
+      read = λ set. tt;
+    }
+
+-- or none for the fronts
+pub returns-in_err-audit : goal.returns-in_err-audit
+returns-in_err-audit g c =
+    let told = c.from_residual-in_err-audit in
+    record {
+      lefts = IfOk-from_err told.result _ told.ensures.0;
+      lists = IfOk-from_err told.result _ told.ensures.0;
+      writers = IfOk-from_err told.result _ told.ensures.0;
+      jobs = IfOk-from_err told.result _ told.ensures.0;
+      none = IfOk-from_err told.result _ told.ensures.0;
+      peers = IfOk-from_err told.result _ told.ensures.0;
+      terms = IfOk-from_err told.result _ told.ensures.0;
+      kept = IfOk-from_err told.result _ told.ensures.0;
+      accepted = IfOk-from_err told.result _ told.ensures.0;
+      posted = IfOk-from_err told.result _ told.ensures.0;
+      mismatched_receipts = IfOk-from_err told.result _ told.ensures.0;
+      once = IfOk-from_err told.result _ told.ensures.0;
+      unforgotten = λ unset. IfOk-from_err told.result _ told.ensures.0;
+      read = λ set. IfOk-from_err told.result _ told.ensures.0;
     }

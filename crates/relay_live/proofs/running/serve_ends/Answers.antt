@@ -52,11 +52,11 @@ serve_seats-requires-clause-kept g c κs within k p at =
     (λ i. (number i, (sym unused.1 i, sym unused.2 i)))
     (c.requires.new k p.service (no_jobs channels) there (nothing channels))
 
-pub close-totals-requires-clause-lefts : goal.close-totals-requires-clause-lefts
-close-totals-requires-clause-lefts g c = c.in-Ok.ensures.lefts.1
+pub close_desk-closed-requires-clause-lefts : goal.close_desk-closed-requires-clause-lefts
+close_desk-closed-requires-clause-lefts g c = c.in-Ok.ensures.lefts.1
 
-pub close-totals-requires-clause-writers : goal.close-totals-requires-clause-writers
-close-totals-requires-clause-writers g c =
+pub close_desk-closed-requires-clause-writers : goal.close_desk-closed-requires-clause-writers
+close_desk-closed-requires-clause-writers g c =
     let writers = c.in-Ok.ensures.writers in
     let channels = c.in_ok-channels.ensures.channels in (
       writers.0 ∙ channels.1 ∙ sym channels.0 ∙ sym (ap length c.as_slice-channels.ensures.value),
@@ -65,23 +65,23 @@ close-totals-requires-clause-writers g c =
           c.in-Ok.seats.writers.items) (sym c.in-Ok.ensures.lefts.0) writers.1,
     )
 
-pub close-totals-requires-clause-rests : goal.close-totals-requires-clause-rests
-close-totals-requires-clause-rests g c =
+pub close_desk-closed-requires-clause-rests : goal.close_desk-closed-requires-clause-rests
+close_desk-closed-requires-clause-rests g c =
     let long = sym (c.in-Ok.ensures.lefts.0 ∙ c.in_ok-channels.ensures.channels.2) in
     subst (λ (x : List JobChannel × ℕ). RestsFit x.0 x.1 c.in_ok-channels.field-0.rests.items)
     (λ i. (sym c.as_slice-channels.ensures.value i, long i)) c.in_ok-channels.ensures.rests
 
 -- there is a writer for each part of the ledger
-pub close-totals-requires-clause-parts : goal.close-totals-requires-clause-parts
-close-totals-requires-clause-parts g c =
+pub close_desk-closed-requires-clause-parts : goal.close_desk-closed-requires-clause-parts
+close_desk-closed-requires-clause-parts g c =
     let long = c.in-Ok.ensures.writers.0 ∙ c.in_ok-channels.ensures.channels.1 in
     (c.requires.parts.2 ∙ sym long, subst (λ (n : ℕ). 0 < n) (sym long) c.requires.parts.3)
 
 -- all ends come back, and so do all writers; what an end is stays, whatever it serves
 pub returns : goal.returns
 returns g c =
-    let seats = c.close-totals.new.seats in
-    let told = c.close-totals.ensures in
+    let seats = c.close_desk-closed.new.seats in
+    let told = c.close_desk-closed.ensures in
     let came = c.in-Ok.ensures in
     let opened = c.in_ok-channels.ensures in
     let long = came.lefts.0 ∙ opened.channels.2 in

@@ -5,11 +5,11 @@ use Rattle.relay_live.proofs.StartedBuffers.{StartedSoFar}
 use Rattle.relay_live.proofs.started.start_buffers.Given as goal
 
 -- the buffers so far are started
-abbrev pub invariant-loop-store : goal.invariant-loop-store
-invariant-loop-store g l = record {
+abbrev pub invariant-loop-slot : goal.invariant-loop-slot
+invariant-loop-slot g l = record {
   so_far : StartedSoFar l.fn.stop l.fn.stores.items l.left.rest.items l.buffers.items l.mixed;
   room : length l.fn.stores.items ≤ vec_capacity l.buffers;
 }
 
-abbrev pub decreases-loop-store : goal.decreases-loop-store
-decreases-loop-store g l = into_iter_len l.left
+abbrev pub decreases-loop-slot : goal.decreases-loop-slot
+decreases-loop-slot g l = into_iter_len l.left

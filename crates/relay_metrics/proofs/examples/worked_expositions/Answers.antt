@@ -10,6 +10,10 @@ pub returns-clause-ring : goal.returns-clause-ring
 unfolding digits
 returns-clause-ring c = refl
 
+pub returns-clause-paused : goal.returns-clause-paused
+unfolding digits
+returns-clause-paused c = refl
+
 pub returns-clause-odd : goal.returns-clause-odd
 unfolding digits
 returns-clause-odd c = refl

@@ -7,5 +7,7 @@ use Rattle.relay_page.proofs.buffers.put_buffers.Given as goal
 abbrev pub invariant-loop-place : goal.invariant-loop-place
 invariant-loop-place l =
     l.text.items
-    ++ buffer_rows (map line_view l.sizes) l.place (map line_view (drop l.place l.buffers))
-    ≡ l.fn.text.items ++ buffer_rows (map line_view l.sizes) 0 (map line_view l.buffers)
+    ++ buffer_rows (map line_view l.sizes) (map line_view l.oldest) l.place
+    (map line_view (drop l.place l.buffers))
+    ≡ l.fn.text.items
+    ++ buffer_rows (map line_view l.sizes) (map line_view l.oldest) 0 (map line_view l.buffers)

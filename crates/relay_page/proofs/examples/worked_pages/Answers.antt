@@ -10,6 +10,10 @@ pub returns-clause-recovering : goal.returns-clause-recovering
 unfolding digits
 returns-clause-recovering c = refl
 
+pub returns-clause-paused : goal.returns-clause-paused
+unfolding digits
+returns-clause-paused c = refl
+
 pub returns-clause-odd : goal.returns-clause-odd
 unfolding digits
 returns-clause-odd c = refl

@@ -2,7 +2,7 @@ use Rattle.std.proofs.Common.{◌∙◌, ◌+◌, ◌≤◌, ap, length, map, su
 use Rattle.std.proofs.lemmas.List.{take_all}
 use Rattle.relay_report.specs.declared.figures.NamedBuffer.{NamedBuffer}
 use Rattle.relay_live.proofs.Rooms.{index_fits_as, no_more, room_of}
-use Rattle.relay_startup.proofs.Rows.{longer, one_more_made}
+use Rattle.buffer_files.proofs.Rows.{longer, one_more_made}
 use Rattle.relay_serve.proofs.figures.buffers_of.Goals as goal
 
 pub loop-number-init : goal.loop-number-init

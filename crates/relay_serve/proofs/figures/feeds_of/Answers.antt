@@ -5,7 +5,7 @@ use Rattle.article_verdict.proofs.FewFeeds.{few_feeds}
 use Rattle.relay_report.specs.Figures.{name_of}
 use Rattle.relay_report.specs.declared.figures.NamedFeed.{NamedFeed}
 use Rattle.relay_live.proofs.Rooms.{index_fits_as, no_more, room_of}
-use Rattle.relay_startup.proofs.Rows.{longer, one_more_made}
+use Rattle.buffer_files.proofs.Rows.{longer, one_more_made}
 use Rattle.relay_serve.proofs.figures.feeds_of.Goals as goal
 
 pub loop-number-init : goal.loop-number-init

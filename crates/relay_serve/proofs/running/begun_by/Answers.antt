@@ -1,6 +1,6 @@
-use Rattle.std.proofs.Common.{subst, sym}
+use Rattle.std.proofs.Common.{◌∙◌, ap, subst, sym}
 use Rattle.relay_folder.specs.declared.origin.Origin.{Origin}
-use Rattle.relay_serve.specs.Lives.{IsUnbegun}
+use Rattle.relay_serve.specs.Lives.{IsUnbegun, text_in}
 use Rattle.relay_serve.proofs.running.begun_by.Goals as goal
 
 -- from nothing it isn't begun for another reason than a start,
@@ -23,3 +23,12 @@ returns-in-Err-start-clause-unbegun g c =
       rightly = c.in-Err-start.ensures.refused;
       told = c.unstarted.ensures;
     })
+
+-- from nothing no text is begun from, else from this one
+pub new-requires-clause-posts : goal.new-requires-clause-posts
+new-requires-clause-posts g c =
+    (c.requires.posts.0, c.requires.posts.1 ∙ ap text_in c.in-Formatted.is)
+
+pub start-requires-clause-posts : goal.start-requires-clause-posts
+start-requires-clause-posts g c κs within =
+    (c.requires.posts.0, c.requires.posts.1 ∙ ap text_in c.in-Stopped.is)

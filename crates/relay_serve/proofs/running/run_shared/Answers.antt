@@ -5,7 +5,7 @@ use Rattle.article_verdict.specs.Config.{terms_of}
 use Rattle.live_jobs.specs.Desks.{posts_in}
 use Rattle.live_jobs.specs.Gathered.{NoneElse, hands_of}
 use Rattle.live_jobs.specs.Seats.{left_by}
-use Rattle.relay_live.specs.Counts.{accepted_in, ids_stored_again_of, mismatched_receipts_of}
+use Rattle.relay_live.specs.Counts.{accepted_in, mismatched_receipts_of}
 use Rattle.relay_live.specs.Counts.{posted_in}
 use Rattle.relay_live.specs.PeerServers.{kept_of, peer_of, terms_at}
 use Rattle.relay_live.specs.Sessions.{Accounted, HasLists}
@@ -60,7 +60,6 @@ returns-in-Ok g c =
         posted = ap (λ (counts : Counted). posts_in (posted_in counts)) same ∙ ran.posted
             ∙ sym (ap accepted_in same);
         mismatched_receipts = ap mismatched_receipts_of same ∙ ran.mismatched_receipts;
-        ids_stored_again = ap ids_stored_again_of same ∙ ran.ids_stored_again;
       };
       fault = tt;
     }

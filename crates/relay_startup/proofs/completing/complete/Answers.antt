@@ -1,6 +1,6 @@
 use Rattle.std.proofs.Common.{inl, inr}
 use Rattle.first_start.proofs.Bare.{completed_from}
-use Rattle.relay_startup.proofs.Looks.{file_at_is_served}
+use Rattle.buffer_files.proofs.FileFaults.{file_at_is_served}
 use Rattle.relay_startup.proofs.completing.complete.Goals as goal
 
 -- it wasn't cut short: they are as they were,

@@ -2,7 +2,7 @@ use Rattle.std.proofs.Common.{Option, Some, subst, sym}
 use Rattle.block_shelf.proofs.Shelving.{read_there}
 use Rattle.relay_conf.specs.declared.cycbuff.BufferConf.{BufferConf}
 use Rattle.relay_startup.specs.Starting.{IsFaultOfBuffer}
-use Rattle.relay_startup.proofs.Rows.{read_at}
+use Rattle.buffer_files.proofs.Rows.{read_at}
 use Rattle.relay_startup.proofs.starting.fault_at.Goals as goal
 
 -- the fault is of the buffer that is there

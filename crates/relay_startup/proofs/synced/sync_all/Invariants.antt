@@ -1,6 +1,6 @@
 use Rattle.std.proofs.Common.{◌≡◌, All, length, map, take}
 use Rattle.block_shelf.specs.Each.{AreEach}
-use Rattle.relay_startup.specs.Synced.{IsUncalled}
+use Rattle.buffer_files.specs.Synced.{IsUncalled}
 use Rattle.relay_startup.proofs.synced.sync_all.Given as goal
 
 -- the device of each store so far has said that it took all; no block was asked for, and all have

@@ -1,7 +1,8 @@
-use Rattle.std.proofs.Common.{◌≡◌, Option, Some, map, refl, slice_get, subst, sym}
+use Rattle.std.proofs.Common.{◌≡◌, Option, Some, ap, map, refl, slice_get, subst, sym}
 use Rattle.id_history.specs.Shards.{EachKeeps}
 use Rattle.live_store.specs.Steps.{buffer_of}
-use Rattle.relay_live.proofs.Rest.{at_rest}
+use Rattle.post_history.specs.Shards.{shards_in}
+use Rattle.relay_live.proofs.Rest.{at_rest, rest_of}
 use Rattle.relay_live.proofs.Rooms.{no_more, room_of}
 use Rattle.relay_live.proofs.Shuts.{shut_partly, shuts}
 use Rattle.relay_live.specs.Stopping.{HasClaim, HasWrite, IsShutAll}
@@ -11,10 +12,12 @@ use Rattle.relay_live.proofs.alone.Alone.shut.Goals as goal
 pub returns-then-not-none_is_stored : goal.returns-then-not-none_is_stored
 returns-then-not-none_is_stored g c = record {
   shut = tt;
+  gained = λ found. tt;
   back = (
     refl,
     HasClaim (λ claims keeps. c.none_is_stored.ensures.some c.if-not-none_is_stored.true
-        claims (subst (λ items. EachKeeps items claims) (sym c.deref.ensures.value) keeps)),
+        claims (subst (λ items. EachKeeps (shards_in items) claims)
+        (sym c.deref.ensures.value) keeps)),
   );
 }
 
@@ -24,6 +27,7 @@ returns-then-not-none_is_written g c =
     let some = c.none_is_written.ensures.some c.if-not-none_is_written.true in
     record {
       shut = tt;
+      gained = λ found. tt;
       back = (
         refl,
         HasWrite some.0 some.1
@@ -37,10 +41,11 @@ returns-then-not-none_is_written g c =
 pub returns-in-Err : goal.returns-in-Err
 returns-in-Err g c = record {
   shut = tt;
+  gained = λ found. tt;
   back = (
     refl,
-    at_rest c.args.self _ _ c.deref.ensures.value c.deref-2.ensures.value
-        (c.none_is_stored.ensures.none c.if-not-none_is_stored.false)
+    at_rest c.args.self _ _ (ap shards_in c.deref.ensures.value) c.deref-2.ensures.value
+        (rest_of _ (c.none_is_stored.ensures.none c.if-not-none_is_stored.false))
         (c.none_is_written.ensures.none c.if-not-none_is_written.false),
   );
 }
@@ -48,10 +53,11 @@ returns-in-Err g c = record {
 pub returns-in_default : goal.returns-in_default
 returns-in_default g c = record {
   shut = tt;
+  gained = λ found. tt;
   back = (
     refl,
-    at_rest c.args.self _ _ c.deref.ensures.value c.deref-2.ensures.value
-        (c.none_is_stored.ensures.none c.if-not-none_is_stored.false)
+    at_rest c.args.self _ _ (ap shards_in c.deref.ensures.value) c.deref-2.ensures.value
+        (rest_of _ (c.none_is_stored.ensures.none c.if-not-none_is_stored.false))
         (c.none_is_written.ensures.none c.if-not-none_is_written.false),
   );
 }
@@ -70,27 +76,29 @@ shut_all-requires-clause-room g c =
 -- it is stopped
 pub returns-in-None-default : goal.returns-in-None-default
 returns-in-None-default g c =
-    let rest = at_rest c.args.self _ _ c.deref.ensures.value c.deref-2.ensures.value
-    (c.none_is_stored.ensures.none c.if-not-none_is_stored.false)
+    let rest = at_rest c.args.self _ _ (ap shards_in c.deref.ensures.value) c.deref-2.ensures.value
+    (rest_of _ (c.none_is_stored.ensures.none c.if-not-none_is_stored.false))
     (c.none_is_written.ensures.none c.if-not-none_is_written.false) in
     record {
       shut = shuts c.args.self rest c.next_stop-stop.result c.shut_all.result.1.items
-          c.in-Ok.history.items c.next_stop-stop.ensures c.in-Ok.ensures
+          c.in-Ok.history.items c.next_stop-stop.ensures c.in-Ok.ensures.tells
           (subst
           (λ (failed : Option _). IsShutAll c.next_stop-stop.result c.args.self.buffers.items failed
           c.shut_all.result.1.items)
           c.in-None-default.is-0 c.shut_all.ensures);
+      gained = c.in-Ok.ensures.gained;
       back = tt;
     }
 
 -- or the device of a buffer has failed
 pub returns : goal.returns
 returns g c =
-    let rest = at_rest c.args.self _ _ c.deref.ensures.value c.deref-2.ensures.value
-    (c.none_is_stored.ensures.none c.if-not-none_is_stored.false)
+    let rest = at_rest c.args.self _ _ (ap shards_in c.deref.ensures.value) c.deref-2.ensures.value
+    (rest_of _ (c.none_is_stored.ensures.none c.if-not-none_is_stored.false))
     (c.none_is_written.ensures.none c.if-not-none_is_written.false) in
     record {
       shut = tt;
+      gained = λ found. tt;
       back = (
         rest,
         shut_partly c.args.self rest c.next_stop-stop.result c.in-Some-default.number

@@ -33,7 +33,7 @@ returns-in-Err g c =
     }
 
 pub start_buffers-requires-clause-few : goal.start_buffers-requires-clause-few
-start_buffers-requires-clause-few g c =
+start_buffers-requires-clause-few g c κs within =
     no_more _ _ _
     (same_count g.S.BlockStore c.args.config.now.buffers c.args.stopped.stores.items
     c.requires.stores)
@@ -103,6 +103,14 @@ returns-then-is_ahead g c =
 
 pub resume-requires-clause-holds : goal.resume-requires-clause-holds
 resume-requires-clause-holds g c = c.in-Ok.ensures.reads.holds
+
+-- the relay began with this history
+pub resume-requires-clause-began : goal.resume-requires-clause-began
+resume-requires-clause-began g c =
+    c.requires.posts.1 ∙ sym c.deref.ensures.value ∙ c.in-Ok.ensures.reads.text_is
+
+pub resume-requires-clause-fits : goal.resume-requires-clause-fits
+resume-requires-clause-fits g c = c.in-Ok.ensures.reads.fits
 
 -- there is no memory for what is made of it
 pub returns-in-Err-resume : goal.returns-in-Err-resume
@@ -174,4 +182,5 @@ pub over-requires : goal.over-requires
 over-requires g c = record {
   few = no_more _ _ _ c.in-Ok-resume.ensures.placed_group_count
       c.args.config.now.buffers.few_groups;
+  rings = c.requires.rings;
 }

@@ -1,0 +1,5 @@
+pub mod Few
+pub mod Nexts
+pub mod Ordered
+pub mod ReadBack
+pub mod Sinces

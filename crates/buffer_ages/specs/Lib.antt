@@ -1,0 +1,5 @@
+pub mod Examples
+pub mod Laws
+pub mod Marks
+pub mod Text
+pub mod Views

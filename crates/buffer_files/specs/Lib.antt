@@ -1,0 +1,5 @@
+pub mod Faults
+pub mod Files
+pub mod History
+pub mod Reasons
+pub mod Synced

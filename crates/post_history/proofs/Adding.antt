@@ -1,0 +1,66 @@
+-- The exchange that adds an entry keeps the rule.
+use Rattle.std.proofs.Common.{◌≡◌, ℕ, ◌+◌, ◌<◌, ◌==◌, Bool, true, false, List, [], ◌∷◌, ◌++◌}
+use Rattle.std.proofs.Common.{length, refl, ap, sym, subst, arith, inl, length-append, None}
+use Rattle.std.proofs.lemmas.List.{append-nil}
+use Rattle.std.proofs.lemmas.Bool.Decides.{nat_tests}
+use mathlib.Core.List.{IsPrefix}
+use prog.Atomic.{either}
+use Rattle.logbook.specs.Pages.{Cell, cell, keeps, no_nib, step, Moves, Goes}
+use Rattle.post_history.specs.declared.post.Post.{Post}
+use Rattle.post_history.specs.Rules.{IsKept, Adds}
+use Rattle.post_history.proofs.Fronts.{prefix_whole}
+
+-- clients see nothing of the history,
+abbrev pub shown : List Post → List Post
+shown log = []
+
+-- and move nothing of it
+abbrev pub moved : List Post → List Post → ℕ → Type 0
+moved xs ys n = Unit {0}
+
+-- what the exchange of a length for the next does to a word, told as it is
+abbrev Steps : (v : List Post) (e : Post) (old : ℕ) → List Cell → List Post → Type 0
+Steps v e old cells log =
+    Goes IsKept shown moved 0 (v, (no_nib, None)) (λ n. either (n == old) (old + 1) n)
+    (Adds (step 0 old (old + 1) e) (v, (no_nib, None))) cells log
+
+-- where the length is that which was seen, the entry is added; else nothing is
+pub adds_goes : (log v : List Post) (e : Post) (old : ℕ) → length v ≡ old → IsPrefix v log
+    → (b : Bool) → (length log == old) ≡ b
+    → Steps v e old ((length log, true) ∷ (0, true) ∷ []) log
+adds_goes log v e old len pre true is =
+    let here : length log ≡ old = grind (arith, nat_tests) in
+    let same : v ≡ log = prefix_whole v log pre (omega arith) in
+    let n : either (length log == old) (old + 1) (length log) ≡ length (log ++ e ∷ []) =
+    rw is (omega (arith, length-append log (e ∷ []))) in (
+      keeps,
+      e ∷ [],
+      None,
+      tt,
+      record { words = ap (λ (k : ℕ). (k, true) ∷ (0, true) ∷ []) n },
+      inl (refl, refl),
+      rw is (ap (λ w. w ++ e ∷ []) (sym same)),
+    )
+adds_goes log v e old len pre false is =
+    let all : log ++ [] ≡ log = append-nil log in
+    let n : either (length log == old) (old + 1) (length log) ≡ length (log ++ []) =
+    rw is (ap length (sym all)) in (
+      keeps,
+      [],
+      None,
+      tt,
+      record { words = ap (λ (k : ℕ). (k, true) ∷ (0, true) ∷ []) n },
+      inl (refl, refl),
+      rw is (ap length all),
+    )
+
+-- whatever the book is, the exchange adds the entry to all that was seen, or finds that the history
+-- is longer
+pub adds_moves : (v : List Post) (e : Post) (old : ℕ) → length v ≡ old
+    → Moves IsKept shown moved 0 (v, (no_nib, None)) (λ n. either (n == old) (old + 1) n)
+    (Adds (step 0 old (old + 1) e) (v, (no_nib, None)))
+adds_moves v e old len cs log kept pre away =
+    let P : List Cell → Type 0 =
+    λ c. (0 < length c) × ((cell c 0).1 ≡ true) × Steps v e old c log in
+    subst P (sym kept.words)
+    (omega arith, refl, adds_goes log v e old len pre (length log == old) refl)

@@ -1,0 +1,9 @@
+use Rattle.std.proofs.Common.{ℕ, ◌<◌, map, subst, sym}
+use Rattle.id_history.specs.Expiry.{passed_view}
+use Rattle.post_history.proofs.OnceLaws.{posted_some}
+use Rattle.post_history.proofs.audit.all_once.Goals as goal
+
+pub returns : goal.returns
+returns g c =
+    λ agree. posted_some (map passed_view c.args.fronts.now) g.J.Naming.began c.args.all.now.history
+    (λ k below. c.agree.ensures agree k (subst (λ (n : ℕ). k < n) (sym c.requires) below))

@@ -1,0 +1,16 @@
+use Rattle.std.proofs.Common.{refl}
+use Rattle.relay_model.specs.Claims.{after_offer, standing}
+use Rattle.post_history.specs.Own.{fronts_used, own_posts}
+use Rattle.post_history.proofs.RememberLemmas.{stays_tried}
+use Rattle.post_history.proofs.remembering.RememberingShard.offer.Goals as goal
+
+pub invariant_of-self : goal.invariant_of-self
+invariant_of-self g c =
+    let old = c.args.self.now in
+    record {
+      remembers = λ found. stays_tried old.shard c.offer.new.self c.args.id.now
+          (λ claim. after_offer c.args.session c.args.now
+          (standing c.args.lasting c.args.now claim))
+          (λ t m. refl) c.offer.result c.offer.ensures.claims c.offer.ensures.err
+          (fronts_used old.posts) (own_posts old.posts) (old.remembers found);
+    }

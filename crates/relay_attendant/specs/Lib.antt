@@ -1,0 +1,2 @@
+pub mod Attendants
+pub mod Moments

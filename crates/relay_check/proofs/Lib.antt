@@ -1,0 +1,3 @@
+mod AddFaults
+mod CausesByName
+mod Looks

@@ -1,0 +1,17 @@
+use Rattle.std.proofs.Common.{refl}
+use Rattle.relay_model.specs.Claims.{after_refuse, standing}
+use Rattle.post_history.specs.Own.{fronts_used, own_posts}
+use Rattle.post_history.proofs.RememberLemmas.{stays_tried}
+use Rattle.relay_live.proofs.refusing.refuse_remembering.Goals as goal
+
+-- a refusal leaves what is stored
+pub invariant_of-remembering : goal.invariant_of-remembering
+invariant_of-remembering g c =
+    let old = c.args.remembering.now in
+    record {
+      remembers = λ found. stays_tried old.shard c.refuse.new.shard c.args.id.now
+          (λ claim. after_refuse c.args.session c.args.now
+          (standing c.args.lasting c.args.now claim))
+          (λ t m. refl) c.refuse.result c.refuse.ensures.claims c.refuse.ensures.err
+          (fronts_used old.posts) (own_posts old.posts) (old.remembers found);
+    }

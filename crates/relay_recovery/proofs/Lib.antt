@@ -1,0 +1,3 @@
+mod Repairs
+mod ShutAgain
+mod Unsaved
