@@ -18,6 +18,8 @@ pub struct Callers<'a> {
     relay: &'a Relay,
     /// The number of the peer.
     peer: usize,
+    /// How many connections the ends of the port have taken, of those who may and of others.
+    taken: AtomicU64,
     /// How many were refused since that was last told.
     refused: AtomicU64,
     /// The second after that in which it was, 0 before that.
@@ -30,6 +32,7 @@ impl Drop for Callers<'_> {
         let Callers {
             relay: _,
             peer: _,
+            taken: _,
             refused: _,
             told: _,
         } = self;
@@ -45,6 +48,7 @@ impl<'a> Callers<'a> {
         Callers {
             relay,
             peer,
+            taken: AtomicU64::new(0),
             refused: AtomicU64::new(0),
             told: AtomicU64::new(0),
         }
@@ -66,6 +70,16 @@ impl<'a> Callers<'a> {
         } else {
             None
         }
+    }
+
+    /// Counts a connection that an end of the port has taken.
+    pub(crate) fn count_taken(&self) {
+        self.taken.fetch_add(1, Ordering::SeqCst);
+    }
+
+    /// How many the ends of the port have taken.
+    pub(crate) fn taken(&self) -> u64 {
+        self.taken.load(Ordering::SeqCst)
     }
 
     /// Counts one at the port of these listeners that was refused, and tells in one line a minute

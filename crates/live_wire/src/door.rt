@@ -1,4 +1,7 @@
 //! Whoever waits at a port all of whose connections are taken.
+ghost use Rattle.std.specs.Prelude.{◌≡◌, ◌+◌, ◌-◌, ◌^◌, true, false};
+ghost use Rattle.std.specs.Prelude.{min};
+
 use crate::callers::Callers;
 use crate::listeners::Listeners;
 use crate::stop::{Stop, have_passed};
@@ -8,7 +11,7 @@ use std::net::{Shutdown, TcpStream};
 use std::sync::atomic::{AtomicU64, Ordering};
 use std::time::Clock;
 
-/// For how many seconds a connection waits for one of the port's ends, at least.
+/// For how many seconds the first who waits does so for one of the port's ends, at least.
 const PATIENCE: u64 = 2;
 
 /// What one is told that waited for longer (RFC 3977 section 5.1.1).
@@ -26,8 +29,10 @@ pub struct Door<'a> {
     stop: &'a Stop,
     /// The place of the port there.
     place: u64,
-    /// Since which second some have waited each time that it was looked.
+    /// The second behind the one in which it was first seen that he waits who is the first now.
     since: AtomicU64,
+    /// How many the port's ends had taken when it was last looked.
+    taken: AtomicU64,
 }
 
 // Written out, so that no crate above proves anew how each part is let go.
@@ -39,6 +44,7 @@ impl Drop for Door<'_> {
             stop: _,
             place: _,
             since: _,
+            taken: _,
         } = self;
     }
 }
@@ -57,21 +63,21 @@ impl<'a> Door<'a> {
             stop,
             place,
             since: AtomicU64::new(NEVER),
+            taken: AtomicU64::new(0),
         }
     }
 
     /// Looks at the door in this second. Where some wait there, a connection of the port makes room
-    /// that was silent for a minute. Where some have waited at each look for two seconds, the first
-    /// of them is told that there are too many, and let go; one from an address that may not
-    /// connect is closed without a word.
+    /// that was silent for a minute. Where the first of them has waited for two seconds he is told
+    /// that there are too many, and let go; one from an address that may not connect is closed
+    /// without a word.
     pub fn look<C: Clock + Eprint>(&self, rt: &C, second: u64) {
         let waits = self.has_waiting();
         self.stop.wait_at(self.place, waits);
-        if !waits {
-            self.since.store(NEVER, Ordering::SeqCst);
-            return;
-        }
-        let since = self.since.load(Ordering::SeqCst).min(second);
+        // Where an end has taken one since the last look the first is another.
+        let taken = self.callers.taken();
+        let is_new = self.taken.swap(taken, Ordering::SeqCst) != taken;
+        let since = waits_since(self.since.load(Ordering::SeqCst), waits, is_new, second);
         self.since.store(since, Ordering::SeqCst);
         if have_passed(since, PATIENCE, second) {
             self.refuse(rt, second);
@@ -107,6 +113,21 @@ impl<'a> Door<'a> {
         let number = self.listeners.number()?;
         eprintln!(rt; "refused port={number} for=connections")
     }
+}
+
+/// The second from which on he waits who is the first, whole, where it was this one before, and now
+/// some wait or none, of whom the first is new or not. Where none waits it is that of no second.
+fn waits_since(since: u64, waits: bool, is_new: bool, second: u64) -> u64
+    ensures nobody { waits ≡ false → result ≡ 2 ^ 64 - 1 }
+    ensures new { waits ≡ true → is_new ≡ true → result ≡ min (second + 1) (2 ^ 64 - 1) }
+    ensures known { waits ≡ true → is_new ≡ false
+        → result ≡ min since (min (second + 1) (2 ^ 64 - 1)) }
+{
+    if !waits {
+        return NEVER;
+    }
+    let next = second.saturating_add(1);
+    if is_new { next } else { since.min(next) }
 }
 
 /// Tells who is connected that there are too many, without waiting for him.

@@ -142,6 +142,7 @@ impl<'a> Port<'a> {
             (λ pair. may_call (callers_of self.now) (ipv6_octets pair.0.from) ≡ true)) }
     {
         let (stream, from) = self.listeners.accept()?;
+        self.callers.count_taken();
         let Some(stream) = self.callers.let_in(stream, from) else {
             let _unseen = self.refuse(rt, from);
             return Ok(None);

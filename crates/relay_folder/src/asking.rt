@@ -76,6 +76,6 @@ fn is_end(error: &io::Error, word: Word) -> bool
 {
     match word {
         Word::Stop => matches!(error.kind(), ErrorKind::ConnectionReset),
-        Word::Report | Word::Pause | Word::Go => false,
+        Word::Report | Word::Pause | Word::Go | Word::Reload => false,
     }
 }

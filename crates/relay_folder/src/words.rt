@@ -14,6 +14,8 @@ pub enum Word {
     Pause,
     /// To take them again.
     Go,
+    /// To go on with the configuration that stands in its folder now.
+    Reload,
 }
 
 /// The most octets of a line that is a word, with its end.
@@ -29,6 +31,7 @@ impl Word {
             Word::Report => b"report\n",
             Word::Pause => b"pause\n",
             Word::Go => b"go\n",
+            Word::Reload => b"reload\n",
         }
     }
 }
@@ -49,6 +52,9 @@ pub(crate) fn word_of(line: &[u8]) -> Option<Word>
     }
     if line == b"go\n".as_slice() {
         return Some(Word::Go);
+    }
+    if line == b"reload\n".as_slice() {
+        return Some(Word::Reload);
     }
     None
 }
