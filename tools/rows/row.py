@@ -57,7 +57,7 @@ Printed = namedtuple("Printed", "out err events most statuses")
 NOTHING = Printed([], [], [], [], [0])
 
 # The lines that tell what happens while a relay is served (docs/OPERATING.md, Lines).
-EVENT = re.compile(r"(serving|recovering|recovered|starting|closed|failed|left|waiting)( \w+=\S*)+|pausing|going|stopping|stopped")
+EVENT = re.compile(r"(serving|recovering|recovered|starting|closed|failed|left|waiting)( \w+=\S*)+|pausing|going|reloading|stopping|stopped")
 
 # The lines that say what of a file.
 FILES = ("file", "folder", "pipe", "link", "symlink", "mode", "cut", "poke", "remove", "missing",
@@ -224,9 +224,11 @@ class Row:
             raise Wrong(f"relay.conf has no line {front}")
         self.conf["relay.conf"] = left
 
-    def write_conf(self):
-        """Writes the files of the configuration, with ports that are free now; those ports."""
-        self.numbers = {name: it for name, it in self.numbers.items() if name == "taken"}
+    def write_conf(self, anew=True):
+        """Writes the files of the configuration, with ports that are free now, or with those that it
+        has; those ports."""
+        if anew:
+            self.numbers = {name: it for name, it in self.numbers.items() if name == "taken"}
         self.set_before = set()
         for name, lines in self.conf.items():
             (self.dir / name).write_bytes(self.octets("\n".join(lines) + "\n"))
@@ -686,6 +688,9 @@ class Row:
             self.drop_lines(rest)
         elif line == "writes":
             self.write_conf()
+        elif line == "rewrites":
+            for port in self.write_conf(anew=False):
+                self.calls.setdefault(port, 0)
         elif line == "nobody":
             self.user = NOBODY if os.geteuid() == 0 else None
         elif name == "threads" and os.geteuid() == 0:

@@ -2,20 +2,24 @@
 //! runs a drill, a script of events, over memory, and prints what the relay answers; it says how
 //! much a configuration has and how its relay stands, or its first fault, and what a token stands
 //! for; it adds buffers to a relay that was stopped, and asks one that is served to end, to take no
-//! new articles for now, or for its report.
+//! new articles for now, to go on with its configuration as it is now, or for its report.
 //!
-//! What it does with its words is a promise of `relay_command`, what serves of `relay_serve`, and
-//! what adds and looks of `relay_startup`. Here the calls of the first are handed the words, the
+//! What it does with its words is a promise of `relay_command`, what serves of `relay_serve` and
+//! `relay_lives`, and what adds and looks of `relay_startup`. Here the calls of the first are handed the words, the
 //! streams and the files of the system, the calls of the others and what asks, and nothing is
 //! decided.
 #![tactic(auto)]
 
 use news_log::Opening;
+use relay_attendant::KeptOpen;
 use relay_check::{add_on, stand_on};
 use relay_command::{
-    Failure, Request, exit_code, gathering, hint, print_failure, program_words, run,
+    Failure, Request, exit_code, gathering, hint, print_failure, program_words, run, told_text,
 };
+use relay_conf::Config;
 use relay_folder::{Filing, Word, ask};
+use relay_lives::{Lives, serve_lives};
+use relay_report::ServeError;
 use relay_serve::serve_on;
 use std::alloc::Global;
 use std::env::Env;
@@ -59,14 +63,16 @@ where
     let words = program_words(rt)?;
     let _unseen = hint(&words, errors.is_terminal(), errors);
     let mut output = gathering(alloc, io::writer(rt))?;
+    let kept = KeptOpen::new(alloc);
+    let living = &Living { rt, kept: &kept };
     let ran = run(
         rt,
         alloc,
         &words,
         &mut rt.reader(),
         &mut output,
-        move |config, folder, sessions, fresh, writer| serve_on(
-            rt, alloc, config, folder, sessions, fresh, writer,
+        move |config, folder, sessions, fresh, writer| serve_lives(
+            rt, alloc, config, folder, sessions, fresh, writer, living,
         ),
         move |config, folder, writer| add_on(rt, alloc, config, folder, writer),
         move |config, folder, writer| stand_on(rt, alloc, config, folder, writer),
@@ -74,6 +80,56 @@ where
     );
     let (_device, _unwritten) = output.into_parts();
     ran
+}
+
+/// What serves a relay on the ports of the machine, one life after the other.
+#[derive(Drop)]
+struct Living<'a, R> {
+    rt: &'a R,
+    /// What stays open from one life to the next.
+    kept: &'a KeptOpen,
+}
+
+impl<R, W: Write> Lives<W> for Living<'_, R>
+where
+    R: AllocGlobal
+        + Files<File = File>
+        + Filing
+        + Opening
+        + Eprint
+        + Clock
+        + RandomSource
+        + Net<Listener = TcpListener, Stream = TcpStream>
+        + Threads
+        + Wait
+        + Sync,
+{
+    fn serve(
+        &self,
+        config: &Config,
+        folder: &str,
+        sessions: Option<u32>,
+        fresh: bool,
+        writer: &mut W,
+    ) -> Result<(), ServeError> {
+        let alloc = self.rt.alloc();
+        serve_on(self.rt, alloc, config, folder, sessions, fresh, self.kept, writer)
+    }
+
+    fn is_asked(&self) -> bool {
+        self.kept.reloads.is_asked(self.rt)
+    }
+
+    fn goes_on(&self, why: &Failure) -> bool {
+        let goes_on = match told_text(self.rt.alloc(), why) {
+            Ok(text) => self.kept.reloads.tell(self.rt, &text),
+            Err(_) => self.kept.reloads.tell(self.rt, b"out of memory\n"),
+        };
+        if goes_on {
+            let _unseen = eprintln!(self.rt; "refused for=reload\n{why}");
+        }
+        goes_on
+    }
 }
 
 /// What the relay tells that is served in a folder.
@@ -88,6 +144,7 @@ fn ask_there<N: Net>(
         Request::Report => Word::Report,
         Request::Pause => Word::Pause,
         Request::Go => Word::Go,
+        Request::Reload => Word::Reload,
     };
     ask(net, alloc, folder, word)
 }

@@ -3,35 +3,36 @@ ghost use Rattle.std.specs.Prelude.{◌≡◌, is_some};
 ghost use Rattle.relay_attendant.specs.Attendants.{syncing_in};
 
 use crate::beside::Figured;
+use crate::kept_open::KeptOpen;
+use crate::questions::Questions;
 use live_wire::{Door, Stop};
 use news_log::{NewsFile, NewsLines, NewsWriting};
 use relay_devices::Syncing;
-use relay_folder::{Askers, Control, JournalFile, Teller, WAITED_FOR, Word};
+use relay_folder::{Askers, JournalFile, Teller, Word};
 use relay_gate::CountingGate;
 use relay_journal::{JournalLines, Journaling, second_of};
 use std::alloc::{AllocError, Global};
-use std::fs::Files;
 use std::mem;
 use std::sync::atomic::{AtomicBool, Ordering};
-use std::sync::{Mutex, Wait};
+use std::sync::Wait;
 use std::time::Clock;
 
-/// How many of those who have asked while the relay ended wait for the end, at most: all whose
-/// words were waited for, and as many behind them.
-const LAST_ONES: usize = WAITED_FOR + 64;
+/// What is told whoever asks for another configuration while the relay ends.
+const NOT_NOW: &[u8] = b"not now\n";
 
 /// Answers what is asked at the socket of a relay's folder: `report` is told what the relay tells
 /// of itself, `pause` and `go` have it take no new articles and take them again, `stop` has its
-/// ports end, and who asked for that hears no end before the program has ended. Meanwhile it goes
-/// the relay's rounds, and looks once a second who waits at a port.
+/// ports end, and who asked for that hears no end before the program has ended; `reload` has them
+/// end too, and who asked for that is told once it is known how the relay goes on. Meanwhile it
+/// goes the relay's rounds, and looks once a second who waits at a port.
 #[derive(Drop)]
 pub struct Attendant<'a> {
     alloc: Global,
     stop: &'a Stop,
     gate: &'a CountingGate<'a>,
-    control: Control,
-    /// Those who have connected, and whose words are waited for.
-    askers: Mutex<Askers>,
+    /// What stays open when this life of the relay ends.
+    kept: &'a KeptOpen,
+    questions: &'a Questions,
     /// Where connections wait that no port has taken.
     doors: Vec<Door<'a>>,
     /// What is flushed meanwhile.
@@ -45,7 +46,8 @@ impl<'a> Attendant<'a> {
         alloc: Global,
         stop: &'a Stop,
         gate: &'a CountingGate<'a>,
-        control: Control,
+        kept: &'a KeptOpen,
+        questions: &'a Questions,
         doors: Vec<Door<'a>>,
         syncing: Option<Syncing<'a>>,
     ) -> Attendant<'a>
@@ -55,22 +57,50 @@ impl<'a> Attendant<'a> {
             alloc,
             stop,
             gate,
-            control,
-            askers: Mutex::new(Askers::new(alloc)),
+            kept,
+            questions,
             doors,
             syncing,
             ended: AtomicBool::new(false),
         }
     }
 
-    /// Has the relay stop. Who asked for it is never let go: he hears the end when the program
-    /// ends.
-    fn stop<R: Eprint>(&self, rt: &R, teller: Teller) {
-        if !self.stop.is_asked() {
+    /// Has the relay stop, for good: who has asked for another configuration is told so. Who asked
+    /// for the stop is never let go: he hears the end when the program ends.
+    fn stop<R: Wait + Clock + Eprint>(&self, rt: &R, teller: Teller) {
+        let goes_on = self.kept.reloads.tell(rt, NOT_NOW);
+        if goes_on || !self.stop.is_asked() {
             self.stop.ask();
             let _lost = eprintln!(rt; "stopping");
         }
         mem::forget(teller);
+    }
+
+    /// Has this life of the relay end, so that the next goes on with the configuration that its
+    /// folder has. Who asked for that waits. Where the relay ends already he is told to come later.
+    fn reload<R: Wait + Clock + Eprint>(&self, rt: &R, teller: Teller) {
+        if self.stop.is_asked() {
+            teller.tell(rt, NOT_NOW);
+            return;
+        }
+        self.kept.reloads.ask(rt, teller);
+        self.stop.ask();
+        let _lost = eprintln!(rt; "reloading");
+    }
+
+    /// Is told that this life of the relay is served from now on. It takes no new articles where the
+    /// life before it took none.
+    pub fn serve<F: Figured<R>, R: Wait + Clock>(&self, rt: &R, relay: &F) {
+        if self.kept.is_paused() {
+            let _told = relay.pause(rt, true);
+        }
+        self.kept.serve(rt);
+    }
+
+    /// Has the relay take no new articles, or take them again.
+    fn pause<F: Figured<R>, R: Clock>(&self, rt: &R, relay: &F, teller: &Teller, paused: bool) {
+        self.kept.pause(paused);
+        teller.tell(rt, relay.pause(rt, paused));
     }
 
     /// Tells whoever asked the report of the relay.
@@ -86,28 +116,21 @@ impl<'a> Attendant<'a> {
     }
 
     /// Answers whoever asks next, if anybody does.
-    fn answer<F: Figured<R>, R: Clock + Eprint>(&self, rt: &R, relay: &F, askers: &mut Askers) {
-        match self.control.next_word(rt, askers) {
+    fn answer<F: Figured<R>, R: Wait + Clock + Eprint>(
+        &self,
+        rt: &R,
+        relay: &F,
+        askers: &mut Askers,
+    ) {
+        match self.questions.control.next_word(rt, askers) {
             Some((Word::Stop, teller)) => self.stop(rt, teller),
             Some((Word::Report, teller)) => {
                 let _untold = self.report(rt, relay, &teller);
             }
-            Some((Word::Pause, teller)) => teller.tell(rt, relay.pause(rt, true)),
-            Some((Word::Go, teller)) => teller.tell(rt, relay.pause(rt, false)),
+            Some((Word::Pause, teller)) => self.pause(rt, relay, &teller, true),
+            Some((Word::Go, teller)) => self.pause(rt, relay, &teller, false),
+            Some((Word::Reload, teller)) => self.reload(rt, teller),
             None => {}
-        }
-    }
-
-    /// Takes the socket away. Who has asked meanwhile waits, as those who asked for the stop, until
-    /// the program has ended, whatever he has said by now.
-    pub fn close<R: Wait + Clock + Files>(&self, rt: &R, folder: &str) {
-        self.control.close(rt, self.alloc, folder);
-        let mut askers = self.askers.lock(rt);
-        for _ in 0..LAST_ONES {
-            match self.control.next_one(rt, &mut askers) {
-                Some(teller) => mem::forget(teller),
-                None => break,
-            }
         }
     }
 
@@ -123,7 +146,7 @@ impl<'a> Attendant<'a> {
         let begun = second_of(rt);
         let mut last_round = begun;
         let mut last_look = begun;
-        let mut askers = self.askers.lock(rt);
+        let mut askers = self.questions.askers.lock(rt);
         for _ in rt.forever() {
             if self.ended.load(Ordering::SeqCst) {
                 return;

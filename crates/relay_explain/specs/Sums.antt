@@ -51,13 +51,14 @@ openings_of None files = files
 openings_of (Some seconds) files = files * 2
 
 -- the descriptors: of the files of buffers, two of each connection and one for each address on
--- which it may come, one of each port and address for who waits there, of the socket and of one who
--- asks there, of the journal, and of the standard streams
+-- which it may come, two of each port and address, for who waits there and for whoever comes while
+-- the relay takes another configuration, of the socket and of one who asks there, of the journal,
+-- and of the standard streams
 unfoldable pub descriptors_of : Config → ℕ
 descriptors_of config =
     openings_of config.relay.sync (length config.buffers.buffers.items)
     + connections_of config.relay.peers.items * (length config.relay.binds.items + 2)
-    + ports_of config.relay.peers.items * length config.relay.binds.items + 6
+    + ports_of config.relay.peers.items * (length config.relay.binds.items * 2) + 6
 
 -- what a configuration takes of the machine
 unfoldable pub wants_text : Config → List ℕ

@@ -122,7 +122,7 @@ fn descriptors_of(config: &Config) -> u128
     let connections = connections_of(&config.relay.peers);
     let ports = ports_of(&config.relay.peers);
     let addresses = config.relay.binds.len() as u128;
-    openings + connections * (addresses + 2) + ports * addresses + 6
+    openings + connections * (addresses + 2) + ports * (addresses * 2) + 6
 }
 
 /// The descriptors of so many files of buffers.

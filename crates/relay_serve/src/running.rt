@@ -343,6 +343,7 @@ fn run_beside<
                 drop(run);
                 return Err(ServeError::NoThread);
             };
+            side.serve(rt, served);
             let ran = run();
             side.ended();
             beside.join(rt);

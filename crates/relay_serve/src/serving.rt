@@ -4,16 +4,17 @@ ghost use Rattle.buffer_files.specs.Files.{IsFileFault};
 ghost use Rattle.relay_ports.specs.Callers.{AreCallers, HasCallers};
 ghost use Rattle.relay_ports.specs.Ports.{IsPortFault};
 ghost use Rattle.relay_report.specs.Serve.{ServeGives};
+ghost use Rattle.relay_report.specs.declared.fault.ServeError.TheVariants as faults;
 ghost use Rattle.file_blocks.specs.Store.{count_of};
 
 use crate::beginning::{Access, begin_and_run};
 use buffer_files::{Unbegun, fill_streams, fit_files, hold_files};
 use live_wire::{Callers, Port, Stop};
 use news_log::{HostNews, NewsFile, NewsLines, NewsWriting, Opening};
-use relay_attendant::Attendant;
+use relay_attendant::{Attendant, KeepingNet, KeptOpen};
 use relay_conf::Config;
 use relay_devices::{Syncing, open_syncing};
-use relay_folder::{Control, Filing, HistoryPlace, HostHistory, HostJournal, JournalPlace};
+use relay_folder::{Filing, HistoryPlace, HostHistory, HostJournal, JournalPlace};
 use relay_gate::{CountingGate, News, pending_of, writing_of};
 use relay_journal::{JournalLines, PrintedLines, ToldJournal};
 use relay_live::PeerSource;
@@ -30,10 +31,11 @@ use std::thread::Threads;
 use std::time::Clock;
 
 /// Serves a relay of this configuration on the ports of the machine, over its files, until it is
-/// told to stop: the files are opened and locked first, in the order of the buffers, those whose
-/// path is relative in the folder, then the ports are had, in the order of the peers, then the
-/// files are made as long as they have to be, and last comes the socket in the folder by which it
-/// is asked. Then it begins: from nothing where that is asked for (`fresh`), or where neither a
+/// told to stop, or to go on with another configuration: the files are opened and locked first, in
+/// the order of the buffers, those whose path is relative in the folder, then the ports are had, in
+/// the order of the peers, then the files are made as long as they have to be, and last comes the
+/// socket in the folder by which it is asked. Sockets that an earlier life has left open are had
+/// again. Then it begins: from nothing where that is asked for (`fresh`), or where neither a
 /// history nor a buffer was kept there, else from what it was stopped with. Once it was told to
 /// stop, or each port has served so many connections, it is stopped, its history is kept, and the
 /// report is written. What it does is told in lines on standard error.
@@ -44,6 +46,7 @@ pub fn serve_on<R, W: Write>(
     folder: &str,
     sessions: Option<u32>,
     fresh: bool,
+    kept: &KeptOpen,
     writer: &mut W,
 ) -> Result<(), ServeError>
 where
@@ -77,6 +80,7 @@ where
         sessions,
         fresh,
         callers: &callers,
+        kept,
     };
     let answer = open_and_run(
         rt,
@@ -97,7 +101,7 @@ where
     drop(lines);
     drop(callers);
     drop(stop);
-    if answer.is_ok() {
+    if kept.end_life(rt, alloc, folder) && answer.is_ok() {
         tell_stopped(rt);
     }
     answer
@@ -119,10 +123,12 @@ struct Asked<'a> {
     fresh: bool,
     /// Who may connect to the port of each peer.
     callers: &'a [Callers<'a>],
+    /// What stays open when it has ended.
+    kept: &'a KeptOpen,
 }
 
-/// Opens what a relay is served over, last the socket by which it is asked, runs the relay, and
-/// takes the socket away.
+/// Opens what a relay is served over, last the socket by which it is asked, where that isn't open,
+/// and runs the relay.
 fn open_and_run<
     R,
     N: NewsFile + Drop + Send,
@@ -162,9 +168,9 @@ where
     let Ok(doors) = open_doors(alloc, &peer_sources, asked.sessions) else {
         return Err(ServeError::Memory);
     };
-    match Control::listen(rt, alloc, asked.folder) {
-        Ok(control) => {
-            let desk = Attendant::new(alloc, stop, gate, control, doors, syncing);
+    match asked.kept.questions_in(rt, alloc, asked.folder) {
+        Ok(questions) => {
+            let desk = Attendant::new(alloc, stop, gate, asked.kept, questions, doors, syncing);
             tell_serving(rt, peer_sources.len(), unbegun.stores.len());
             let access = Access {
                 peer_sources,
@@ -174,7 +180,6 @@ where
                 ages,
             };
             let answer = begin_and_run(rt, alloc, config, unbegun, places, journal, access, writer);
-            desk.close(rt, asked.folder);
             drop(desk);
             answer
         }
@@ -185,11 +190,18 @@ where
             drop(syncing);
             drop(peer_sources);
             drop(unbegun);
-            match error.kind() {
-                ErrorKind::OutOfMemory => Err(ServeError::Memory),
-                _ => Err(ServeError::Control),
-            }
+            Err(unasked(error.kind()))
         }
+    }
+}
+
+/// Why there is no socket by which a relay is asked.
+fn unasked(kind: ErrorKind) -> ServeError
+    ensures { (result ≡ faults.Memory) ⊎ (result ≡ faults.Control) }
+{
+    match kind {
+        ErrorKind::OutOfMemory => ServeError::Memory,
+        _ => ServeError::Control,
     }
 }
 
@@ -203,7 +215,7 @@ fn open_all<'a, R>(
     stop: &'a Stop,
 ) -> Result<(Unbegun, Vec<PeerSource<Port<'a>>>, Option<Syncing<'a>>), ServeError>
 where
-    R: Net<Listener = TcpListener, Stream = TcpStream> + Files<File = File>,
+    R: Wait + Net<Listener = TcpListener, Stream = TcpStream> + Files<File = File>,
     requires { AreCallers config.now.relay asked.now.callers.now }
     ensures callers { IfOk result (λ opened.
         All (HasCallers config.now.relay.allows.items) opened.1.items) }
@@ -216,7 +228,9 @@ where
     let files = hold_files(rt, alloc, &config.buffers, asked.folder)?;
     let syncing = open_syncing(rt, alloc, config, asked.folder, &files)?;
     let (relay, sessions) = (&config.relay, asked.sessions);
-    let peer_sources = open_ports(rt, alloc, relay, sessions, asked.callers, stop)?;
+    asked.kept.sockets.begin(rt);
+    let net = KeepingNet::new(rt, &asked.kept.sockets);
+    let peer_sources = open_ports(&net, alloc, relay, sessions, asked.callers, stop)?;
     let stores = fit_files(alloc, &config.buffers, files)?;
     let unbegun = Unbegun {
         stores,
