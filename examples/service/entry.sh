@@ -1,5 +1,5 @@
 #!/bin/sh
-# The first process of a container: by SIGTERM, as of `docker stop`, it tells the relay to stop, and
+# The first process of a container: at SIGTERM, as of `docker stop`, it tells the relay to stop, and
 # it ends as the relay ends.
 #
 #     ENTRYPOINT ["/usr/bin/entry.sh", "/var/lib/cnrelay"]
