@@ -1,6 +1,6 @@
 #!/bin/sh
-# The first process of a container. `docker stop` sends SIGTERM, of which the relay itself knows
-# nothing: this hears it, tells the relay to stop, and ends as the relay ends.
+# The first process of a container: at SIGTERM, as of `docker stop`, it tells the relay to stop, and
+# it ends as the relay ends.
 #
 #     ENTRYPOINT ["/usr/bin/entry.sh", "/var/lib/cnrelay"]
 #     HEALTHCHECK CMD cnrelay report /var/lib/cnrelay
@@ -13,7 +13,7 @@ asked=
 trap 'asked=yes; "$cnrelay" stop "$dir" >/dev/null' TERM INT
 wait "$relay"
 status=$?
-# A wait that a signal has ended tells of the signal, and not yet of the relay.
+# A wait that a signal has ended tells nothing of the relay.
 while [ -n "$asked" ]; do
     asked=
     wait "$relay"
