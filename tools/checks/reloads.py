@@ -108,7 +108,7 @@ class Load:
                     for one, _ in left[:WINDOW]:
                         self.note(one, link.line())
                         left.pop(0)
-                    time.sleep(0.01)
+                    time.sleep(0.04)
                 link.close()
             except Gone:
                 pass

@@ -29,6 +29,7 @@ and a cutoff that reaches all example articles, but for what these say before th
                         and bind
     without WORD ..     the lines of relay.conf that begin with these words are left out
     writes              it is written anew by such lines, with other ports, while a relay runs
+    rewrites            the same, with the ports that it has
     nobody              the program runs as nobody, where root runs this
     threads N           the program may have so many threads, where root runs this
     limit N             no file of the program grows beyond N times 512 octets
