@@ -9,10 +9,12 @@
 //! streams and the files of the system, the calls of the others and what asks, and nothing is
 //! decided.
 #![tactic(auto)]
+ghost use Rattle.std.specs.Prelude.{IfErr};
+ghost use Rattle.relay_adding.specs.Telling.{IsAddFault};
 
 use news_log::Opening;
 use relay_attendant::KeptOpen;
-use relay_check::{add_on, stand_on};
+use relay_check::{add_between, add_on, stand_on};
 use relay_command::{
     Failure, Request, exit_code, gathering, hint, print_failure, program_words, run, told_text,
 };
@@ -30,6 +32,7 @@ use std::net::{Net, TcpListener, TcpStream};
 use std::process::ExitCode;
 use std::random::RandomSource;
 use std::sync::Wait;
+use std::sync::atomic::{AtomicUsize, Ordering};
 use std::thread::Threads;
 use std::time::Clock;
 
@@ -64,7 +67,11 @@ where
     let _unseen = hint(&words, errors.is_terminal(), errors);
     let mut output = gathering(alloc, io::writer(rt))?;
     let kept = KeptOpen::new(alloc);
-    let living = &Living { rt, kept: &kept };
+    let living = &Living {
+        rt,
+        kept: &kept,
+        served: AtomicUsize::new(0),
+    };
     let ran = run(
         rt,
         alloc,
@@ -88,6 +95,8 @@ struct Living<'a, R> {
     rt: &'a R,
     /// What stays open from one life to the next.
     kept: &'a KeptOpen,
+    /// With how many buffers the last life was served that ended well; 0 before there was one.
+    served: AtomicUsize,
 }
 
 impl<R, W: Write> Lives<W> for Living<'_, R>
@@ -113,7 +122,11 @@ where
         writer: &mut W,
     ) -> Result<(), ServeError> {
         let alloc = self.rt.alloc();
-        serve_on(self.rt, alloc, config, folder, sessions, fresh, self.kept, writer)
+        add_more(self.rt, alloc, config, folder, self.served.load(Ordering::SeqCst))?;
+        serve_on(self.rt, alloc, config, folder, sessions, fresh, self.kept, writer)?;
+        let buffers = config.buffers.buffers.len();
+        self.served.store(buffers, Ordering::SeqCst);
+        Ok(())
     }
 
     fn is_asked(&self) -> bool {
@@ -130,6 +143,27 @@ where
         }
         goes_on
     }
+}
+
+/// Makes the files of the buffers that the next life of a relay has behind those of the last, which
+/// were so many, and tells of each; nothing before a first life.
+fn add_more<R: Files<File = File> + Filing + Eprint>(
+    rt: &R,
+    alloc: Global,
+    config: &Config,
+    folder: &str,
+    served: usize,
+) -> Result<(), ServeError>
+    ensures { IfErr result (IsAddFault config.now) }
+{
+    if served == 0 || config.buffers.buffers.len() <= served {
+        return Ok(());
+    }
+    let text = add_between(rt, alloc, config, folder, served)?;
+    if let Ok(lines) = str::from_utf8(&text) {
+        let _unseen = eprint!(rt; "{lines}");
+    }
+    Ok(())
 }
 
 /// What the relay tells that is served in a folder.

@@ -53,6 +53,25 @@ where
     }
 }
 
+/// The same between two lives of a relay, whose socket is had meanwhile, for the buffers behind so
+/// many with which it was served. It gives what is told of them.
+pub fn add_between<R>(
+    rt: &R,
+    alloc: Global,
+    config: &Config,
+    folder: &str,
+    served: usize,
+) -> Result<Vec<u8>, ServeError>
+where
+    R: Files<File = File> + Filing,
+    ensures told { IfOk result (λ text. TellsAdded config.now text.items) }
+    ensures fault { IfErr result (IsAddFault config.now) }
+{
+    let mut history = HostHistory::in_folder(rt, alloc, folder)?;
+    let mut names = HostHistory::of_names(rt, alloc, folder)?;
+    add_there(rt, alloc, config, folder, served, &mut history, &mut names)
+}
+
 /// Adds the buffers while no relay is served in the folder, and says what is told of them.
 fn add_alone<R, H: HistoryPlace, N: HistoryPlace>(
     rt: &R,
@@ -69,7 +88,7 @@ where
 {
     match Control::listen(rt, alloc, folder) {
         Ok(control) => {
-            let added = add_there(rt, alloc, config, folder, history, names);
+            let added = add_there(rt, alloc, config, folder, 0, history, names);
             control.close(rt, alloc, folder);
             drop(control);
             added
@@ -88,12 +107,13 @@ pub(crate) fn unasked(kind: ErrorKind) -> ServeError
     }
 }
 
-/// Adds the buffers, and says what is told of them.
+/// Adds the buffers that stand behind so many, and says what is told of them.
 fn add_there<R, H: HistoryPlace, N: HistoryPlace>(
     rt: &R,
     alloc: Global,
     config: &Config,
     folder: &str,
+    served: usize,
     history: &mut H,
     names: &mut N,
 ) -> Result<Vec<u8>, ServeError>
@@ -105,6 +125,7 @@ where
     let stop = stop_kept(alloc, config, history, names)?;
     let files = hold_files(rt, alloc, &config.buffers, folder)?;
     let first = first_of(alloc, &config.buffers, &files)?;
+    let first = first.max(served.min(files.len()));
     add_from(alloc, &config.buffers, files, first, stop)
 }
 
