@@ -88,6 +88,7 @@ fn ask_there<N: Net>(
         Request::Report => Word::Report,
         Request::Pause => Word::Pause,
         Request::Go => Word::Go,
+        Request::Reload => Word::Reload,
     };
     ask(net, alloc, folder, word)
 }
