@@ -3,24 +3,24 @@ use Rattle.std.proofs.Common.{ℕ, Bool, List, Option, Result, Ok, Err, inl, inr
 use denote.Ref.{Bor, MutBor}
 use Rattle.relay_conf.specs.declared.settings.Config.{Config}
 use Rattle.relay_adding.specs.Telling.{AddsRightly}
-use Rattle.relay_report.specs.Serve.{AnswersRightly}
 use Rattle.relay_report.specs.declared.fault.ServeError.{ServeError}
 use Rattle.relay_command.specs.Adding.{Adding, HandedTo, Standing}
 use Rattle.relay_command.specs.Ask.{Asking}
 use Rattle.clap.specs.Words.{Text}
 use Rattle.clap.specs.declared.error.Error.{Error}
 use Rattle.relay_command.specs.CommandLine.{Adds, Asked, Checks, Drills, Explains, Reports, Serves}
-use Rattle.relay_command.specs.CommandLine.{Clashes, Goes, IsAskedBy, Pauses, Stops, Tells}
+use Rattle.relay_command.specs.CommandLine.{Clashes, Goes, IsAskedBy, Pauses, Reloads, Stops}
+use Rattle.relay_command.specs.CommandLine.{Tells}
 use Rattle.relay_command.specs.Help.{HelpGives}
 use Rattle.relay_command.specs.Run.{Performs, RunGives}
-use Rattle.relay_command.specs.Serving.{Handed, Serving}
+use Rattle.relay_command.specs.Serving.{Handed, LivesRightly, Serving}
 use Rattle.relay_command.specs.declared.failure.Failure.{Failure}
 use Rattle.relay_command.specs.declared.failure.Failure.TheVariants as failures
 
 module _ {W : Type 0} (contents : W → Option (List ℕ))
     (post : Bor Config → Bor (List ℕ) → Option ℕ → Bool → MutBor W
     → Result (Unit {0}) ServeError → MutBor W → Type 0)
-    (rightly : AnswersRightly contents post)
+    (rightly : LivesRightly contents post)
     (add_post : Bor Config → Bor (List ℕ) → MutBor W → Result (Unit {0}) ServeError → MutBor W
     → Type 0)
     (adds_rightly : AddsRightly contents add_post) (standing : Standing) (asking : Asking) where
@@ -43,6 +43,7 @@ module _ {W : Type 0} (contents : W → Option (List ℕ))
   never_words (Reports folder form) error input before after does = does
   never_words (Pauses folder) error input before after does = does
   never_words (Goes folder) error input before after does = does
+  never_words (Reloads folder) error input before after does = does
   never_words Clashes error input before after does = does
   never_words (Adds folder) error input before after does = does
 
@@ -58,6 +59,7 @@ module _ {W : Type 0} (contents : W → Option (List ℕ))
   never_unwritten (Reports folder form) input before after does = does
   never_unwritten (Pauses folder) input before after does = does
   never_unwritten (Goes folder) input before after does = does
+  never_unwritten (Reloads folder) input before after does = does
   never_unwritten Clashes input before after does = does
   never_unwritten (Adds folder) input before after does = does
 

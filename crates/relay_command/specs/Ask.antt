@@ -1,7 +1,7 @@
 -- What a relay that is served is asked for, and how it answers (docs/PROTOCOL.md, `stop` and
--- `report`, `pause` and `go`).
-use Rattle.std.specs.Prelude.{◌≡◌, ℕ, Bool, true, false, List, ◌++◌, codes, string_bytes, Option}
-use Rattle.std.specs.Prelude.{Result, Ok, Err}
+-- `report`, `pause` and `go`, `reload`).
+use Rattle.std.specs.Prelude.{◌≡◌, ◌≢◌, ℕ, Bool, true, false, List, ◌++◌, codes, string_bytes}
+use Rattle.std.specs.Prelude.{Option, Result, Ok, Err}
 use denote.Ref.{Bor}
 use Rattle.std.specs.Global.{Vec}
 use Rattle.std.specs.IoError.{error_kind}
@@ -12,10 +12,11 @@ use Rattle.std.specs.declared.io.ErrorKind.TheVariants.{ConnectionRefused, NotFo
 use Rattle.relay_report.specs.Written.{GainsFront}
 use Rattle.relay_command.specs.declared.ask.AskError.{AskError}
 use Rattle.relay_command.specs.declared.ask.AskError.TheVariants.{Memory, Unserved, Unusable}
-use Rattle.relay_command.specs.declared.ask.AskError.TheVariants.{Unwritten}
+use Rattle.relay_command.specs.declared.ask.AskError.TheVariants.{Refused, Unwritten}
 use Rattle.relay_command.specs.declared.ask.Form.{Form}
 use Rattle.relay_command.specs.declared.ask.Form.TheVariants.{Metrics, Page, Told}
 use Rattle.relay_command.specs.declared.ask.Request.{Request}
+use Rattle.relay_command.specs.declared.ask.Request.TheVariants.{Reload}
 use Rattle.relay_metrics.specs.Exposition.{exposition_of}
 use Rattle.relay_page.specs.Page.{page_of}
 
@@ -38,6 +39,7 @@ ask_text (Unserved folder) = string_bytes folder ++ codes ": no relay is served 
 ask_text Unusable = codes "control: unusable"
 ask_text Memory = codes "out of memory"
 ask_text Unwritten = codes "stdout: unwritten"
+ask_text Refused = codes "refused: the relay goes on as it was"
 
 -- the error says that no relay is served in this folder, or that there was no memory to say so
 abbrev pub IsUnserved : (folder : List ℕ) → AskError → Type 0
@@ -45,6 +47,7 @@ IsUnserved folder (Unserved name) = string_bytes name ≡ folder
 IsUnserved folder Unusable = ⊥
 IsUnserved folder Memory = Unit {0}
 IsUnserved folder Unwritten = ⊥
+IsUnserved folder Refused = ⊥
 
 -- why a relay can't be asked: memory ran out, or there is no socket in the folder or nobody hears
 -- at it, or the socket can't be had or failed (docs/PROTOCOL.md, Statuses)
@@ -88,3 +91,29 @@ AsksIn asking folder request form (Err Unwritten) before after =
     × GainsFront (formed form told.items) before after
 AsksIn asking folder request form (Err error) before after =
     IsUntold asking folder request form error × Keeps before after
+
+-- what a relay tells that goes on with the configuration as it is now (docs/PROTOCOL.md, `reload`)
+abbrev pub reloaded_line : List ℕ
+reloaded_line = codes "reloaded\n"
+
+-- What a relay told that was to reload was written, and that it did where it told just that, or
+-- that it refused where it told anything else, or nothing; or the writer failed, with a front of
+-- what it told.
+abbrev pub TellsReload : (told : List ℕ) → Result (Unit {0}) AskError
+    → (before after : Option (List ℕ)) → Type 0
+TellsReload told (Ok done) before after = (told ≡ reloaded_line) × Appends before after told
+TellsReload told (Err Refused) before after = (told ≢ reloaded_line) × Appends before after told
+TellsReload told (Err Unwritten) before after = GainsFront told before after
+TellsReload told (Err error) before after = ⊥
+
+-- What asking a relay to reload answers that is served in a folder: it told something, and that was
+-- told; or it could not be asked, and nothing was written.
+abbrev pub ReloadsIn : Asking → (folder : List ℕ) → Result (Unit {0}) AskError
+    → (before after : Option (List ℕ)) → Type 0
+ReloadsIn asking folder (Ok done) before after =
+    (told : Vec ℕ) × asking folder Reload (Ok told) × TellsReload told.items (Ok done) before after
+ReloadsIn asking folder (Err Refused) before after =
+    (told : Vec ℕ) × asking folder Reload (Ok told)
+    × TellsReload told.items (Err Refused) before after
+ReloadsIn asking folder (Err error) before after =
+    AsksIn asking folder Reload Told (Err error) before after

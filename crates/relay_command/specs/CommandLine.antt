@@ -43,6 +43,8 @@ pub data Asked : Type 0 where
   Pauses : (folder : List ℕ) → Asked
   -- to have it take them again
   Goes : (folder : List ℕ) → Asked
+  -- to have the relay that is served in a folder go on with the configuration there
+  Reloads : (folder : List ℕ) → Asked
   -- to print a report in two forms, which isn't done
   Clashes : Asked
   -- to make the files of the buffers that the configuration in a folder has behind those of the
@@ -61,6 +63,7 @@ asked (jobs.Stop folder) = Stops (string_bytes folder)
 asked (jobs.Report folder form) = Reports (string_bytes folder) form
 asked (jobs.Pause folder) = Pauses (string_bytes folder)
 asked (jobs.Go folder) = Goes (string_bytes folder)
+asked (jobs.Reload folder) = Reloads (string_bytes folder)
 asked jobs.Clash = Clashes
 asked (jobs.Add folder) = Adds (string_bytes folder)
 
@@ -97,6 +100,10 @@ go_words = with_rule (new_app (codes "go")) (needed (codes "DIR"))
 -- `pause DIR`
 abbrev pub pause_words : App
 pause_words = with_rule (new_app (codes "pause")) (needed (codes "DIR"))
+
+-- `reload DIR`
+abbrev pub reload_words : App
+reload_words = with_rule (new_app (codes "reload")) (needed (codes "DIR"))
 
 -- `report DIR [--openmetrics] [--html]`
 abbrev pub report_words : App
@@ -142,15 +149,17 @@ unserved_words =
     with_subcommand (with_subcommand (with_subcommand (with_subcommand version_words
     add_words.top) check_words.top) drill_words.top) explain_words.top
 
--- these, and the words by which a relay that is served is told to pause, and to go on
-abbrev pub pausing_words : App
-pausing_words =
-    with_subcommand (with_subcommand unserved_words go_words.top) pause_words.top
+-- these, and the words by which a relay that is served is told to pause, to go on, and to go on
+-- with the configuration as it is now
+abbrev pub changing_words : App
+changing_words =
+    with_subcommand (with_subcommand (with_subcommand unserved_words go_words.top)
+    pause_words.top) reload_words.top
 
 -- the words that there are
 abbrev pub program_words : App
 program_words =
-    with_subcommand (with_subcommand (with_subcommand (with_subcommand pausing_words
+    with_subcommand (with_subcommand (with_subcommand (with_subcommand changing_words
     report_words.top) serve_words.top) stop_words.top) token_words.top
 
 -- the command reads these words, and has no argument that counts below it too
@@ -231,6 +240,7 @@ asked_by (Some met) =
     else if bytes_eq met.0 (codes "add-buffer") then Adds (word_given (codes "DIR") met.1)
     else if bytes_eq met.0 (codes "pause") then Pauses (word_given (codes "DIR") met.1)
     else if bytes_eq met.0 (codes "go") then Goes (word_given (codes "DIR") met.1)
+    else if bytes_eq met.0 (codes "reload") then Reloads (word_given (codes "DIR") met.1)
     else drills_by met.1
 
 -- the words have a fault of this kind, by clap's reading of them; to ask for help or the version is

@@ -25,6 +25,7 @@ use Rattle.relay_command.specs.declared.failure.Unbegun.TheVariants as unbegun
 use Rattle.relay_command.specs.declared.failure.Unbegun as begin
 use Rattle.relay_command.specs.declared.token.TokenFault.TheVariants as token
 use Rattle.relay_report.specs.ServeText as serving
+use Rattle.relay_report.specs.declared.fault.ServeError.{ServeError}
 use Rattle.relay_report.specs.declared.fault.ServeError.TheVariants as serve
 
 -- why the words can't be had: memory ran out, or one is no UTF-8 (docs/PROTOCOL.md, Statuses)
@@ -78,12 +79,18 @@ status_of (Ask (ask.Unserved folder)) = 4
 status_of (Ask ask.Unusable) = 4
 status_of (Ask ask.Memory) = 5
 status_of (Ask ask.Unwritten) = 4
+status_of (Ask ask.Refused) = 4
 status_of Unwritten = 4
 
 -- 0 where all went well, else the failure's
 abbrev pub ends_with : Result (Unit {0}) Failure → ℕ
 ends_with (Ok done) = 0
 ends_with (Err failure) = status_of failure
+
+-- why a relay was not served to its end, where that is the failure
+abbrev pub served_of : Failure → Option ServeError
+served_of (Serve error) = Some error
+served_of failure = None
 
 -- why the words could not be had, without the line's end
 abbrev pub unbegun_text : begin.Unbegun → List ℕ

@@ -6,16 +6,17 @@ use Rattle.relay_conf.specs.declared.settings.Config.{Config}
 use Rattle.relay_drill.specs.Drill.{DrillGives}
 use Rattle.relay_drill.specs.declared.fault.DrillError.{DrillError}
 use Rattle.relay_command.specs.Adding.{Adding, Standing}
-use Rattle.relay_command.specs.Ask.{Asking, AsksIn}
+use Rattle.relay_command.specs.Ask.{Asking, AsksIn, ReloadsIn}
 use Rattle.relay_command.specs.Check.{HasError, IsIn, IsUnchecked, counted}
 use Rattle.relay_command.specs.CommandLine.{Asked, Drills, Checks, Explains, Tells, Serves}
-use Rattle.relay_command.specs.CommandLine.{Adds, Stops, Reports, Pauses, Goes, Clashes}
-use Rattle.relay_command.specs.CommandLine.{IsAskedBy}
+use Rattle.relay_command.specs.CommandLine.{Adds, Stops, Reports, Pauses, Goes, Reloads}
+use Rattle.relay_command.specs.CommandLine.{Clashes, IsAskedBy}
 use Rattle.relay_command.specs.Explain.{ExplainsFolder}
 use Rattle.relay_command.specs.Files.{CannotBeRead}
 use Rattle.relay_command.specs.Help.{AreAtFault, GivesFront, GivesHelp}
-use Rattle.relay_command.specs.Serving.{Serving}
+use Rattle.relay_command.specs.Serving.{LivesGive, Serving}
 use Rattle.relay_command.specs.Tell.{TellGives}
+use Rattle.relay_command.specs.declared.ask.AskError.{AskError}
 use Rattle.relay_command.specs.declared.ask.Form.{Form}
 use Rattle.relay_command.specs.declared.ask.Form.TheVariants.{Told}
 use Rattle.relay_command.specs.declared.ask.Request.{Request}
@@ -25,7 +26,6 @@ use Rattle.relay_command.specs.declared.failure.Failure.TheVariants.{Words, Chec
 use Rattle.relay_command.specs.declared.failure.Failure.TheVariants.{Token, Ask, Clash, Unwritten}
 use Rattle.relay_command.specs.declared.load.CheckError.TheVariants as check
 use Rattle.relay_adding.specs.Telling.{AddGives}
-use Rattle.relay_report.specs.Serve.{ServeGives}
 use Rattle.relay_report.specs.Written.{GainsFront}
 use Rattle.relay_report.specs.declared.fault.ServeError.{ServeError}
 
@@ -100,13 +100,14 @@ TellsText text (Err failure) before after = ⊥
 
 -- What serving a relay with the configuration in a folder answers: what came is what serving comes
 -- to with that configuration, that folder, that number of connections and whether all is formatted,
--- and what serving a relay of the configuration gives.
+-- and what lives of a relay give, the first with that configuration, each other with it or with one
+-- that the folder had later.
 abbrev pub ServesIn : Serving → (folder : List ℕ) (sessions : Option ℕ) (fresh : Bool)
     → Result (Unit {0}) ServeError → (before after : Option (List ℕ)) → Type 0
 ServesIn serving folder sessions fresh result before after =
     (config : Config) × IsIn folder config
     × serving config folder sessions fresh result before after
-    × ServeGives config result before after
+    × LivesGive (IsIn folder) config result before after
 
 -- what was to be served with the configuration in a folder was, or failed so; where the
 -- configuration is at fault, nothing was served or written
@@ -150,6 +151,24 @@ AsksFolder asking folder request form (Err (Ask error)) before after =
     AsksIn asking folder request form (Err error) before after
 AsksFolder asking folder request form (Err failure) before after = ⊥
 
+-- what asking the relay of a folder to reload answers, where a configuration is in the folder
+abbrev pub ReloadsFrom : Asking → (folder : List ℕ) → Result (Unit {0}) AskError
+    → (before after : Option (List ℕ)) → Type 0
+ReloadsFrom asking folder result before after =
+    (config : Config) × IsIn folder config × ReloadsIn asking folder result before after
+
+-- the relay of a folder was asked to reload, told what came of it and did, or that failed so; where
+-- the configuration in the folder is at fault, nothing was asked or written
+abbrev pub ReloadsFolder : Asking → (folder : List ℕ) → Result (Unit {0}) Failure
+    → (before after : Option (List ℕ)) → Type 0
+ReloadsFolder asking folder (Ok done) before after =
+    ReloadsFrom asking folder (Ok done) before after
+ReloadsFolder asking folder (Err (Ask error)) before after =
+    ReloadsFrom asking folder (Err error) before after
+ReloadsFolder asking folder (Err (Check error)) before after =
+    HasError folder error × Keeps before after
+ReloadsFolder asking folder (Err failure) before after = ⊥
+
 -- that two forms were asked for was told, and nothing was asked or written
 abbrev pub RefusesClash : Result (Unit {0}) Failure → (before after : Option (List ℕ)) → Type 0
 RefusesClash (Ok done) before after = ⊥
@@ -178,6 +197,8 @@ Performs serving adding standing asking (Pauses folder) result input before afte
     AsksFolder asking folder Pause Told result before after
 Performs serving adding standing asking (Goes folder) result input before after =
     AsksFolder asking folder Go Told result before after
+Performs serving adding standing asking (Reloads folder) result input before after =
+    ReloadsFolder asking folder result before after
 Performs serving adding standing asking Clashes result input before after =
     RefusesClash result before after
 Performs serving adding standing asking (Adds folder) result input before after =

@@ -1,5 +1,5 @@
 //! Asking the relay that is served in a folder (docs/PROTOCOL.md, `stop` and `report`, `pause` and
-//! `go`).
+//! `go`, `reload`).
 ghost use Rattle.std.specs.Prelude.{◌≡◌, IfErr, IfOk, Some, true};
 ghost use Rattle.relay_command.specs.Ask.{Answered, IsUnheard, IsUnserved, ask_text};
 ghost use Rattle.relay_command.specs.Ask.{formed, is_made};
@@ -26,6 +26,8 @@ pub enum Request {
     Pause,
     /// To take them again.
     Go,
+    /// To go on with the configuration that its folder has now.
+    Reload,
 }
 
 /// In which form it is printed what a relay tells.
@@ -50,6 +52,8 @@ pub enum AskError {
     Memory,
     /// The writer failed.
     Unwritten,
+    /// The relay did not do what it was asked for.
+    Refused,
 }
 
 impl Display for AskError {
@@ -61,6 +65,7 @@ impl Display for AskError {
             AskError::Unusable => formatter.write_str("control: unusable"),
             AskError::Memory => formatter.write_str("out of memory"),
             AskError::Unwritten => formatter.write_str("stdout: unwritten"),
+            AskError::Refused => formatter.write_str("refused: the relay goes on as it was"),
         }
     }
 }
@@ -121,7 +126,7 @@ fn in_form(alloc: Global, form: Form, told: Vec<u8>) -> Result<Vec<u8>, AllocErr
 }
 
 /// Why the relay of a folder could not be asked, or what it told not be had.
-fn unheard(alloc: Global, folder: &str, kind: ErrorKind) -> AskError
+pub(crate) fn unheard(alloc: Global, folder: &str, kind: ErrorKind) -> AskError
     ensures { IsUnheard folder.now kind result }
 {
     match kind {

@@ -55,6 +55,8 @@ pub enum Job {
     Pause(String),
     /// To have it take them again.
     Go(String),
+    /// To have the relay that is served in this folder go on with the configuration there.
+    Reload(String),
     /// To print a report in two forms, which isn't done.
     Clash,
     /// To make the files of the buffers that the configuration in this folder, or the built-in one,
@@ -130,6 +132,9 @@ fn job_named(alloc: Global, name: &str, given: &ArgMatches<'_>) -> Result<Job, A
     }
     if is(name, "go") {
         return Ok(Job::Go(folder));
+    }
+    if is(name, "reload") {
+        return Ok(Job::Reload(folder));
     }
     drilling(alloc, given, folder)
 }

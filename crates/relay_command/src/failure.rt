@@ -1,8 +1,9 @@
 //! Why the program ends with a status other than 0 (docs/PROTOCOL.md, Statuses), and how it ends.
-ghost use Rattle.std.specs.Prelude.{◌≡◌, Some, OnOk};
+ghost use Rattle.std.specs.Prelude.{◌≡◌, ⊤, IfOk, MatchOption, Some, OnOk};
 ghost use Rattle.std.specs.Process.{exit_status};
 ghost use Rattle.clap.specs.Words.{kind_of};
 ghost use Rattle.relay_command.specs.Failure.{ends_with, failure_text, status_of, Tells};
+ghost use Rattle.relay_command.specs.Failure.{served_of, told_of};
 ghost use Rattle.relay_command.specs.Failure.{check_status, unbegun_text, words_status};
 
 use crate::ask::AskError;
@@ -12,6 +13,7 @@ use crate::token::TokenFault;
 use clap::error::ErrorKind;
 use relay_drill::DrillError;
 use relay_report::ServeError;
+use std::alloc::{AllocError, Global};
 use std::fmt::{Display, Formatter};
 use std::io::Write;
 use std::process::ExitCode;
@@ -140,11 +142,23 @@ impl Failure {
             Failure::Serve(ServeError::Start(_) | ServeError::Stop(_)) => 4,
             Failure::Serve(ServeError::Unseeded | ServeError::Unwritten) => 4,
             Failure::Ask(AskError::Unserved(_) | AskError::Unusable) => 4,
-            Failure::Ask(AskError::Unwritten) => 4,
+            Failure::Ask(AskError::Unwritten | AskError::Refused) => 4,
             Failure::Unbegun(Unbegun::Memory) => 5,
             Failure::Drill(DrillError::Memory) => 5,
             Failure::Serve(ServeError::Memory | ServeError::NoThread) => 5,
             Failure::Ask(AskError::Memory) => 5,
+        }
+    }
+}
+
+impl Failure {
+    /// Why a relay was not served to its end, where that is the failure.
+    pub fn into_served(self) -> Option<ServeError>
+        ensures { result ≡ served_of self }
+    {
+        match self {
+            Failure::Serve(error) => Some(error),
+            _ => None,
         }
     }
 }
@@ -180,6 +194,19 @@ pub fn print_failure<W: Write>(ran: &Result<(), Failure>, writer: &mut W) -> io:
         Err(Failure::Words(error)) => write!(writer, "{error}"),
         Err(failure) => writeln!(writer, "{failure}"),
     }
+}
+
+/// The octets that are written of a failure where the program ends with it, for somebody else to
+/// be told.
+pub fn told_text(alloc: Global, failure: &Failure) -> Result<Vec<u8>, AllocError>
+    ensures { IfOk result (λ text.
+        MatchOption (told_of failure.now) ⊤ (λ told. text.items ≡ told)) }
+{
+    let text = match failure {
+        Failure::Words(error) => format!(in alloc; "{error}")?,
+        failure => format!(in alloc; "{failure}\n")?,
+    };
+    Ok(text.into_bytes())
 }
 
 /// How the program ends.

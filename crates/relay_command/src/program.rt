@@ -8,9 +8,8 @@ ghost use Rattle.std.specs.Io.Buffered.{writer_buffer, writer_contents, writer_i
 ghost use Rattle.relay_command.specs.Failure.{unbegun_as};
 ghost use Rattle.relay_command.specs.Gathered.{RunsGathered};
 ghost use Rattle.relay_command.specs.Run.{DrillsFolder, DrillsScript, Performs, RunGives};
-ghost use Rattle.relay_command.specs.Serving.{Handed};
+ghost use Rattle.relay_command.specs.Serving.{Handed, LivesRightly};
 ghost use Rattle.relay_adding.specs.Telling.{AddsRightly};
-ghost use Rattle.relay_report.specs.Serve.{AnswersRightly};
 ghost use Rattle.relay_command.specs.declared.failure.Failure.TheVariants as failures;
 ghost use Rattle.relay_command.specs.declared.failure.Unbegun.TheVariants as begin;
 
@@ -24,6 +23,7 @@ use crate::file::read_file;
 use crate::gathered::hand_on;
 use crate::help::help;
 use crate::load::load;
+use crate::reload::reload_in;
 use crate::serve::serve_in;
 use crate::token::tell;
 use relay_conf::Config;
@@ -73,7 +73,8 @@ fn unread(kind: ErrorKind) -> Unbegun
 /// input; what is printed where nothing fails goes to standard output by `writer`, and is handed on
 /// to its end before a failure is told. `rt` has the files, and seeds the core's hasher; `serve` is
 /// asked to serve a relay on ports: with its configuration, the folder of its files, after how many
-/// connections each port ends, and whether all buffers are formatted. `add` is asked to add buffers
+/// connections each port ends, and whether all buffers are formatted; it may go on with another
+/// configuration that the folder has later. `add` is asked to add buffers
 /// to the relay that was stopped in a folder: with its configuration, and the folder. `stand` is
 /// asked to tell how the relay of a folder stands, by the same. `ask` is asked what the relay tells
 /// that is served in a folder.
@@ -97,7 +98,7 @@ where
     requires added { D.IsAlwaysCallable add }
     requires stood { T.IsAlwaysCallable stand }
     requires asked { A.IsAlwaysCallable ask }
-    requires rightly { AnswersRightly (writer_contents W.contents) (V.post serve) }
+    requires rightly { LivesRightly (writer_contents W.contents) (V.post serve) }
     requires adds_rightly { AddsRightly (writer_contents W.contents) (D.post add) }
     ensures { RunsGathered (Handed (writer_contents W.contents) (V.post serve))
         (HandedTo (writer_contents W.contents) (D.post add))
@@ -131,7 +132,7 @@ where
     requires added { D.IsAlwaysCallable add }
     requires stood { T.IsAlwaysCallable stand }
     requires asked { A.IsAlwaysCallable ask }
-    requires rightly { AnswersRightly W.contents (V.post serve) }
+    requires rightly { LivesRightly W.contents (V.post serve) }
     requires adds_rightly { AddsRightly W.contents (D.post add) }
     ensures { RunGives (Handed W.contents (V.post serve)) (HandedTo W.contents (D.post add))
         (HandedTo W.contents (T.post stand)) (Answered (A.post ask))
@@ -169,7 +170,7 @@ where
     requires added { D.IsAlwaysCallable add }
     requires stood { T.IsAlwaysCallable stand }
     requires asked { A.IsAlwaysCallable ask }
-    requires rightly { AnswersRightly W.contents (V.post serve) }
+    requires rightly { LivesRightly W.contents (V.post serve) }
     requires adds_rightly { AddsRightly W.contents (D.post add) }
     ensures { Performs (Handed W.contents (V.post serve)) (HandedTo W.contents (D.post add))
         (HandedTo W.contents (T.post stand)) (Answered (A.post ask))
@@ -196,6 +197,7 @@ where
         }
         Job::Pause(folder) => ask_in(alloc, folder, Request::Pause, Form::Told, writer, ask),
         Job::Go(folder) => ask_in(alloc, folder, Request::Go, Form::Told, writer, ask),
+        Job::Reload(folder) => reload_in(rt, alloc, folder, writer, ask),
         Job::Clash => Err(Failure::Clash),
         Job::Add(folder) => add_in(rt, alloc, folder, writer, add),
     }

@@ -1,7 +1,6 @@
 //! Serving a relay with the configuration in a folder (docs/PROTOCOL.md, `serve`).
 ghost use Rattle.relay_command.specs.Run.{ServesFolder};
-ghost use Rattle.relay_command.specs.Serving.{Handed};
-ghost use Rattle.relay_report.specs.Serve.{AnswersRightly};
+ghost use Rattle.relay_command.specs.Serving.{Handed, LivesRightly};
 
 use crate::failure::Failure;
 use crate::load::load;
@@ -13,7 +12,8 @@ use std::io::Write;
 
 /// Has a relay served with the configuration in a folder, which is read first, until each of its
 /// ports has served so many connections; without a number they have no end. Whether all its buffers
-/// are to be formatted is handed on.
+/// are to be formatted is handed on. What serves may go on with another configuration that the
+/// folder has later.
 pub fn serve_in<S: Files, W: Write, V>(
     rt: &S,
     alloc: Global,
@@ -26,7 +26,7 @@ pub fn serve_in<S: Files, W: Write, V>(
 where
     V: FnOnce(&Config, &str, Option<u32>, bool, &mut W) -> Result<(), ServeError>,
     requires called { V.IsAlwaysCallable serve }
-    requires rightly { AnswersRightly W.contents (V.post serve) }
+    requires rightly { LivesRightly W.contents (V.post serve) }
     ensures { ServesFolder (Handed W.contents (V.post serve)) folder.now sessions fresh result
         (W.contents writer.old) (W.contents writer.new) }
 {

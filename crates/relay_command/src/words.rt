@@ -156,6 +156,11 @@ const COMMANDS: &[Words] = &[
         words: &[SERVED],
     },
     Words {
+        name: "reload",
+        does: "Has a relay that is served go on with the configuration as it is now",
+        words: &[SERVED],
+    },
+    Words {
         name: "report",
         does: "Prints the report of a relay that is served",
         words: &[SERVED, OPENMETRICS, HTML],
