@@ -17,6 +17,7 @@ mod Remembering
 mod Rest
 pub mod Rooms
 mod Shuts
+mod BuffersInTurn
 mod StartedBuffers
 mod StartedRelay
 mod Tells

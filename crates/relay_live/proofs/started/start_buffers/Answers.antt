@@ -7,8 +7,9 @@ use Rattle.block_shelf.specs.Starting.{IsFirstOther}
 use Rattle.live_store.specs.Started.{unopened_in}
 use Rattle.relay_live.proofs.Rooms.{front_fits, more_fits, no_more, place_fits, rest_fits, room_of}
 use Rattle.relay_live.proofs.Rooms.{still_fits, whole_fits}
-use Rattle.relay_live.proofs.StartedBuffers.{StartedSoFar, mixed_start, refused_here, started_all}
-use Rattle.relay_live.proofs.StartedBuffers.{next_store, started_more, started_none, untouched}
+use Rattle.relay_live.proofs.BuffersInTurn.{StartedSoFar, next_store, refused_here, started_all}
+use Rattle.relay_live.proofs.BuffersInTurn.{started_more, started_none}
+use Rattle.relay_live.proofs.StartedBuffers.{mixed_start, untouched}
 use Rattle.relay_live.proofs.Trials.{can_at, can_each, can_in}
 use Rattle.relay_live.specs.Starting.{IsUnstarted, stores_of}
 use Rattle.relay_live.specs.Trials.{CanTryIn, IsTriedIn, stores_in}

@@ -1,7 +1,7 @@
 use Rattle.std.proofs.Common.{◌≤◌, length}
 use Rattle.std.specs.Prelude.{vec_capacity}
 use Rattle.std.specs.Vec.Iter.{into_iter_len}
-use Rattle.relay_live.proofs.StartedBuffers.{StartedSoFar}
+use Rattle.relay_live.proofs.BuffersInTurn.{StartedSoFar}
 use Rattle.relay_live.proofs.started.start_buffers.Given as goal
 
 -- the buffers so far are started
