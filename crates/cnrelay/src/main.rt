@@ -11,6 +11,7 @@
 #![tactic(auto)]
 ghost use Rattle.std.specs.Prelude.{IfErr};
 ghost use Rattle.relay_adding.specs.Telling.{IsAddFault};
+ghost use Rattle.relay_report.specs.Serve.{ServeGives};
 
 use news_log::Opening;
 use relay_attendant::KeptOpen;
@@ -121,12 +122,12 @@ where
         fresh: bool,
         writer: &mut W,
     ) -> Result<(), ServeError> {
-        let alloc = self.rt.alloc();
-        add_more(self.rt, alloc, config, folder, self.served.load(Ordering::SeqCst))?;
-        serve_on(self.rt, alloc, config, folder, sessions, fresh, self.kept, writer)?;
-        let buffers = config.buffers.buffers.len();
-        self.served.store(buffers, Ordering::SeqCst);
-        Ok(())
+        let served = serve_life(self, config, folder, sessions, fresh, writer);
+        if served.is_ok() {
+            let buffers = config.buffers.buffers.len();
+            self.served.store(buffers, Ordering::SeqCst);
+        }
+        served
     }
 
     fn is_asked(&self) -> bool {
@@ -142,6 +143,39 @@ where
             let _unseen = eprintln!(self.rt; "refused for=reload\n{why}");
         }
         goes_on
+    }
+}
+
+/// Serves a life of a relay, once the files of the buffers are made that it has behind those of the
+/// last.
+#[tactic(auto, using(crate::proofs::Added::add_gives))]
+fn serve_life<R, W: Write>(
+    living: &Living<'_, R>,
+    config: &Config,
+    folder: &str,
+    sessions: Option<u32>,
+    fresh: bool,
+    writer: &mut W,
+) -> Result<(), ServeError>
+where
+    R: AllocGlobal
+        + Files<File = File>
+        + Filing
+        + Opening
+        + Eprint
+        + Clock
+        + RandomSource
+        + Net<Listener = TcpListener, Stream = TcpStream>
+        + Threads
+        + Wait
+        + Sync,
+    ensures { ServeGives config.now result (W.contents writer.old) (W.contents writer.new) }
+{
+    let (rt, kept) = (living.rt, living.kept);
+    let alloc = rt.alloc();
+    match add_more(rt, alloc, config, folder, living.served.load(Ordering::SeqCst)) {
+        Ok(()) => serve_on(rt, alloc, config, folder, sessions, fresh, kept, writer),
+        Err(error) => Err(error),
     }
 }
 
@@ -161,7 +195,9 @@ fn add_more<R: Files<File = File> + Filing + Eprint>(
     }
     let text = add_between(rt, alloc, config, folder, served)?;
     if let Ok(lines) = str::from_utf8(&text) {
-        let _unseen = eprint!(rt; "{lines}");
+        if lines.starts_with("added ") {
+            let _unseen = eprint!(rt; "{lines}");
+        }
     }
     Ok(())
 }
