@@ -6,7 +6,7 @@ A relay of three buffers in two groups, four peers and
 three feeds lives N lives (50), each S seconds at most (0.6). Four peers send meanwhile, by TAKETHIS, by CHECK and
 TAKETHIS, by IHAVE, and articles of up to sixty blocks; two readers fetch what is there, and take from feeds. Then it is
 killed by SIGKILL: at a random moment; right after it was started, so in the middle of a repair; in the middle of a
-stop; or after it was halted by SIGSTOP. Some lives are ended by SIGTERM, some stopped in order. Each start has the
+stop, or of a reload; or after it was halted by SIGSTOP. Some lives are ended by SIGTERM, some stopped in order. Each start has the
 lines of feeds, and those of groups, in another order; it has to come up by itself, and then
 
 - an article that was answered 239 or 235 in any life is there by its message-id (STAT 223), unless its buffer has
@@ -156,6 +156,11 @@ class Site:
     def stopping(self):
         """Asks it to stop, and waits for nothing."""
         return Started([PROGRAM, "stop", self.folder])
+
+    def reloading(self, choice):
+        """Asks it to go on with its lines in another order, and waits for nothing."""
+        self.order(choice)
+        return Started([PROGRAM, "reload", self.folder])
 
     def stop(self):
         asker = self.stopping()
@@ -397,7 +402,8 @@ class Lives:
         if life > 1 and self.choice.random() < 0.25:
             self.kill_early()
         there = self.begin(False)
-        end = self.choice.choices(("kill", "signal", "halt", "stopping", "stop"), (5, 1, 1, 2, 2))[0]
+        ends = {"kill": 5, "signal": 1, "halt": 1, "stopping": 2, "reloading": 2, "stop": 2}
+        end = self.choice.choices(list(ends), list(ends.values()))[0]
         load = Load(self.site, self.sent, life, self.seed)
         try:
             time.sleep(self.choice.uniform(self.least, self.seconds))
@@ -448,9 +454,13 @@ class Lives:
         if how == "signal":
             self.site.relay.process.terminate()
             self.site.relay.process.wait(PATIENCE)
-        asker = self.site.stopping() if how == "stopping" else None
-        if asker:
+        asker = None
+        if how == "stopping":
+            asker = self.site.stopping()
             time.sleep(self.choice.uniform(0, 0.6))
+        elif how == "reloading":
+            asker = self.site.reloading(self.choice)
+            time.sleep(self.choice.uniform(0, 1.2))
         self.site.kill()
         if asker:
             asker.kill()
