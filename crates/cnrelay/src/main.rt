@@ -9,6 +9,7 @@
 //! streams and the files of the system, the calls of the others and what asks, and nothing is
 //! decided.
 #![tactic(auto)]
+
 ghost use Rattle.std.specs.Prelude.{IfErr};
 ghost use Rattle.relay_adding.specs.Telling.{IsAddFault};
 ghost use Rattle.relay_report.specs.Serve.{ServeGives};
@@ -173,7 +174,13 @@ where
 {
     let (rt, kept) = (living.rt, living.kept);
     let alloc = rt.alloc();
-    match add_more(rt, alloc, config, folder, living.served.load(Ordering::SeqCst)) {
+    match add_more(
+        rt,
+        alloc,
+        config,
+        folder,
+        living.served.load(Ordering::SeqCst),
+    ) {
         Ok(()) => serve_on(rt, alloc, config, folder, sessions, fresh, kept, writer),
         Err(error) => Err(error),
     }

@@ -13,8 +13,8 @@ use relay_gate::CountingGate;
 use relay_journal::{JournalLines, Journaling, second_of};
 use std::alloc::{AllocError, Global};
 use std::mem;
-use std::sync::atomic::{AtomicBool, Ordering};
 use std::sync::Wait;
+use std::sync::atomic::{AtomicBool, Ordering};
 use std::time::Clock;
 
 /// What is told whoever asks for another configuration while the relay ends.

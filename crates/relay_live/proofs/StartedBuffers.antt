@@ -43,7 +43,6 @@ use Rattle.relay_live.specs.declared.side_by_side.Trial.TheVariants as trials
 use Rattle.relay_model.specs.State.{Kept}
 use Rattle.relay_model.specs.Terms.{Terms}
 
-
 -- a started buffer's store can be started, at the stop that it remembers
 abbrev pub CanBe : {S : Type 0} {s : blocks.Ghosts S} → ℕ → S → Unopened S s → Type 0
 CanBe {s = s} b store one = s.honest store → CanStart s b store (stop_of (inside one))
