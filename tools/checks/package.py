@@ -1,6 +1,6 @@
 """Makes the package of the program, unpacks it into an empty folder, and does what its units say.
 
-What ExecStart, ExecStartPost and ExecStop say is run with the paths of that folder, as nobody where
+What ExecStart, ExecStartPost, ExecReload and ExecStop say is run with the paths of that folder, as nobody where
 root runs this: articles are stored and read, the relay is stopped and started again, and the puller
 hands an article on to a second relay. Prints a line for each thing that was tried, and at the end
 `N went right, M wrong, S skipped`: a part is skipped where the machine lacks what it takes
@@ -312,7 +312,7 @@ def configures(state, example, ports):
 
 
 def served(_, made):
-    """By its unit it serves, stops, goes on with what it had, and stops again."""
+    """By its unit it serves, is reloaded, stops, goes on with what it had, and stops again."""
     unit = Unit(made.root, "cnrelay.service")
     users = (made.root / "usr/lib/sysusers.d/cnrelay.conf").read_text().splitlines()
     check([it.split()[1] for it in users if it.startswith("u ")], [unit.one("User")], "the users")
@@ -323,13 +323,14 @@ def served(_, made):
         service = unit.starts()
         unit.does("ExecStartPost", service)
         texts[one] = stores(own["upstream"], one)
+        unit.does("ExecReload", service)
         for name, text in texts.items():
             reads(own["neighbour"], name, text)
         unit.does("ExecStop", service)
         service.ends()
         report = service.said()
-        kept = re.search(r"^ids +0 +0 +(\d+) +0$", report, re.M)
-        check(kept and kept[1], str(len(texts)), f"the ids that are stored, of {report!r}")
+        kept = re.findall(r"^ids +0 +0 +(\d+) +0$", report, re.M)
+        check(kept, [str(len(texts))] * 2, f"the ids that are stored, of {report!r}")
 
 
 def not_ready(_, made):
