@@ -20,6 +20,9 @@ use std::time::Clock;
 /// What is told whoever asks for another configuration while the relay ends.
 const NOT_NOW: &[u8] = b"not now\n";
 
+/// What whoever asks for a pause is told by a relay that is repaired, and heeds it not.
+const UNHEEDED: &[u8] = b"recovering\n";
+
 /// Answers what is asked at the socket of a relay's folder: `report` is told what the relay tells
 /// of itself, `pause` and `go` have it take no new articles and take them again, `stop` has its
 /// ports end, and who asked for that hears no end before the program has ended; `reload` has them
@@ -97,10 +100,13 @@ impl<'a> Attendant<'a> {
         self.kept.serve(rt);
     }
 
-    /// Has the relay take no new articles, or take them again.
+    /// Has the relay take no new articles, or take them again, in this life and in those behind it.
     fn pause<F: Figured<R>, R: Clock>(&self, rt: &R, relay: &F, teller: &Teller, paused: bool) {
-        self.kept.pause(paused);
-        teller.tell(rt, relay.pause(rt, paused));
+        let told = relay.pause(rt, paused);
+        if told != UNHEEDED {
+            self.kept.pause(paused);
+        }
+        teller.tell(rt, told);
     }
 
     /// Tells whoever asked the report of the relay.
