@@ -124,22 +124,42 @@ where
 {
     let stop = stop_kept(alloc, config, history, names)?;
     let files = hold_files(rt, alloc, &config.buffers, folder)?;
-    let first = first_of(alloc, &config.buffers, &files)?;
-    let first = first.max(served.min(files.len()));
+    let first = first_of(alloc, &config.buffers, &files, served)?;
     add_from(alloc, &config.buffers, files, first, stop)
 }
 
-/// The number of the first buffer that is to be added, by what the files have.
-fn first_of(alloc: Global, settings: &Buffers, files: &[HeldFile]) -> Result<usize, ServeError>
+/// The number of the first buffer that is to be added, by what the files have: one behind those with
+/// which the relay was served, which are so many.
+fn first_of(
+    alloc: Global,
+    settings: &Buffers,
+    files: &[HeldFile],
+    served: usize,
+) -> Result<usize, ServeError>
     requires count { length files.now ≡ length settings.now.buffers.items }
     ensures within { IfOk result (λ first. first ≤ length settings.now.buffers.items) }
     ensures fault { IfErr result (IsFileOrHead settings.now) }
 {
     let blank = zeros_in(alloc, settings, files)?;
     match first_added(&blank) {
-        Ok(first) => Ok(first),
+        Ok(first) => Ok(behind_served(first, served, files.len())),
         Err(number) => Err(headless(alloc, settings, number)),
     }
+}
+
+/// The number of the first buffer from this one on, of so many, that is none of those with which the
+/// relay was served.
+fn behind_served(first: usize, served: usize, count: usize) -> usize
+    requires { first ≤ count }
+    ensures within { result ≤ count }
+    ensures from { first ≤ result }
+    ensures behind { served ≤ count → served ≤ result }
+    ensures first { served ≤ first → result ≡ first }
+{
+    if served <= first {
+        return first;
+    }
+    if served <= count { served } else { count }
 }
 
 /// Why no buffer can be added: the one of this number has no head block.
