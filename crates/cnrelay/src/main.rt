@@ -39,15 +39,37 @@ use std::thread::Threads;
 use std::time::Clock;
 
 fn main(rt: HostRuntime) -> ExitCode {
-    let ran = run_here(&rt, &mut rt.stderr());
-    let _unseen = print_failure(&ran, &mut rt.stderr());
+    let host = Host::new(rt);
+    let ran = run_here(&host, &mut host.rt.stderr());
+    let _unseen = print_failure(&ran, &mut host.rt.stderr());
     exit_code(&ran)
+}
+
+/// The system, and what serves a relay on it, one life after the other.
+#[derive(Drop)]
+struct Host<R> {
+    rt: R,
+    living: Living,
+}
+
+impl<R: AllocGlobal> Host<R> {
+    /// Before any life.
+    fn new(rt: R) -> Host<R> {
+        let kept = KeptOpen::new(rt.alloc());
+        Host {
+            rt,
+            living: Living {
+                kept,
+                served: AtomicUsize::new(0),
+            },
+        }
+    }
 }
 
 /// Does what the words of the system ask for, over its streams, files and ports. What could not be
 /// handed on to standard output is let go of, and not written when its writer is. `errors` is
 /// standard error.
-fn run_here<R, E: Write + IsTerminal>(rt: &R, errors: &mut E) -> Result<(), Failure>
+fn run_here<R, E: Write + IsTerminal>(host: &Host<R>, errors: &mut E) -> Result<(), Failure>
 where
     R: AllocGlobal
         + Env
@@ -64,16 +86,11 @@ where
         + Wait
         + Sync,
 {
+    let rt = &host.rt;
     let alloc = rt.alloc();
     let words = program_words(rt)?;
     let _unseen = hint(&words, errors.is_terminal(), errors);
     let mut output = gathering(alloc, io::writer(rt))?;
-    let kept = KeptOpen::new(alloc);
-    let living = &Living {
-        rt,
-        kept: &kept,
-        served: AtomicUsize::new(0),
-    };
     let ran = run(
         rt,
         alloc,
@@ -81,7 +98,14 @@ where
         &mut rt.reader(),
         &mut output,
         move |config, folder, sessions, fresh, writer| serve_lives(
-            rt, alloc, config, folder, sessions, fresh, writer, living,
+            &host.rt,
+            alloc,
+            config,
+            folder,
+            sessions,
+            fresh,
+            writer,
+            &host.living,
         ),
         move |config, folder, writer| add_on(rt, alloc, config, folder, writer),
         move |config, folder, writer| stand_on(rt, alloc, config, folder, writer),
@@ -93,37 +117,37 @@ where
 
 /// What serves a relay on the ports of the machine, one life after the other.
 #[derive(Drop)]
-struct Living<'a, R> {
-    rt: &'a R,
+struct Living {
     /// What stays open from one life to the next.
-    kept: &'a KeptOpen,
+    kept: KeptOpen,
     /// With how many buffers the last life was served that ended well; 0 before there was one.
     served: AtomicUsize,
 }
 
-impl<R, W: Write> Lives<W> for Living<'_, R>
-where
-    R: AllocGlobal
-        + Files<File = File>
-        + Filing
-        + Opening
-        + Eprint
-        + Clock
-        + RandomSource
-        + Net<Listener = TcpListener, Stream = TcpStream>
-        + Threads
-        + Wait
-        + Sync,
-{
-    fn serve(
+impl<W: Write> Lives<W> for Living {
+    fn serve<R>(
         &self,
+        rt: &R,
         config: &Config,
         folder: &str,
         sessions: Option<u32>,
         fresh: bool,
         writer: &mut W,
-    ) -> Result<(), ServeError> {
-        let served = serve_life(self, config, folder, sessions, fresh, writer);
+    ) -> Result<(), ServeError>
+    where
+        R: AllocGlobal
+            + Files<File = File>
+            + Filing
+            + Opening
+            + Eprint
+            + Clock
+            + RandomSource
+            + Net<Listener = TcpListener, Stream = TcpStream>
+            + Threads
+            + Wait
+            + Sync,
+    {
+        let served = serve_life(rt, self, config, folder, sessions, fresh, writer);
         if served.is_ok() {
             let buffers = config.buffers.buffers.len();
             self.served.store(buffers, Ordering::SeqCst);
@@ -131,17 +155,17 @@ where
         served
     }
 
-    fn is_asked(&self) -> bool {
-        self.kept.reloads.is_asked(self.rt)
+    fn is_asked<R: Wait>(&self, rt: &R) -> bool {
+        self.kept.reloads.is_asked(rt)
     }
 
-    fn goes_on(&self, why: &Failure) -> bool {
-        let goes_on = match told_text(self.rt.alloc(), why) {
-            Ok(text) => self.kept.reloads.tell(self.rt, &text),
-            Err(_) => self.kept.reloads.tell(self.rt, b"out of memory\n"),
+    fn goes_on<R: AllocGlobal + Eprint + Clock + Wait>(&self, rt: &R, why: &Failure) -> bool {
+        let goes_on = match told_text(rt.alloc(), why) {
+            Ok(text) => self.kept.reloads.tell(rt, &text),
+            Err(_) => self.kept.reloads.tell(rt, b"out of memory\n"),
         };
         if goes_on {
-            let _unseen = eprintln!(self.rt; "refused for=reload\n{why}");
+            let _unseen = eprintln!(rt; "refused for=reload\n{why}");
         }
         goes_on
     }
@@ -151,7 +175,8 @@ where
 /// last.
 #[tactic(auto, using(crate::proofs::Added::add_gives))]
 fn serve_life<R, W: Write>(
-    living: &Living<'_, R>,
+    rt: &R,
+    living: &Living,
     config: &Config,
     folder: &str,
     sessions: Option<u32>,
@@ -172,7 +197,6 @@ where
         + Sync,
     ensures { ServeGives config.now result (W.contents writer.old) (W.contents writer.new) }
 {
-    let (rt, kept) = (living.rt, living.kept);
     let alloc = rt.alloc();
     match add_more(
         rt,
@@ -181,7 +205,18 @@ where
         folder,
         living.served.load(Ordering::SeqCst),
     ) {
-        Ok(()) => serve_on(rt, alloc, config, folder, sessions, fresh, kept, writer),
+        Ok(()) => {
+            serve_on(
+                rt,
+                alloc,
+                config,
+                folder,
+                sessions,
+                fresh,
+                &living.kept,
+                writer,
+            )
+        }
         Err(error) => Err(error),
     }
 }
