@@ -10,21 +10,13 @@
 //! decided.
 #![tactic(auto)]
 
-ghost use Rattle.std.specs.Prelude.{IfErr};
-ghost use Rattle.relay_adding.specs.Telling.{IsAddFault};
-ghost use Rattle.relay_report.specs.Serve.{ServeGives};
-
 use news_log::Opening;
-use relay_attendant::KeptOpen;
-use relay_check::{add_between, add_on, stand_on};
+use relay_check::{add_on, stand_on};
 use relay_command::{
-    Failure, Request, exit_code, gathering, hint, print_failure, program_words, run, told_text,
+    Failure, Request, exit_code, gathering, hint, print_failure, program_words, run,
 };
-use relay_conf::Config;
 use relay_folder::{Filing, Word, ask};
-use relay_lives::{Lives, serve_lives};
-use relay_report::ServeError;
-use relay_serve::serve_on;
+use relay_lives::{Living, serve_lives};
 use std::alloc::Global;
 use std::env::Env;
 use std::fs::{File, Files};
@@ -34,7 +26,6 @@ use std::net::{Net, TcpListener, TcpStream};
 use std::process::ExitCode;
 use std::random::RandomSource;
 use std::sync::Wait;
-use std::sync::atomic::{AtomicUsize, Ordering};
 use std::thread::Threads;
 use std::time::Clock;
 
@@ -55,14 +46,8 @@ struct Host<R> {
 impl<R: AllocGlobal> Host<R> {
     /// Before any life.
     fn new(rt: R) -> Host<R> {
-        let kept = KeptOpen::new(rt.alloc());
-        Host {
-            rt,
-            living: Living {
-                kept,
-                served: AtomicUsize::new(0),
-            },
-        }
+        let living = Living::new(rt.alloc());
+        Host { rt, living }
     }
 }
 
@@ -113,135 +98,6 @@ where
     );
     let (_device, _unwritten) = output.into_parts();
     ran
-}
-
-/// What serves a relay on the ports of the machine, one life after the other.
-#[derive(Drop)]
-struct Living {
-    /// What stays open from one life to the next.
-    kept: KeptOpen,
-    /// With how many buffers the last life was served that ended well; 0 before there was one.
-    served: AtomicUsize,
-}
-
-impl<W: Write> Lives<W> for Living {
-    fn serve<R>(
-        &self,
-        rt: &R,
-        config: &Config,
-        folder: &str,
-        sessions: Option<u32>,
-        fresh: bool,
-        writer: &mut W,
-    ) -> Result<(), ServeError>
-    where
-        R: AllocGlobal
-            + Files<File = File>
-            + Filing
-            + Opening
-            + Eprint
-            + Clock
-            + RandomSource
-            + Net<Listener = TcpListener, Stream = TcpStream>
-            + Threads
-            + Wait
-            + Sync,
-    {
-        let served = serve_life(rt, self, config, folder, sessions, fresh, writer);
-        if served.is_ok() {
-            let buffers = config.buffers.buffers.len();
-            self.served.store(buffers, Ordering::SeqCst);
-        }
-        served
-    }
-
-    fn is_asked<R: Wait>(&self, rt: &R) -> bool {
-        self.kept.reloads.is_asked(rt)
-    }
-
-    fn goes_on<R: AllocGlobal + Eprint + Clock + Wait>(&self, rt: &R, why: &Failure) -> bool {
-        let goes_on = match told_text(rt.alloc(), why) {
-            Ok(text) => self.kept.reloads.tell(rt, &text),
-            Err(_) => self.kept.reloads.tell(rt, b"out of memory\n"),
-        };
-        if goes_on {
-            let _unseen = eprintln!(rt; "refused for=reload\n{why}");
-        }
-        goes_on
-    }
-}
-
-/// Serves a life of a relay, once the files of the buffers are made that it has behind those of the
-/// last.
-#[tactic(auto, using(crate::proofs::Added::add_gives))]
-fn serve_life<R, W: Write>(
-    rt: &R,
-    living: &Living,
-    config: &Config,
-    folder: &str,
-    sessions: Option<u32>,
-    fresh: bool,
-    writer: &mut W,
-) -> Result<(), ServeError>
-where
-    R: AllocGlobal
-        + Files<File = File>
-        + Filing
-        + Opening
-        + Eprint
-        + Clock
-        + RandomSource
-        + Net<Listener = TcpListener, Stream = TcpStream>
-        + Threads
-        + Wait
-        + Sync,
-    ensures { ServeGives config.now result (W.contents writer.old) (W.contents writer.new) }
-{
-    let alloc = rt.alloc();
-    match add_more(
-        rt,
-        alloc,
-        config,
-        folder,
-        living.served.load(Ordering::SeqCst),
-    ) {
-        Ok(()) => {
-            serve_on(
-                rt,
-                alloc,
-                config,
-                folder,
-                sessions,
-                fresh,
-                &living.kept,
-                writer,
-            )
-        }
-        Err(error) => Err(error),
-    }
-}
-
-/// Makes the files of the buffers that the next life of a relay has behind those of the last, which
-/// were so many, and tells of each; nothing before a first life.
-fn add_more<R: Files<File = File> + Filing + Eprint>(
-    rt: &R,
-    alloc: Global,
-    config: &Config,
-    folder: &str,
-    served: usize,
-) -> Result<(), ServeError>
-    ensures { IfErr result (IsAddFault config.now) }
-{
-    if served == 0 || config.buffers.buffers.len() <= served {
-        return Ok(());
-    }
-    let text = add_between(rt, alloc, config, folder, served)?;
-    if let Ok(lines) = str::from_utf8(&text) {
-        if lines.starts_with("added ") {
-            let _unseen = eprint!(rt; "{lines}");
-        }
-    }
-    Ok(())
 }
 
 /// What the relay tells that is served in a folder.
